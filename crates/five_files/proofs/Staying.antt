@@ -5,10 +5,10 @@ use Rattle.std.proofs.lemmas.List.{take-append-drop, take-append-le, length-appe
 use Rattle.fuse_request.specs.Opcodes.{OpcodeSet}
 use Rattle.fuse_init.specs.declared.settings.Settings.{Settings}
 use Rattle.fuse_keeper.specs.History.{Entry, entry_id, History, after, has, add, grown}
-use Rattle.fuse_keeper.specs.KeeperState.{KeeperState, StandsFor}
+use Rattle.fuse_keeper.specs.KeeperState.{KeeperState}
 use Rattle.fuse_session.specs.Settling.{Mark, replies}
 use Rattle.fuse_session.specs.Processed.{Timed, kept_in, entries_at, answered, answers}
-use Rattle.fuse_session.specs.Serving.{Lived}
+use Rattle.fuse_session.specs.Exchange.{HoldsAt, Lived}
 use Rattle.five_files.specs.Asking.{said, agreed_after, serves_further}
 use Rattle.five_files.specs.TheFiles.{the_files}
 use Rattle.five_files.specs.Serving.{AnswersAs, StayAsAgreed}
@@ -52,7 +52,8 @@ few_marks s g worked marks later e =
 
 -- what messages leave answers as it did since INIT
 pub lived_same : (k : KeeperState the_files) (s : Option Settings) (h : History) (confirms : Bool) (t : List ℕ) (timed : List Timed) (marks : List Mark)
-    (part : List ℕ) → Lived the_files (StandsFor k s) s h confirms t timed marks part → StayAsAgreed k s h timed marks
+    (part : List ℕ) → Lived the_files (record { state = s; history = h; settled = t }) (record { confirms = confirms; timed = timed; marks = marks }) (HoldsAt k) part
+    → StayAsAgreed k s h timed marks
 lived_same k s h confirms t timed marks part lived = record {
   since = λ n few some.
       let g : History = grown h (kept_in serves_further lived.worked) in

@@ -1,7 +1,8 @@
 // The five files, served over a port.
 ghost use Rattle.std.specs.Prelude.{◌≡◌, ◌<◌, ◌^◌, false};
 ghost use Rattle.fuse_session.specs.Deeds.{Did};
-ghost use Rattle.fuse_session.specs.Session.{Session, passage};
+ghost use Rattle.fuse_session.specs.Passage.{passage};
+ghost use Rattle.fuse_session.specs.Session.{Session};
 ghost use Rattle.five_files.specs.Serving.{files_told, FilesStay};
 
 use crate::files::FiveFiles;

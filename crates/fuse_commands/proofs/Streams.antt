@@ -36,7 +36,8 @@ use Rattle.fuse_session.specs.Settling.{Mark, replies, settles, settled_in, None
 use Rattle.fuse_session.specs.Counting.{counted}
 use Rattle.fuse_session.specs.Deeds.{Deeds, Hears}
 use Rattle.fuse_session.specs.Serving.{Turned, Whole, Run}
-use Rattle.fuse_session.specs.Ends.{EndsAs, SentExactly, ExactAt, counts_at}
+use Rattle.fuse_session.specs.Serving.{SentExactly}
+use Rattle.fuse_session.specs.Ends.{EndsAs, counts_at}
 use Rattle.fuse_commands.specs.declared.ending.Ending.{Ending}
 use Rattle.fuse_commands.specs.declared.ending.Ending.TheVariants.{Done, ZeroUnique}
 use Rattle.fuse_commands.specs.Endings.{session_ending, stream_ending, store_ending, status_of, IsOfStream}

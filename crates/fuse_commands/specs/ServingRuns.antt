@@ -13,7 +13,8 @@ use Rattle.fuse_session.specs.Port.{PortState, fresh}
 use Rattle.fuse_session.specs.Transcript.{PortEvent}
 use Rattle.fuse_session.specs.Deeds.{Did}
 use Rattle.fuse_session.specs.DevicePort.{device_told}
-use Rattle.fuse_session.specs.Session.{Session, passage}
+use Rattle.fuse_session.specs.Passage.{passage}
+use Rattle.fuse_session.specs.Session.{Session}
 use Rattle.fuse_session.specs.Resuming.{Resumed, NotResumed, NoticeHanded, of_store}
 use Rattle.fuse_commands.specs.declared.ending.Ending.{Ending}
 use Rattle.fuse_commands.specs.declared.serve.Begin.{Begin}

@@ -5,7 +5,7 @@ use Rattle.std.proofs.lemmas.List.{append-nil, take-append-drop, take_all, lengt
 use Rattle.std.specs.Io.KnownBytes.{Keeps, Appends, Consumes}
 use Rattle.fuse_session.specs.declared.port.Sent.{Sent}
 use Rattle.fuse_session.specs.declared.port.Sent.TheVariants.{Took, Gone}
-use Rattle.fuse_session.specs.Port.{PortState, IsQuiet, Sends, SentPrefix, SentWhole, SentPart}
+use Rattle.fuse_session.specs.Port.{PortState, IsQuiet, Sends, SentWhole, SentPart}
 
 pub appends_none : (o : Option (List ℕ)) → Appends o o []
 appends_none None = tt
@@ -54,6 +54,15 @@ quiet_more a b c one two = record {
 }
 
 -- ---- one slice
+
+-- a prefix of a slice was sent, and this is left of it
+pub record SentPrefix (old new : PortState) (bytes rest : List ℕ) : Type 0 where
+  pub part : List ℕ
+  pub parts : bytes ≡ part ++ rest
+  pub sent : Appends old.sent new.sent part
+  pub failures : new.failures ≡ old.failures
+  pub gone : new.gone ≡ old.gone
+  pub quiet : IsQuiet old new
 
 pub nothing_sent : (p : PortState) (bytes : List ℕ) → SentPrefix p p bytes bytes
 nothing_sent p bytes = record { part = []; parts = refl; sent = appends_none p.sent; failures = refl; gone = refl; quiet = quiet_none p }

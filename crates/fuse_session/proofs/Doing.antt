@@ -6,9 +6,16 @@ use Rattle.fuse_keeper.specs.Performance.{Performance, IsPerformanceLog}
 use Rattle.fuse_session.specs.declared.port.Received.{Received as Receipt}
 use Rattle.fuse_session.specs.Clock.{IsLog}
 use Rattle.fuse_session.specs.Transcript.{PortEvent, Received, received_in, sends_of, IsTranscript}
-use Rattle.fuse_session.specs.Deeds.{Deeds, no_deeds, then_did, Did, Hears, Mute}
-use Rattle.fuse_session.specs.Turn.{OneTurn}
+use Rattle.fuse_session.specs.Deeds.{Deeds, Did, Hears}
+use Rattle.fuse_session.specs.inner.Turn.{Mute, OneTurn}
 use Rattle.fuse_session.proofs.Transcripts.{received_more, sends_more, received_sends}
+
+abbrev pub no_deeds : Deeds
+no_deeds = record { moments = []; asked = []; events = [] }
+
+-- these, and then those
+abbrev pub then_did : Deeds → Deeds → Deeds
+then_did a b = record { moments = a.moments ++ b.moments; asked = a.asked ++ b.asked; events = a.events ++ b.events }
 
 -- nothing was done
 pub did_none : {K P C : Type 0} (gave : C → C → List Moment → Type 0) (performed : K → K → List Performance → Type 0) (became : P → P → List PortEvent → Type 0)

@@ -18,7 +18,7 @@ use Rattle.fuse_keeper.specs.Model.{Model}
 use Rattle.fuse_keeper.specs.Group.{entry_of, entries_of, HasId, IsKept}
 use Rattle.fuse_wire.specs.declared.opcode.TheConstants.{DESTROY}
 use Rattle.fuse_session.specs.Processed.{Timed, kept_in, entry_if, message_entry, destroys, destroys_by, moment_if, moments_in}
-use Rattle.fuse_session.specs.Group.{NoZero, NoDestroy, DestroyLast, Gathers, classes_in}
+use Rattle.fuse_session.specs.inner.Group.{NoZero, NoDestroy, DestroyLast, Gathers, classes_in}
 use Rattle.fuse_session.proofs.Outs.{kept_in-append}
 use Rattle.fuse_session.proofs.Settled.{only_one}
 

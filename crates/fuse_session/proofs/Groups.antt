@@ -1,5 +1,5 @@
 -- A group performed, and its answers sent.
-use Rattle.std.proofs.Common.{◌≡◌, ◌⊎◌, inl, inr, ⊎_elim, ℕ, suc, ◌-◌, ◌≤◌, ◌<◌, Bool, true, false, ◌&&◌, ◌||◌, ◌==◌, List, [], ◌∷◌, ◌++◌, ◌+◌, length, map}
+use Rattle.std.proofs.Common.{◌≡◌, ◌⊎◌, inl, inr, ⊎_elim, ℕ, suc, ◌-◌, ◌≤◌, ◌<◌, Bool, true, false, ◌&&◌, ◌==◌, List, [], ◌∷◌, ◌++◌, ◌+◌, length, map}
 use Rattle.std.proofs.Common.{take, drop, All, Some, slice_get, refl, sym, ap, subst, ◌∙◌, arith}
 use Rattle.std.proofs.lemmas.List.{append-nil, take-append-drop, length-map}
 use Rattle.fuse_request.specs.Opcodes.{OpcodeSet}
@@ -11,17 +11,24 @@ use Rattle.fuse_request.specs.declared.class.Class.TheVariants.{Silent, Bare, Ke
 use Rattle.fuse_request.specs.Classes.{class_for}
 use Rattle.fuse_request.specs.Stream.{joined}
 use Rattle.fuse_keeper.specs.declared.keeper.Done.{Done}
-use Rattle.fuse_keeper.specs.History.{Entry, History, grown, is_in, ids_in, Includes, IsUnsettled, repeats, HistoriesGrow}
+use Rattle.fuse_keeper.specs.declared.fault.StoreFault.{StoreFault}
+use Rattle.fuse_keeper.specs.History.{Entry, History, grown, ids_in, Includes, IsUnsettled, repeats, HistoriesGrow}
 use Rattle.fuse_keeper.specs.Model.{Model}
-use Rattle.fuse_keeper.specs.Stands.{Records, Stands, StandsForEither, AreThese}
+use Rattle.fuse_keeper.specs.Stands.{Standing, Records, Stands, StandsForEither, AreThese}
 use Rattle.fuse_keeper.specs.KeeperState.{KeeperState, StandsFor, Performed, Leaves, IsFirm, KeepsHeld}
 use Rattle.fuse_keeper.specs.Group.{entry_of, entries_of, left_pending}
 use Rattle.fuse_keeper.specs.Performance.{Performance, performances_of}
 use Rattle.fuse_session.specs.Transcript.{PortEvent, sends_of, handed_in}
 use Rattle.fuse_session.specs.Slices.{RestsOfAll, RestsOfSome}
-use Rattle.fuse_session.specs.Deeds.{Deeds, Did, Mute}
+use Rattle.fuse_session.specs.Deeds.{Deeds, Did}
+use Rattle.fuse_session.specs.inner.Turn.{Mute}
 use Rattle.fuse_session.specs.declared.port.Sent.{Sent}
-use Rattle.fuse_session.proofs.Standing.{Stands-same, Stands-settled}
+use Rattle.fuse_session.proofs.Standing.{standing, StandAt, Stands-same, Stands-settled}
+use Rattle.fuse_session.specs.declared.ended.Ended.{Ended}
+use Rattle.fuse_session.specs.declared.ended.Ended.TheVariants.{Store as ByStore}
+use Rattle.fuse_session.specs.Ended.{ended_store, ended_between, MayEnd}
+use Rattle.fuse_session.specs.inner.Finishing.{ended_at}
+use Rattle.fuse_session.specs.Passage.{passage}
 use Rattle.fuse_session.specs.declared.counts.SessionCounts.{SessionCounts}
 use Rattle.fuse_session.specs.declared.group.Next.{Next}
 use Rattle.fuse_session.specs.declared.group.Next.TheVariants.{ZeroUnique}
@@ -30,15 +37,16 @@ use Rattle.fuse_session.specs.declared.fault.Fault.TheVariants.{PortFailed, Stor
 use Rattle.fuse_session.specs.Port.{PortState}
 use Rattle.fuse_session.specs.Processed.{Timed, bytes_of, kept_in, entry_if, timed_entry, answers, Works, StartsZero, moments_in}
 use Rattle.fuse_session.specs.Settling.{Mark, replies, settled_in, NoneComesAgain, Replied, BeginsNext, FewHave}
-use Rattle.fuse_session.specs.Group.{Gathers, IsStuck, answers_in, repeats_in, wires, left_by, told, tallied, rest_by, last_zero, AreEnough, SentAll, SentSome}
-use Rattle.fuse_session.specs.Serving.{Turned, Lived, Exact, Broken, lasts}
-use Rattle.fuse_session.specs.Faults.{is_store, is_memory}
+use Rattle.fuse_session.specs.inner.Group.{Gathers, IsStuck, answers_in, repeats_in, wires, left_by, tallied, rest_by, last_zero, AreEnough}
+use Rattle.fuse_session.proofs.Outs.{told, wires_are, told_is, answers_are_outs, outs_prefix}
+use Rattle.fuse_session.specs.inner.Sending.{sending, SentAll, SentSome}
+use Rattle.fuse_session.specs.Exchange.{Exchange, grown_by, HoldsAt, Lived, Exact}
+use Rattle.fuse_session.specs.Serving.{Turned, Broken, lasts}
 use Rattle.fuse_session.proofs.Replies.{begins_none, replied_none}
 use Rattle.fuse_session.proofs.Batching.{one_batch, are_one, asked_one, left_one, some_all}
 use Rattle.fuse_session.proofs.Transcripts.{handed_sends}
-use Rattle.fuse_session.proofs.Outs.{wires_are, told_is, answers_are_outs, outs_prefix}
 use Rattle.fuse_session.proofs.Ending.{works_group, goes_none, goes_last, ends_last}
-use Rattle.fuse_session.proofs.Settled.{includes_left, includes_right, in_either, group_unsettled, settled_none}
+use Rattle.fuse_session.proofs.Settled.{includes_left, group_unsettled, settled_none}
 use Rattle.fuse_session.proofs.Handing.{few_kept, few_same, few_sent, few_unsent}
 use Rattle.fuse_session.proofs.Counted.{tallied_is}
 
@@ -70,15 +78,18 @@ firm_leaves M holds s h t firm so =
 
 -- ---- lives
 
+abbrev pub exchanged : Bool → List Timed → List Mark → Exchange
+exchanged c timed marks = record { confirms = c; timed = timed; marks = marks }
+
 -- nothing was processed
-pub lived_none : (M : Model) → (stood : History → List ℕ → Type 0) (s : M.State) (h : History) (c : Bool) (t : List ℕ) (timed : List Timed) → stood h t
-    → Lived M stood s h c t timed [] []
-lived_none M stood s h c t timed so = record {
+pub lived_none : (M : Model) → (Stood : Standing M → Type 0) (s : M.State) (h : History) (c : Bool) (t : List ℕ) (timed : List Timed) → Stood (standing M s h t)
+    → Lived M (standing M s h t) (exchanged c timed []) Stood []
+lived_none M Stood s h c t timed so = record {
   worked = [];
   unprocessed = timed;
   parts = refl;
   works = tt;
-  stands = subst (stood h) (sym (append-nil t)) so;
+  stands = subst (λ u. Stood (standing M s h u)) (sym (append-nil t)) so;
   later = [];
   sent = refl;
   unsent = [];
@@ -87,15 +98,14 @@ lived_none M stood s h c t timed so = record {
 }
 
 -- all of it was
-pub lived_all : (M : Model) → (stood : History → List ℕ → Type 0) (s : M.State) (h : History) (c : Bool) (t : List ℕ) (timed : List Timed) (marks : List Mark)
-    (part unsent : List ℕ) (later : List (List ℕ))
-    → Works M s h timed → stood (grown h (kept_in M.serves timed)) (t ++ settled_in M.serves c (bytes_of timed) marks)
-    → answers M s (grown h (kept_in M.serves timed)) timed ≡ replies marks ++ later → joined later ≡ part ++ unsent → BeginsNext later part
-    → Lived M stood s h c t timed marks part
-lived_all M stood s h c t timed marks part unsent later works so sent begun next = record {
-  worked = timed;
+pub lived_all : (M : Model) → (Stood : Standing M → Type 0) (at : Standing M) (x : Exchange) (part unsent : List ℕ) (later : List (List ℕ))
+    → Works M at.state at.history x.timed → Stood (grown_by at x)
+    → answers M at.state (grown at.history (kept_in M.serves x.timed)) x.timed ≡ replies x.marks ++ later → joined later ≡ part ++ unsent → BeginsNext later part
+    → Lived M at x Stood part
+lived_all M Stood at x part unsent later works so sent begun next = record {
+  worked = x.timed;
   unprocessed = [];
-  parts = sym (append-nil timed);
+  parts = sym (append-nil x.timed);
   works = works;
   stands = so;
   later = later;
@@ -106,25 +116,25 @@ lived_all M stood s h c t timed marks part unsent later works so sent begun next
 }
 
 -- exactly nothing was sent
-pub exact_none : (M : Model) → (stood : History → List ℕ → Type 0) (s : M.State) (h : History) (c : Bool) (t : List ℕ) (timed : List Timed) → stood h t
-    → Exact M stood s h c t timed []
-exact_none M stood s h c t timed so = record {
+pub exact_none : (M : Model) → (Stood : Standing M → Type 0) (s : M.State) (h : History) (c : Bool) (t : List ℕ) (timed : List Timed) → Stood (standing M s h t)
+    → Exact M (standing M s h t) (exchanged c timed []) Stood
+exact_none M Stood s h c t timed so = record {
   worked = [];
   unprocessed = timed;
   parts = refl;
   works = tt;
-  stands = subst (stood h) (sym (append-nil t)) so;
+  stands = subst (λ u. Stood (standing M s h u)) (sym (append-nil t)) so;
   sent = refl;
 }
 
 -- exactly all of it was
-pub exact_all : (M : Model) → (stood : History → List ℕ → Type 0) (s : M.State) (h : History) (c : Bool) (t : List ℕ) (timed : List Timed) (marks : List Mark)
-    → Works M s h timed → stood (grown h (kept_in M.serves timed)) (t ++ settled_in M.serves c (bytes_of timed) marks)
-    → replies marks ≡ answers M s (grown h (kept_in M.serves timed)) timed → Exact M stood s h c t timed marks
-exact_all M stood s h c t timed marks works so sent = record {
-  worked = timed;
+pub exact_all : (M : Model) → (Stood : Standing M → Type 0) (at : Standing M) (x : Exchange)
+    → Works M at.state at.history x.timed → Stood (grown_by at x)
+    → replies x.marks ≡ answers M at.state (grown at.history (kept_in M.serves x.timed)) x.timed → Exact M at x Stood
+exact_all M Stood at x works so sent = record {
+  worked = x.timed;
   unprocessed = [];
-  parts = sym (append-nil timed);
+  parts = sym (append-nil x.timed);
   works = works;
   stands = so;
   sent = sent;
@@ -132,85 +142,87 @@ exact_all M stood s h c t timed marks works so sent = record {
 
 -- nothing was done at all
 pub broken_none : (M : Model) → (holds holds' : KeeperState M) (did : Deeds → Type 0) (p q : PortState) (pending : List ℕ) (messages : List (List ℕ))
-    (exact whole : Bool) (faulted : Type 0) → exact ≡ false → (deeds : Deeds) → did deeds → deeds.asked ≡ [] → handed_in deeds.events ≡ [] → Replied p q [] []
+    (e : Ended) → ended_store e ≡ false → (deeds : Deeds) → did deeds → deeds.asked ≡ [] → handed_in deeds.events ≡ [] → Replied p q [] []
     → KeepsHeld holds holds' → ((IsFirm holds) → (s : M.State) (h : History) (t : List ℕ) → StandsFor holds s h t → Leaves holds' (λ x r. Stands M x r s h t))
-    → Broken holds holds' did p q pending messages exact whole faulted
-broken_none M holds holds' did p q pending messages exact whole faulted inexact deeds done unasked unhanded replied keeps leaves = record {
-  timed = [];
+    → Broken (passage holds holds' p q did) pending messages e
+broken_none M holds holds' did p q pending messages e inexact deeds done unasked unhanded replied keeps leaves = record {
+  work = record { timed = []; marks = []; deeds = deeds; done = done; batches = []; are = record { messages = refl; answers = refl }; asked = unasked };
   others = messages;
-  marks = [];
   part = [];
   prefix = refl;
-  deeds = deeds;
-  done = done;
   moments = (deeds.moments, refl);
-  batches = [];
-  are = record { messages = refl; answers = refl };
   answered = tt;
-  asked = unasked;
   slices = some_all [] (handed_in deeds.events) unhanded;
-  all_slices = λ _. unhanded;
   replied = replied;
-  no_part = λ _. refl;
-  exactly = λ _ honest s h t so within again. exact_none M (λ g u. exact ≡ true → holds'.is_clean → StandsFor holds' s g u × faulted) s h p.confirms t []
-      (λ is clean. absurd (cc (is, inexact)));
-  life = λ clean s h t so within again. lived_none M (StandsFor holds' s) s h p.confirms t [] (stands_kept M holds holds' s h t keeps so);
-  crash = λ honest is_firm s h t so within again. leaves_map M holds' (λ x r. Stands M x r s h t) (λ x r. Lived M (Stands M x r s) s h p.confirms t [] [] [])
-      (λ x r left. lived_none M (Stands M x r s) s h p.confirms t [] left) (leaves is_firm s h t so);
-  few = λ honest clean t again h. (pending, few_same M holds' p.confirms t pending [] (few_kept M holds holds' t pending keeps h));
+  exactly = λ _. record {
+    no_part = refl;
+    slices = unhanded;
+    exact = λ honest s h t so within again. exact_none M (λ after. ended_store e ≡ true → holds'.is_clean → HoldsAt holds' after × MayEnd holds.may_answer e)
+        s h p.confirms t [] (λ is clean. absurd (cc (is, inexact)));
+  };
+  life = λ intact s h t so within again. lived_none M (HoldsAt holds') s h p.confirms t [] (stands_kept M holds holds' s h t keeps so);
+  crash = λ honest is_firm s h t so within again. leaves_map M holds' (λ x r. Stands M x r s h t)
+      (λ x r. Lived M (standing M s h t) (exchanged p.confirms [] []) (StandAt M x r) [])
+      (λ x r left. lived_none M (StandAt M x r) s h p.confirms t [] left) (leaves is_firm s h t so);
+  few = λ intact t again h. (pending, few_same M holds' p.confirms t pending [] (few_kept M holds holds' t pending keeps h));
 }
 
 -- ---- a group that wasn't performed
 
 stored : (M : Model) → (s : M.State) (h : History) (c : Bool) (t : List ℕ) (ts : List Timed) (es : List Entry) (x : M.Rows) (r : Records) → es ≡ kept_in M.serves ts
-    → Works M s h ts → StandsForEither M (record { state = s; history = h; settled = t }) (record { state = s; history = grown h es; settled = t }) x r
-    → Lived M (Stands M x r s) s h c t ts [] []
+    → Works M s h ts → StandsForEither M (standing M s h t) (standing M s (grown h es) t) x r
+    → Lived M (standing M s h t) (exchanged c ts []) (StandAt M x r) []
 stored M s h c t ts es x r is works either = ⊎_elim
-    (λ before. lived_none M (Stands M x r s) s h c t ts before)
-    (λ after. lived_all M (Stands M x r s) s h c t ts [] [] (joined (answers M s (grown h (kept_in M.serves ts)) ts)) (answers M s (grown h (kept_in M.serves ts)) ts) works
+    (λ before. lived_none M (StandAt M x r) s h c t ts before)
+    (λ after. lived_all M (StandAt M x r) (standing M s h t) (exchanged c ts []) [] (joined (answers M s (grown h (kept_in M.serves ts)) ts)) (answers M s (grown h (kept_in M.serves ts)) ts) works
     (subst (λ u. Stands M x r s (grown h (kept_in M.serves ts)) u) (sym (ap (λ (q : List ℕ). t ++ q) (settled_none M.serves c (bytes_of ts)) ∙ append-nil t))
     (subst (λ l. Stands M x r s (grown h l) t) is after)) refl refl (begins_none (answers M s (grown h (kept_in M.serves ts)) ts)))
     either
 
 pub broken_store : (M : Model) → (holds holds' : KeeperState M) (gave : List Moment → Type 0) (performed : List Performance → Type 0)
     (became : List PortEvent → Type 0) (p : PortState) (pending : List ℕ)
-    (messages : List (List ℕ)) (count : ℕ) (taken : List (Request × Moment)) (ends : Bool) (group : List (Request × Moment)) (faulted : Type 0)
+    (messages : List (List ℕ)) (count : ℕ) (taken : List (Request × Moment)) (ends : Bool) (group : List (Request × Moment)) (fault : StoreFault)
     → Gathers M.serves gave (take count messages) taken ends → group ≡ taken → performed (performances_of (entries_of group) pending) → became []
     → (holds'.is_clean → KeepsHeld holds holds')
-    → (holds'.is_clean → (s : M.State) (h : History) (t : List ℕ) → StandsFor holds s h t → faulted)
+    → (holds'.is_clean → (s : M.State) (h : History) (t : List ℕ) → StandsFor holds s h t → holds.may_answer fault)
     → ((s : M.State) (h : History) (t : List ℕ) → StandsFor holds s h t → Includes t pending → All (IsUnsettled t) (entries_of group) → IsFirm holds
-    → Leaves holds' (StandsForEither M (record { state = s; history = h; settled = t })
-    (record { state = s; history = grown h (entries_of group); settled = t })))
-    → Broken holds holds' (Mute (Did gave performed became)) p p pending messages true false faulted
-broken_store M holds holds' gave performed became p pending messages count taken ends group faulted gathers same asked unsent keeps fault crash =
+    → Leaves holds' (StandsForEither M (standing M s h t) (standing M s (grown h (entries_of group)) t)))
+    → Broken (passage holds holds' p p (Mute (Did gave performed became))) pending messages (ByStore fault)
+broken_store M holds holds' gave performed became p pending messages count taken ends group fault gathers same asked unsent keeps may crash =
     let ts = gathers.timed in
     let es : entries_of group ≡ kept_in M.serves ts = ap entries_of same ∙ gathers.entries in
     record {
-      timed = ts;
+      work = record {
+        timed = ts;
+        marks = [];
+        deeds = record { moments = moments_in M.serves ts; asked = performances_of (entries_of group) pending; events = [] };
+        done = record { done = record { moments = gathers.moments; asked = asked; events = unsent }; slices = []; events = refl };
+        batches = one_batch ts [];
+        are = are_one ts [];
+        asked = asked_one M.serves p.confirms pending ts [] (entries_of group) (performances_of (entries_of group) pending) es refl;
+      };
       others = drop count messages;
-      marks = [];
       part = [];
       prefix = sym (take-append-drop count messages) ∙ ap (λ f. f ++ drop count messages) gathers.bytes;
-      deeds = record { moments = moments_in M.serves ts; asked = performances_of (entries_of group) pending; events = [] };
-      done = record { done = record { moments = gathers.moments; asked = asked; events = unsent }; slices = []; events = refl };
       moments = ([], sym (append-nil (moments_in M.serves ts)));
-      batches = one_batch ts [];
-      are = are_one ts [];
       answered = (inl refl, tt);
-      asked = asked_one M.serves p.confirms pending ts [] (entries_of group) (performances_of (entries_of group) pending) es refl;
       slices = some_all [] [] refl;
-      all_slices = λ _. refl;
       replied = replied_none p;
-      no_part = λ _. refl;
-      exactly = λ _ honest s h t so within again. exact_none M (λ g u. true ≡ true → holds'.is_clean → StandsFor holds' s g u × faulted) s h p.confirms t ts
-          (λ _ clean. (stands_kept M holds holds' s h t (keeps clean) so, fault clean s h t so));
-      life = λ clean s h t so within again. lived_none M (StandsFor holds' s) s h p.confirms t ts (stands_kept M holds holds' s h t (keeps clean) so);
+      exactly = λ _. record {
+        no_part = refl;
+        slices = refl;
+        exact = λ honest s h t so within again. exact_none M (λ after. true ≡ true → holds'.is_clean → HoldsAt holds' after × holds.may_answer fault)
+            s h p.confirms t ts (λ _ clean. (stands_kept M holds holds' s h t (keeps clean) so, may clean s h t so));
+      };
+      life = λ intact s h t so within again.
+          lived_none M (HoldsAt holds') s h p.confirms t ts (stands_kept M holds holds' s h t (keeps (intact.clean refl)) so);
       crash = λ honest firm s h t so within again.
-          leaves_map M holds' (StandsForEither M (record { state = s; history = h; settled = t })
-          (record { state = s; history = grown h (entries_of group); settled = t })) (λ x r. Lived M (Stands M x r s) s h p.confirms t ts [] [])
+          leaves_map M holds' (StandsForEither M (standing M s h t) (standing M s (grown h (entries_of group)) t))
+          (λ x r. Lived M (standing M s h t) (exchanged p.confirms ts []) (StandAt M x r) [])
           (λ x r either. stored M s h p.confirms t ts (entries_of group) x r es (works_group M s h ts gathers.no_zero gathers.only) either)
           (crash s h t so within (subst (All (IsUnsettled t)) (sym es) (group_unsettled M.serves p.confirms t ts [] again)) firm);
-      few = λ honest clean t again h. (pending, few_same M holds' p.confirms t pending ts (few_kept M holds holds' t pending (keeps (clean refl)) h));
+      few = λ intact t again h.
+          (pending, few_same M holds' p.confirms t pending ts (few_kept M holds holds' t pending (keeps (intact.clean refl)) h));
     }
 
 -- ---- a group that was performed
@@ -236,10 +248,10 @@ now_stands : (M : Model) → (holds : KeeperState M) (s : M.State) (h : History)
 now_stands M holds s h t more es ts dones done is = stands_later M holds s (grown h (kept_in M.serves ts)) t (t ++ more) (includes_left t more)
     (subst (λ l. StandsFor holds s (grown h l) t) is done.stands)
 
-memory_is : (fault : Fault) → is_memory fault ≡ true → fault ≡ Memory
-memory_is PortFailed is = absurd (cc is)
-memory_is (Store x) is = absurd (cc is)
-memory_is Memory is = refl
+memory_is : (fault : Fault) → ended_between (ended_at fault) ≡ true → ended_store (ended_at fault) ≡ false → fault ≡ Memory
+memory_is PortFailed is isnt = absurd (cc is)
+memory_is (Store x) is isnt = absurd (cc isnt)
+memory_is Memory is isnt = refl
 
 -- the slices of the answers that were sent
 record SentSlices (became : List PortEvent → Type 0) (marks : List Mark) (part : List ℕ) (fault : Fault) : Type 0 where
@@ -267,18 +279,18 @@ sent_slices became p q answers (Store f) x =
 pub broken_sent : (M : Model) → HistoriesGrow M → (holds holds' : KeeperState M) (gave : List Moment → Type 0) (performed_so : List Performance → Type 0)
     (became : List PortEvent → Type 0) (p q : PortState) (pending mid : List ℕ)
     (messages : List (List ℕ)) (count : ℕ) (taken : List (Request × Moment)) (ends : Bool) (group : List (Request × Moment)) (prefix : List (List ℕ))
-    (dones list : List Done) (fault : Fault) (faulted : Type 0)
+    (dones list : List Done) (fault : Fault)
     → Gathers M.serves gave (take count messages) taken ends → group ≡ taken → performed_so (performances_of (entries_of group) pending)
-    → prefix ≡ take count messages → (holds'.is_clean → holds'.is_honest)
+    → prefix ≡ take count messages
     → (holds'.is_honest → (s : M.State) (h : History) (t : List ℕ) → StandsFor holds s h t → Includes t pending → All (IsUnsettled t) (entries_of group)
     → Performed holds' s h t (entries_of group) dones)
     → (holds'.is_honest → IsFirm holds → IsFirm holds')
     → (holds'.is_honest → (u : List ℕ) → All (IsUnsettled u) (entries_of group) → FewHave holds u pending → FewHave holds' u mid)
     → length mid + length (entries_of group) ≤ 16
     → list ≡ dones → SentSome became p q (wires M.serves prefix (answers_in list)) fault
-    → Broken holds holds' (Mute (Did gave performed_so became)) p q pending messages (is_store fault) (is_memory fault) faulted
-broken_sent M grows holds holds' gave performed_so became p q pending mid messages count taken ends group prefix dones list fault faulted gathers same asked same_prefix
-    clean_honest performed firm_still few size same_list sent =
+    → Broken (passage holds holds' p q (Mute (Did gave performed_so became))) pending messages (ended_at fault)
+broken_sent M grows holds holds' gave performed_so became p q pending mid messages count taken ends group prefix dones list fault gathers same asked same_prefix
+    performed firm_still few size same_list sent =
     let some = subst (λ l. SentSome became p q (wires M.serves prefix (answers_in l)) fault) same_list sent in
     let sl = sent_slices became p q (wires M.serves prefix (answers_in dones)) fault some in
     let ts = gathers.timed in
@@ -289,52 +301,55 @@ broken_sent M grows holds holds' gave performed_so became p q pending mid messag
     performed honest s h t so within (subst (All (IsUnsettled t)) (sym es) (group_unsettled M.serves p.confirms t ts some.marks again)) in
     let works = λ (s : M.State) (h : History). works_group M s h ts gathers.no_zero gathers.only in
     record {
-      timed = ts;
+      work = record {
+        timed = ts;
+        marks = some.marks;
+        deeds = record { moments = moments_in M.serves ts; asked = performances_of (entries_of group) pending; events = sends_of sl.slices };
+        done = record { done = record { moments = gathers.moments; asked = asked; events = sl.calls }; slices = sl.slices; events = refl };
+        batches = one_batch ts some.marks;
+        are = are_one ts some.marks;
+        asked = asked_one M.serves p.confirms pending ts some.marks (entries_of group) (performances_of (entries_of group) pending) es refl;
+      };
       others = drop count messages;
-      marks = some.marks;
       part = some.part;
       prefix = sym (take-append-drop count messages) ∙ ap (λ f. f ++ drop count messages) gathers.bytes;
-      deeds = record { moments = moments_in M.serves ts; asked = performances_of (entries_of group) pending; events = sends_of sl.slices };
-      done = record { done = record { moments = gathers.moments; asked = asked; events = sl.calls }; slices = sl.slices; events = refl };
       moments = ([], sym (append-nil (moments_in M.serves ts)));
-      batches = one_batch ts some.marks;
-      are = are_one ts some.marks;
       answered = (inl refl, tt);
-      asked = asked_one M.serves p.confirms pending ts some.marks (entries_of group) (performances_of (entries_of group) pending) es refl;
       slices = subst (RestsOfSome some.marks some.part) (sym (handed_sends sl.slices)) sl.kind;
-      all_slices = λ is. subst (RestsOfAll some.marks) (sym (handed_sends sl.slices))
-          (sl.all (memory_is fault (ap (λ b. b || is_memory fault) (sym some.sends) ∙ is)));
       replied = some.replied;
-      no_part = λ is. some.memory (memory_is fault (ap (λ b. b || is_memory fault) (sym some.sends) ∙ is));
-      exactly = λ _ honest s h t so within again.
-          let d = done honest s h t so within again in
-          let f = outs_prefix M s h ts some.marks some.later (works s h) (sym (answers_are_outs M grows s h ts)
-          ∙ sym (sent_are M grows holds' s h t (entries_of group) ts prefix dones d es bytes) ∙ some.whole) in
-          record {
-            worked = f.first;
-            unprocessed = f.others;
-            parts = f.parts;
-            works = f.works;
-            stands = λ is clean. absurd (cc (is, some.sends));
-            sent = f.sent ∙ sym (answers_are_outs M grows s h f.first);
-          };
-      life = λ clean s h t so within again.
-          let d = done (clean_honest clean) s h t so within again in
-          lived_all M (StandsFor holds' s) s h p.confirms t ts some.marks some.part some.unsent some.later (works s h)
+      exactly = λ is. record {
+        no_part = some.memory (memory_is fault is some.sends);
+        slices = subst (RestsOfAll some.marks) (sym (handed_sends sl.slices)) (sl.all (memory_is fault is some.sends));
+        exact = λ honest s h t so within again.
+            let d = done honest s h t so within again in
+            let f = outs_prefix M s h ts some.marks some.later (works s h) (sym (answers_are_outs M grows s h ts)
+            ∙ sym (sent_are M grows holds' s h t (entries_of group) ts prefix dones d es bytes) ∙ some.whole) in
+            record {
+              worked = f.first;
+              unprocessed = f.others;
+              parts = f.parts;
+              works = f.works;
+              stands = λ is clean. absurd (cc (is, some.sends));
+              sent = f.sent ∙ sym (answers_are_outs M grows s h f.first);
+            };
+      };
+      life = λ intact s h t so within again.
+          let d = done intact.honest s h t so within again in
+          lived_all M (HoldsAt holds') (standing M s h t) (exchanged p.confirms ts some.marks) some.part some.unsent some.later (works s h)
           (now_stands M holds' s h t _ (entries_of group) ts dones d es)
           (sym (sent_are M grows holds' s h t (entries_of group) ts prefix dones d es bytes) ∙ some.whole) some.begun some.next;
       crash = λ honest firm s h t so within again.
           let d = done honest s h t so within again in
           leaves_map M holds' (λ x r. Stands M x r s (grown h (kept_in M.serves ts)) (t ++ settled_in M.serves p.confirms (bytes_of ts) some.marks))
-          (λ x r. Lived M (Stands M x r s) s h p.confirms t ts some.marks some.part)
-          (λ x r stands. lived_all M (Stands M x r s) s h p.confirms t ts some.marks some.part some.unsent some.later (works s h) stands
+          (λ x r. Lived M (standing M s h t) (exchanged p.confirms ts some.marks) (StandAt M x r) some.part)
+          (λ x r stands. lived_all M (StandAt M x r) (standing M s h t) (exchanged p.confirms ts some.marks) some.part some.unsent some.later (works s h) stands
           (sym (sent_are M grows holds' s h t (entries_of group) ts prefix dones d es bytes) ∙ some.whole) some.begun some.next)
           (firm_leaves M holds' s (grown h (kept_in M.serves ts)) _ (firm_still honest firm)
           (now_stands M holds' s h t (settled_in M.serves p.confirms (bytes_of ts) some.marks) (entries_of group) ts dones d es));
-      few = λ honest clean t again h. (
+      few = λ intact t again h. (
         mid ++ ids_in (entries_of group),
         few_unsent M holds' p.confirms t mid (entries_of group) ts some.marks es size
-            (few honest t (subst (All (IsUnsettled t)) (sym es) (group_unsettled M.serves p.confirms t ts some.marks again)) h),
+            (few intact.honest t (subst (All (IsUnsettled t)) (sym es) (group_unsettled M.serves p.confirms t ts some.marks again)) h),
       );
     }
 
@@ -357,11 +372,6 @@ and_false : (a b : Bool) → (a && b) ≡ false → (a ≡ false) ⊎ ((a ≡ tr
 and_false true b is = inr (refl, is)
 and_false false b is = inl refl
 
-both_included : (t pending mid more pending' : List ℕ) → Includes t pending → ((u : List ℕ) → Includes u pending → Includes u mid) → pending' ≡ mid ++ more
-    → Includes (t ++ more) pending'
-both_included t pending mid more pending' within f is i there =
-    ⊎_elim (λ old. includes_left t more i (f t within i old)) (λ new. includes_right t more i new) (in_either mid more i (sym (ap (λ x. is_in x i) is) ∙ there))
-
 pub turned : (M : Model) → HistoriesGrow M → (holds holds' : KeeperState M) (gave : List Moment → Type 0) (performed_so : List Performance → Type 0)
     (became : List PortEvent → Type 0) (p q : PortState) (pending mid pending' : List ℕ)
     (messages : List (List ℕ)) (count : ℕ)
@@ -371,34 +381,33 @@ pub turned : (M : Model) → HistoriesGrow M → (holds holds' : KeeperState M) 
     → mid ≡ left_pending (entries_of group) pending → prefix ≡ take count messages
     → (holds'.is_honest → (s : M.State) (h : History) (t : List ℕ) → StandsFor holds s h t → Includes t pending → All (IsUnsettled t) (entries_of group)
     → Performed holds' s h t (entries_of group) dones)
-    → ((u : List ℕ) → Includes u pending → Includes u mid)
     → (holds'.is_honest → (u : List ℕ) → All (IsUnsettled u) (entries_of group) → FewHave holds u pending → FewHave holds' u mid) → length pending' ≤ 16
-    → SentAll M.serves became p q prefix (wires M.serves prefix (answers_in list)) mid pending' → list ≡ dones → rest ≡ rest_by (ends && last_zero (answers_in list)) stuck
+    → SentAll M.serves (sending became p q mid pending') prefix (wires M.serves prefix (answers_in list)) → list ≡ dones → rest ≡ rest_by (ends && last_zero (answers_in list)) stuck
     → counts ≡ tallied M.serves prefix (repeats_in list)
-    → Turned holds holds' (Mute (Did gave performed_so became)) p q pending pending' (take count messages) (lasts rest) counts
+    → Turned (passage holds holds' p q (Mute (Did gave performed_so became))) pending pending' (take count messages) (lasts rest) counts
 turned M grows holds holds' gave performed_so became p q pending mid pending' messages count taken ends group prefix dones list stuck rest counts gathers same asked left same_prefix performed
-    handed few size sent same_list is counts_are =
-    let all = subst (λ l. SentAll M.serves became p q prefix (wires M.serves prefix (answers_in l)) mid pending') same_list sent in
+    few size sent same_list is counts_are =
+    let all = subst (λ l. SentAll M.serves (sending became p q mid pending') prefix (wires M.serves prefix (answers_in l))) same_list sent in
     let ts = gathers.timed in
     let es : entries_of group ≡ kept_in M.serves ts = ap entries_of same ∙ gathers.entries in
     let bytes : prefix ≡ bytes_of ts = same_prefix ∙ gathers.bytes in
     record {
-      timed = ts;
-      marks = all.marks;
+      work = record {
+        timed = ts;
+        marks = all.marks;
+        deeds = record { moments = moments_in M.serves ts; asked = performances_of (entries_of group) pending; events = sends_of all.hands.slices };
+        done = record { done = record { moments = gathers.moments; asked = asked; events = all.hands.calls }; slices = all.hands.slices; events = refl };
+        batches = one_batch ts all.marks;
+        are = are_one ts all.marks;
+        asked = asked_one M.serves p.confirms pending ts all.marks (entries_of group) (performances_of (entries_of group) pending) es refl;
+      };
       bytes = gathers.bytes;
       full = all.full ∙ ap length bytes ∙ length-map ts (λ (t : Timed). t.bytes);
-      deeds = record { moments = moments_in M.serves ts; asked = performances_of (entries_of group) pending; events = sends_of all.hands.slices };
-      done = record { done = record { moments = gathers.moments; asked = asked; events = all.hands.calls }; slices = all.hands.slices; events = refl };
       moments = refl;
-      batches = one_batch ts all.marks;
-      are = are_one ts all.marks;
       answered = (all.full ∙ ap length bytes ∙ length-map ts (λ (t : Timed). t.bytes), tt);
-      asked = asked_one M.serves p.confirms pending ts all.marks (entries_of group) (performances_of (entries_of group) pending) es refl;
       left = left_one M.serves p.confirms pending mid pending' ts all.marks (entries_of group) prefix es left bytes all.handed;
       slices = subst (RestsOfAll all.marks) (sym (handed_sends all.hands.slices)) all.hands.kind;
       replied = all.replied;
-      handed = λ t within. both_included t pending mid (settled_in M.serves p.confirms (bytes_of ts) all.marks) pending' within handed
-          (all.handed ∙ ap (λ f. mid ++ settled_in M.serves p.confirms f all.marks) bytes);
       all = λ honest s h t so within again.
           let d = performed honest s h t so within (subst (All (IsUnsettled t)) (sym es) (group_unsettled M.serves p.confirms t ts all.marks again)) in
           let says = says_told M grows holds' s h t (entries_of group) ts dones d es in

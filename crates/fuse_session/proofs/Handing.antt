@@ -13,12 +13,13 @@ use Rattle.fuse_keeper.specs.KeeperState.{KeeperState, KeepsHeld, OfHeld, WhereH
 use Rattle.fuse_keeper.specs.Group.{entries_of, handed_to, left_pending}
 use Rattle.fuse_session.specs.Port.{PortState}
 use Rattle.fuse_session.specs.Processed.{Timed, bytes_of, kept_in}
-use Rattle.fuse_session.specs.Settling.{Mark, settled_in, SomeAndMore, AtMostMore, FewHave}
+use Rattle.fuse_session.specs.Settling.{Mark, settled_in, SomeAndMore, FewHave}
 use Rattle.fuse_session.specs.Starts.{Kept, TakesAtMostOne, HoldsUnder}
 use Rattle.fuse_session.specs.Transcript.{PortEvent}
 use Rattle.fuse_keeper.specs.Lots.{Lots, SameLots, TakesLot, RecordsUnder}
-use Rattle.fuse_session.specs.Moves.{HandsOn}
-use Rattle.fuse_session.specs.Group.{Gathers, SentAll}
+use Rattle.fuse_session.specs.inner.Moves.{HandsOn}
+use Rattle.fuse_session.specs.inner.Group.{Gathers}
+use Rattle.fuse_session.specs.inner.Sending.{sending, SentAll}
 use Rattle.fuse_session.proofs.Standing.{unsettled_too}
 use Rattle.fuse_session.proofs.Settled.{includes_left, includes_right, in_either, all_settled, settled_none, settled_within, none_again}
 
@@ -124,9 +125,6 @@ hands_same M before holds pending all within h = record {
 pub holds_under : (M : Model) → (before : Kept) (holds : KeeperState M) (pending : List ℕ) → HandsOn before holds pending → HoldsUnder before holds
 holds_under M before holds pending h = record { rows = h.rows; records = h.records; held = h.held; under = h.under }
 
-pub at_most : (M : Model) → (before : Kept) (holds : KeeperState M) → HoldsUnder before holds → AtMostMore before.records holds
-at_most M before holds h = record { rows = h.rows; records = h.records; held = h.held; more = h.under.more; few = h.under.few; some = h.under.some }
-
 -- a fault keeps the records, and their lots
 pub under_kept : (M : Model) → (before : Kept) (holds holds' : KeeperState M) (pending : List ℕ) → KeepsHeld holds holds'
     → WhereHeld holds (SameLots holds.lots holds'.lots) → HandsOn before holds pending → HoldsUnder before holds'
@@ -153,7 +151,7 @@ under_kept M before holds holds' pending keeps lots h =
 pub hands_group : (M : Model) → (before : Kept) (holds : KeeperState M) (gave : List Moment → Type 0) (became : List PortEvent → Type 0) (p q : PortState) (mid pending' : List ℕ)
     (messages : List (List ℕ)) (taken : List (Request × Moment)) (ends : Bool)
     (group : List (Request × Moment)) (prefix answers' : List (List ℕ)) → Gathers M.serves gave messages taken ends → group ≡ taken → prefix ≡ messages → p.confirms ≡ true
-    → SentAll M.serves became p q prefix answers' mid pending'
+    → SentAll M.serves (sending became p q mid pending') prefix answers'
     → HandsOn before holds (mid ++ ids_in (entries_of group)) → HandsOn before holds pending'
 hands_group M before holds gave became p q mid pending' messages taken ends group prefix answers' gathers same same_prefix confirms all h =
     let bytes : prefix ≡ bytes_of gathers.timed = same_prefix ∙ gathers.bytes in
@@ -248,18 +246,6 @@ few_unsent M holds c u mid group ts marks is few h =
     few_more M holds u mid (settled_in M.serves c (bytes_of ts) marks) (mid ++ ids_in group)
     (omega (arith, length-append mid (ids_in group), length-map group entry_id, few)) (includes_left mid (ids_in group))
     (λ i there. includes_right mid (ids_in group) i (ap (λ g. is_in (ids_in g) i) is ∙ settled_within M.serves c ts marks i there)) h
-
--- at first nothing was settled
-pub few_start : (M : Model) → (holds : KeeperState M) (rows : M.Rows) (records : Records) → holds.holds rows records → IsRowed M rows → FewHave holds [] []
-few_start M holds rows records held rowed = record {
-  rows = rows;
-  records = records;
-  held = held;
-  rowed = rowed;
-  few = omega arith;
-  others =
-      λ i there. absurd (cc there);
-}
 
 -- ---- a group was performed, if there was one
 

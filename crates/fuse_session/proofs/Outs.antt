@@ -1,5 +1,5 @@
 -- What is sent for messages, one after another.
-use Rattle.std.proofs.Common.{◌≡◌, inl, inr, ℕ, true, List, [], ◌∷◌, ◌++◌, map, Some, refl, sym, ap, subst, ◌∙◌, append_assoc}
+use Rattle.std.proofs.Common.{◌≡◌, inl, inr, ℕ, true, List, [], ◌∷◌, ◌++◌, map, Option, Some, refl, sym, ap, subst, ◌∙◌, append_assoc}
 use Rattle.fuse_request.specs.Opcodes.{OpcodeSet}
 use Rattle.fuse_answer.specs.Said.{Said}
 use Rattle.fuse_request.specs.declared.class.Class.{Class}
@@ -11,7 +11,12 @@ use Rattle.fuse_session.proofs.Standing.{grown-append}
 use Rattle.fuse_session.specs.Processed.{Timed, bytes_of, kept_in, entries_at, entry_if, timed_entry, message_id, unique_of, answered, answers, answer_by, GoesOn}
 use Rattle.fuse_session.specs.Processed.{Works}
 use Rattle.fuse_session.specs.Settling.{Mark, replies}
-use Rattle.fuse_session.specs.Group.{head_wire, left_by, wires, told}
+use Rattle.fuse_session.specs.inner.Group.{head_wire, left_by, wires}
+
+-- the answer to each entry when it is added
+abbrev pub told : (M : Model) → M.State → History → List Entry → List (Option Said)
+told M s h [] = []
+told M s h (e ∷ es) = said M s (add h e) (entry_id e) ∷ told M s (add h e) es
 
 pub kept_in-append : (V : OpcodeSet) → (xs ys : List Timed) → kept_in V (xs ++ ys) ≡ kept_in V xs ++ kept_in V ys
 kept_in-append V [] ys = refl

@@ -9,9 +9,11 @@ use Rattle.fuse_session.specs.declared.port.Sent.{Sent}
 use Rattle.fuse_session.specs.Port.{PortState}
 use Rattle.fuse_session.specs.Transcript.{PortEvent, Received, sends_of}
 use Rattle.fuse_session.specs.Deeds.{Deeds}
-use Rattle.fuse_session.specs.Serving.{Turned, Whole, Run}
+use Rattle.fuse_session.specs.declared.ended.Ended.{Ended}
+use Rattle.fuse_session.specs.Passage.{passage}
+use Rattle.fuse_session.specs.Serving.{Turned, Waiting, nothing_waits, Whole, Run}
 use Rattle.fuse_session.specs.Prompt.{CaughtUp, AnswersFirst, Prompt}
-use Rattle.fuse_session.specs.Turn.{OneTurn}
+use Rattle.fuse_session.specs.inner.Turn.{OneTurn}
 
 -- this was done, and all that came was answered before each receive
 pub record Answering {M : Model} (k new : KeeperState M) (did : Deeds → Type 0) (confirms : Bool) (deeds : Deeds) : Type 0 where
@@ -19,15 +21,15 @@ pub record Answering {M : Model} (k new : KeeperState M) (did : Deeds → Type 0
   pub first : AnswersFirst k new confirms deeds.events
 
 -- all messages that came were processed
-pub caught_whole : (M : Model) → (k new : KeeperState M) (did : Deeds → Type 0) (p q : PortState) (ids rest : List ℕ) (at : ℕ)
-    (counts : SessionCounts) → (w : Whole k new did p q [] ids [] rest 0 at counts) → CaughtUp k new p.confirms w.turned.deeds.events
-caught_whole M k new did p q ids rest at counts w = record {
-  timed = w.turned.timed;
-  marks = w.turned.marks;
-  bytes = ap (λ r. (cut r).0) w.turned.done.1 ∙ w.turned.bytes;
+pub caught_whole : (M : Model) → (k new : KeeperState M) (did : Deeds → Type 0) (p q : PortState) (after : Waiting)
+    (counts : SessionCounts) → (w : Whole (passage k new p q did) nothing_waits after counts) → CaughtUp k new p.confirms w.turned.work.deeds.events
+caught_whole M k new did p q after counts w = record {
+  timed = w.turned.work.timed;
+  marks = w.turned.work.marks;
+  bytes = ap (λ r. (cut r).0) w.turned.work.done.1 ∙ w.turned.bytes;
   full = w.turned.full;
   slices = w.turned.slices;
-  sent = λ honest s h t so again. (w.turned.all honest s h t so (λ i there. absurd (cc there)) again).sent;
+  sent = λ honest s h t so within again. (w.turned.all honest s h t so within again).sent;
 }
 
 caught_later : (M : Model) → (k mid new : KeeperState M) (confirms : Bool) (events : List PortEvent) → (new.is_honest → mid.is_honest)
@@ -81,41 +83,43 @@ first_more M k mid new did confirms a b honest_too up first turn before after re
     ]
 
 turned_did : (M : Model) → (k new : KeeperState M) (did did' : Deeds → Type 0) (p q : PortState) (ids ids' : List ℕ) (prefix : List (List ℕ)) (going : Bool)
-    (counts : SessionCounts) → ((d : Deeds) → did d → did' d) → Turned k new did p q ids ids' prefix going counts → Turned k new did' p q ids ids' prefix going counts
+    (counts : SessionCounts) → ((d : Deeds) → did d → did' d) → Turned (passage k new p q did) ids ids' prefix going counts
+    → Turned (passage k new p q did') ids ids' prefix going counts
 turned_did M k new did did' p q ids ids' prefix going counts f t = record {
-  timed = t.timed;
-  marks = t.marks;
+  work = record {
+    timed = t.work.timed;
+    marks = t.work.marks;
+    deeds = t.work.deeds;
+    done = f t.work.deeds t.work.done;
+    batches = t.work.batches;
+    are = t.work.are;
+    asked = t.work.asked;
+  };
   bytes = t.bytes;
   full = t.full;
-  deeds = t.deeds;
-  done = f t.deeds t.done;
   moments = t.moments;
-  batches = t.batches;
-  are = t.are;
   answered = t.answered;
-  asked = t.asked;
   left = t.left;
   slices = t.slices;
   replied = t.replied;
-  handed = t.handed;
   all = t.all;
   few = t.few;
 }
 
-pub whole_did : (M : Model) → (k new : KeeperState M) (did : Deeds → Type 0) (p q : PortState) (ids ids' held rest : List ℕ) (begin at : ℕ) (confirms : Bool)
-    (counts : SessionCounts) → Whole k new (Answering k new did confirms) p q ids ids' held rest begin at counts → Whole k new did p q ids ids' held rest begin at counts
-whole_did M k new did p q ids ids' held rest begin at confirms counts w = record {
+pub whole_did : (M : Model) → (k new : KeeperState M) (did : Deeds → Type 0) (p q : PortState) (confirms : Bool) (before after : Waiting)
+    (counts : SessionCounts) → Whole (passage k new p q (Answering k new did confirms)) before after counts → Whole (passage k new p q did) before after counts
+whole_did M k new did p q confirms before after counts w = record {
   received = w.received;
   came = w.came;
   rest_is = w.rest_is;
   at = w.at;
-  turned = turned_did M k new _ _ p q ids ids' _ true counts (λ d x. (x.0.done, x.1)) w.turned;
+  turned = turned_did M k new _ _ p q before.pending after.pending _ true counts (λ d x. (x.0.done, x.1)) w.turned;
 }
 
-pub prompt_run : (M : Model) → (k new : KeeperState M) (did : Deeds → Type 0) (p q : PortState) (ids held : List ℕ) (confirms store memory : Bool)
-    (faulted : Type 0) → Run k new (Answering k new did confirms) p q ids held store memory faulted → Prompt k new did confirms
-prompt_run M k new did p q ids held confirms store memory faulted l = record {
-  deeds = l.broken.deeds;
-  done = l.broken.done.0.done;
-  first = l.broken.done.0.first;
+pub prompt_run : (M : Model) → (k new : KeeperState M) (did : Deeds → Type 0) (p q : PortState) (before : Waiting) (e : Ended)
+    → Run (passage k new p q (Answering k new did p.confirms)) before e → Prompt (passage k new p q did)
+prompt_run M k new did p q before e l = record {
+  deeds = l.broken.work.deeds;
+  done = l.broken.work.done.0.done;
+  first = l.broken.work.done.0.first;
 }

@@ -18,21 +18,33 @@ use Rattle.fuse_session.specs.Port.{PortState, IsYoung, IsQuiet, SentWhole}
 use Rattle.fuse_session.specs.Processed.{unique_of, message_id}
 use Rattle.fuse_session.specs.declared.port.Sent.{Sent}
 use Rattle.fuse_session.specs.Transcript.{PortEvent, sends_of, Hands}
-use Rattle.fuse_session.specs.Slices.{RestsOfAll, RestsOfSome, HandsSlices}
+use Rattle.fuse_session.specs.Slices.{RestsOfAll, RestsOfSome}
+use Rattle.fuse_session.specs.inner.Sending.{Sending, sending, HandsSlices, SendFails, SentNext, SentAll, SentSome}
 use Rattle.fuse_session.proofs.Transcripts.{sends_more}
 use Rattle.fuse_session.proofs.Batching.{rests_more, rests_one, some_all}
 use Rattle.fuse_session.specs.Settling.{Mark, replies, settles, settles_if, settled_in, Replied, BeginsNext}
-use Rattle.fuse_session.specs.Group.{answers_in, head_wire, left_by, wires, AreEnough, SendFails, SentNext, SentFirst, SentAll, SentSome}
+use Rattle.fuse_session.specs.inner.Group.{answers_in, head_wire, left_by, wires, AreEnough}
 use Rattle.fuse_session.proofs.Bytes.{appends_none, quiet_none, quiet_more}
 use Rattle.fuse_session.proofs.Replies.{begins_none, replied_none, replied_more, replied_one, replied_part, replies-append}
 use Rattle.fuse_session.proofs.Settled.{settled-append}
+
+-- the first of these answers were sent whole, and these are left
+pub record SentFirst (V : OpcodeSet) (x : Sending) (messages answers left : List (List ℕ)) : Type 0 where
+  pub marks : List Mark
+  pub whole : answers ≡ replies marks ++ left
+  pub full : length marks ≡ length messages
+  pub replied : Replied x.port x.port' marks []
+  pub failures : x.port'.failures ≡ x.port.failures
+  pub quiet : IsQuiet x.port x.port'
+  pub hands : HandsSlices x.became (RestsOfAll marks)
+  pub handed : x.pending' ≡ x.pending ++ settled_in V x.port.confirms messages marks
 
 pub young_still : (a b : PortState) → b.failures ≡ a.failures → IsQuiet a b → IsYoung a → IsYoung b
 young_still a b same quiet young = record { receives = omega (arith, quiet.receives, young.receives); failures = omega (arith, same, young.failures) }
 
 -- nothing is sent for a message that isn't answered
 pub sent_nothing : (V : OpcodeSet) (became : List PortEvent → Type 0) → became [] → (p : PortState) (m : List ℕ) (pending : List ℕ) → settles V p.confirms m (record { reply = []; gone = false }) ≡ []
-    → SentNext V became p p m [] pending pending
+    → SentNext V (sending became p p pending pending) m []
 sent_nothing V became nothing p m pending none = record {
   mark = record { reply = []; gone = false };
   reply = refl;
@@ -42,7 +54,7 @@ sent_nothing V became nothing p m pending none = record {
 }
 
 pub sent_first_none : (V : OpcodeSet) (became : List PortEvent → Type 0) → became [] → (p : PortState) (messages answers : List (List ℕ)) (pending : List ℕ)
-    → SentFirst V became p p [] answers answers pending pending
+    → SentFirst V (sending became p p pending pending) [] answers answers
 sent_first_none V became nothing p messages answers pending = record {
   marks = [];
   whole = refl;
@@ -79,8 +91,8 @@ hands_same became became' became'' joins Kind one nothing = record {
 }
 
 pub sent_first_more : (V : OpcodeSet) (became became' became'' : List PortEvent → Type 0) → ((xs ys : List PortEvent) → became xs → became' ys → became'' (xs ++ ys)) → (a b c : PortState) (prefix answers left left' : List (List ℕ)) (m bytes : List ℕ) (p q r : List ℕ) → left ≡ bytes ∷ left'
-    → SentFirst V became a b prefix answers left p q → SentNext V became' b c m bytes q r
-    → SentFirst V became'' a c (prefix ++ m ∷ []) answers left' p r
+    → SentFirst V (sending became a b p q) prefix answers left → SentNext V (sending became' b c q r) m bytes
+    → SentFirst V (sending became'' a c p r) (prefix ++ m ∷ []) answers left'
 sent_first_more V became became' became'' joins a b c prefix answers left left' m bytes p q r is one two = record {
   marks = one.marks ++ two.mark ∷ [];
   whole = one.whole ∙ ap (λ l. replies one.marks ++ l) (is ∙ ap (λ x. x ∷ left') (sym two.reply))
@@ -106,19 +118,19 @@ taken_at ms i m bytes lt at is = ap (λ x. take i ms ++ x ∷ []) (is ∙ at) �
 
 pub sent_more : (V : OpcodeSet) (became became' became'' : List PortEvent → Type 0) → ((xs ys : List PortEvent) → became xs → became' ys → became'' (xs ++ ys)) → (a b c : PortState) (ms : List (List ℕ)) (i : ℕ) (m bytes : List ℕ) (list list' : List Said) (all : List (List ℕ)) (p q r : List ℕ)
     → i < length ms → m ≡ get_or ms i m → bytes ≡ m
-    → list' ≡ left_by (class_for V bytes) list → SentFirst V became a b (take i ms) all (wires V (drop i ms) list) p q
-    → SentNext V became' b c bytes (head_wire (class_for V bytes) (unique_of bytes) list) q r
-    → SentFirst V became'' a c (take (i + 1) ms) all (wires V (drop (i + 1) ms) list') p r
+    → list' ≡ left_by (class_for V bytes) list → SentFirst V (sending became a b p q) (take i ms) all (wires V (drop i ms) list)
+    → SentNext V (sending became' b c q r) bytes (head_wire (class_for V bytes) (unique_of bytes) list)
+    → SentFirst V (sending became'' a c p r) (take (i + 1) ms) all (wires V (drop (i + 1) ms) list')
 sent_more V became became' became'' joins a b c ms i m bytes list list' all p q r lt at is left one two =
     let step = sent_first_more V became became' became'' joins a b c (take i ms) all (wires V (drop i ms) list) (wires V (drop (i + 1) ms) list') bytes
     (head_wire (class_for V bytes) (unique_of bytes) list) p q r
     (ap (λ x. wires V x list) (left_at ms i m bytes lt at is) ∙ ap (λ x. head_wire (class_for V bytes) (unique_of bytes) list ∷ wires V (drop (i + 1) ms) x)
     (sym left)) one two in
-    subst (λ f. SentFirst V became'' a c f all (wires V (drop (i + 1) ms) list') p r) (taken_at ms i m bytes lt at is) step
+    subst (λ f. SentFirst V (sending became'' a c p r) f all (wires V (drop (i + 1) ms) list')) (taken_at ms i m bytes lt at is) step
 
 -- an answer wasn't sent whole
 some_by : (V : OpcodeSet) (became became' became'' : List PortEvent → Type 0) → ((xs ys : List PortEvent) → became xs → became' ys → became'' (xs ++ ys)) → (fault : Fault) (a b c : PortState) (prefix answers left left' : List (List ℕ)) (bytes : List ℕ) (p q : List ℕ) → left ≡ bytes ∷ left'
-    → SentFirst V became a b prefix answers left p q → SendFails fault became' b c bytes
+    → SentFirst V (sending became a b p q) prefix answers left → SendFails fault became' b c bytes
     → SentSome became'' a c answers fault
 some_by V became became' became'' joins Memory a b c prefix answers left left' bytes p q is one same =
     let all = hands_same became became' became'' joins (RestsOfAll one.marks) one.hands same.1 in
@@ -164,7 +176,7 @@ some_by V became became' became'' joins (Store x) a b c prefix answers left left
 
 pub sent_some : (V : OpcodeSet) (became became' became'' : List PortEvent → Type 0) → ((xs ys : List PortEvent) → became xs → became' ys → became'' (xs ++ ys)) → (fault : Fault) (a b c : PortState) (ms : List (List ℕ)) (i : ℕ) (m bytes : List ℕ) (list : List Said) (all : List (List ℕ)) (p q : List ℕ)
     → i < length ms → m ≡ get_or ms i m → bytes ≡ m
-    → SentFirst V became a b (take i ms) all (wires V (drop i ms) list) p q → SendFails fault became' b c (head_wire (class_for V bytes) (unique_of bytes) list)
+    → SentFirst V (sending became a b p q) (take i ms) all (wires V (drop i ms) list) → SendFails fault became' b c (head_wire (class_for V bytes) (unique_of bytes) list)
     → SentSome became'' a c all fault
 sent_some V became became' became'' joins fault a b c ms i m bytes list all p q lt at is one two =
     some_by V became became' became'' joins fault a b c (take i ms) all (wires V (drop i ms) list) (wires V (drop (i + 1) ms) (left_by (class_for V bytes) list))
@@ -172,7 +184,7 @@ sent_some V became became' became'' joins fault a b c ms i m bytes list all p q 
     (ap (λ x. wires V x list) (left_at ms i m bytes lt at is)) one two
 
 pub sent_all : (V : OpcodeSet) (became : List PortEvent → Type 0) → (a b : PortState) (ms left all : List (List ℕ)) (prefix : List (List ℕ)) (p q : List ℕ) → left ≡ [] → prefix ≡ ms
-    → SentFirst V became a b prefix all left p q → SentAll V became a b ms all p q
+    → SentFirst V (sending became a b p q) prefix all left → SentAll V (sending became a b p q) ms all
 sent_all V became a b ms left all prefix p q none same one = record {
   marks = one.marks;
   whole = sym (one.whole ∙ ap (λ x. replies one.marks ++ x) none ∙ append-nil (replies one.marks));
@@ -228,9 +240,9 @@ bare_settles true e i = refl
 bare_settles false e i = refl
 
 pub next_silent : (V : OpcodeSet) (became : List PortEvent → Type 0) → became [] → (p : PortState) (m : List ℕ) (list : List Said) (pending : List ℕ) → Silent ≡ class_for V m
-    → SentNext V became p p m (head_wire (class_for V m) (unique_of m) list) pending pending
+    → SentNext V (sending became p p pending pending) m (head_wire (class_for V m) (unique_of m) list)
 next_silent V became nothing p m list pending is =
-    subst (λ k. SentNext V became p p m (head_wire k (unique_of m) list) pending pending) is
+    subst (λ k. SentNext V (sending became p p pending pending) m (head_wire k (unique_of m) list)) is
     (sent_nothing V became nothing p m pending (subst (λ k. settles_if (p.confirms || false) k (message_id m) ≡ []) is (silent_settles (p.confirms || false) (message_id m))))
 
 pub left_silent : (V : OpcodeSet) → (m : List ℕ) (list : List Said) → Silent ≡ class_for V m → list ≡ left_by (class_for V m) list
@@ -241,11 +253,11 @@ left_bare V m e list is = subst (λ k. list ≡ left_by k list) is refl
 
 pub next_bare : (V : OpcodeSet) (became : List PortEvent → Type 0) → (a b : PortState) (m : List ℕ) (e : Errno) (gone : Bool) (list : List Said) (pending : List ℕ) → Bare e ≡ class_for V m
     → SentWhole a b (wire e.0 [] (unique_of m)) gone → Hands became (wire e.0 [] (unique_of m)) true
-    → SentNext V became a b m (head_wire (class_for V m) (unique_of m) list) pending pending
+    → SentNext V (sending became a b pending pending) m (head_wire (class_for V m) (unique_of m) list)
 next_bare V became a b m e gone list pending is sent hands =
     let none : settles_if (a.confirms || gone) (class_for V m) (message_id m) ≡ [] = subst (λ k. settles_if (a.confirms || gone) k (message_id m) ≡ []) is
     (bare_settles (a.confirms || gone) e (message_id m)) in
-    subst (λ k. SentNext V became a b m (head_wire k (unique_of m) list) pending pending) is
+    subst (λ k. SentNext V (sending became a b pending pending) m (head_wire k (unique_of m) list)) is
     (record {
       mark = record { reply = wire e.0 [] (unique_of m); gone = gone };
       reply = refl;
@@ -267,8 +279,8 @@ head_kept V m dones n d a is lt at same =
 
 pub next_kept : (V : OpcodeSet) (became : List PortEvent → Type 0) → (a b : PortState) (m : List ℕ) (dones : List Done) (n : ℕ) (d : Done) (said : Said) (p q : List ℕ) → Kept ≡ class_for V m → n < length dones
     → d ≡ get_or dones n d → said ≡ d.answer
-    → SentNext V became a b m (wire said.errno said.body (unique_of m)) p q → SentNext V became a b m (head_wire (class_for V m) (unique_of m) (drop n (answers_in dones))) p q
-next_kept V became a b m dones n d said p q is lt at same sent = subst (λ w. SentNext V became a b m w p q) (head_kept V m dones n d said is lt at same) sent
+    → SentNext V (sending became a b p q) m (wire said.errno said.body (unique_of m)) → SentNext V (sending became a b p q) m (head_wire (class_for V m) (unique_of m) (drop n (answers_in dones)))
+next_kept V became a b m dones n d said p q is lt at same sent = subst (λ w. SentNext V (sending became a b p q) m w) (head_kept V m dones n d said is lt at same) sent
 
 pub fails_kept : (V : OpcodeSet) (fault : Fault) (became : List PortEvent → Type 0) (a b : PortState) (m : List ℕ) (dones : List Done) (n : ℕ) (d : Done) (said : Said) → Kept ≡ class_for V m → n < length dones
     → d ≡ get_or dones n d → said ≡ d.answer
@@ -287,7 +299,7 @@ kept_pending false i p q when_so when_not = when_not refl ∙ sym (append-nil p)
 
 pub kept_next : (V : OpcodeSet) (became : List PortEvent → Type 0) → (a b : PortState) (m bytes : List ℕ) (gone : Bool) (p q : List ℕ) → class_for V m ≡ Kept → SentWhole a b bytes gone → Hands became bytes true
     → ((b.confirms || gone) ≡ true → q ≡ p ++ message_id m ∷ []) → ((b.confirms || gone) ≡ false → q ≡ p)
-    → SentNext V became a b m bytes p q
+    → SentNext V (sending became a b p q) m bytes
 kept_next V became a b m bytes gone p q is sent hands when_so when_not = record {
   mark = record { reply = bytes; gone = gone };
   reply = refl;

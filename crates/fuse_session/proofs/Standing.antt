@@ -2,8 +2,15 @@
 use Rattle.std.proofs.Common.{◌≡◌, ◌⊎◌, inl, inr, ℕ, Bool, true, false, List, [], ◌∷◌, ◌++◌, refl, sym, ◌∙◌}
 use Rattle.fuse_keeper.specs.History.{Entry, History, after, add, grown, is_in, Includes}
 use Rattle.fuse_keeper.specs.Model.{Model, IsRowed}
-use Rattle.fuse_keeper.specs.Stands.{Records, Stands, AreThese}
+use Rattle.fuse_keeper.specs.Stands.{Standing, StandsAt, Records, Stands, AreThese}
 use Rattle.fuse_keeper.specs.KeeperState.{KeeperState, IsSound, IsFirm, KeepsHeld, WhereHeld}
+
+abbrev pub standing : (M : Model) → M.State → History → List ℕ → Standing M
+standing M s h t = record { state = s; history = h; settled = t }
+
+-- these rows and records stand so
+abbrev pub StandAt : (M : Model) → M.Rows → Records → Standing M → Type 0
+StandAt M rows records at = StandsAt M (record { rows = rows; records = records }) at
 
 pub grown-append : (h : History) (xs ys : List Entry) → grown h (xs ++ ys) ≡ grown (grown h xs) ys
 grown-append h [] ys = refl

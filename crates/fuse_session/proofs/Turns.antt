@@ -1,34 +1,45 @@
 -- Groups, one after another.
-use Rattle.std.proofs.Common.{◌≡◌, ℕ, ◌+◌, ◌-◌, ◌≤◌, Bool, true, false, not, List, [], ◌∷◌, ◌++◌, length, take, drop, get_or, ◌<◌, refl, sym, ap, subst, ◌∙◌}
+use Rattle.std.proofs.Common.{◌≡◌, ⊎_elim, ℕ, ◌+◌, ◌-◌, ◌≤◌, Bool, true, false, not, List, [], ◌∷◌, ◌++◌, length, take, drop, get_or, ◌<◌, refl, sym, ap, subst, ◌∙◌}
 use Rattle.std.proofs.Common.{append_assoc, arith, length-append, length-drop}
-use Rattle.std.proofs.lemmas.List.{append-nil, take-append-drop, take_all, take_more, drop-drop, map-append, length-map}
+use Rattle.std.proofs.lemmas.List.{append-nil, take-append-drop, take_all, drop_all, take_more, drop-drop, map-append, length-map}
 use Rattle.std.proofs.Math.Seq.{take-add}
 use Rattle.fuse_request.specs.Opcodes.{OpcodeSet}
 use Rattle.fuse_wire.specs.declared.moment.Moment.{Moment}
 use Rattle.fuse_request.specs.Stream.{joined}
-use Rattle.fuse_keeper.specs.History.{History, grown, said, Includes, HistoriesGrow}
+use Rattle.fuse_keeper.specs.declared.fault.StoreFault.{StoreFault}
+use Rattle.fuse_keeper.specs.Group.{left_pending}
+use Rattle.fuse_keeper.specs.History.{History, grown, said, is_in, Includes, HistoriesGrow}
 use Rattle.fuse_keeper.specs.Model.{Model}
-use Rattle.fuse_keeper.specs.Stands.{Stands}
-use Rattle.fuse_keeper.specs.KeeperState.{KeeperState, StandsFor, IsFirm}
+use Rattle.fuse_keeper.specs.Stands.{Standing, Stands}
+use Rattle.fuse_keeper.specs.KeeperState.{KeeperState, StandsFor, IsFirm, AnswersNoMore}
 use Rattle.fuse_session.specs.declared.counts.SessionCounts.{SessionCounts}
+use Rattle.fuse_session.specs.declared.ended.Ended.{Ended}
+use Rattle.fuse_session.specs.declared.ended.Ended.TheVariants as ended
 use Rattle.fuse_session.specs.declared.group.Next.{Next}
 use Rattle.fuse_session.specs.declared.group.Next.TheVariants.{GoesOn as GoesOnHere, Destroyed, ZeroUnique}
 use Rattle.fuse_session.specs.Port.{PortState}
 use Rattle.fuse_session.specs.Processed.{Timed, bytes_of, kept_in, answers, says_zero, message_id, StartsZero, GoesOn, moments_in}
 use Rattle.fuse_session.specs.Settling.{Mark, replies, settled_in, NoneComesAgain, Replied, FewHave}
 use Rattle.fuse_session.specs.Counting.{plus, none_counted, counted}
-use Rattle.fuse_session.specs.Serving.{Turned, Lived, Exact, Broken, ProcessedAll, lasts, goes_on}
+use Rattle.fuse_session.specs.Batches.{Batch, timed_in, marks_in, pending_after, left_over, AllAnswered}
+use Rattle.fuse_session.specs.Ended.{ended_store, MayEnd}
+use Rattle.fuse_session.specs.Passage.{Passage, passage}
+use Rattle.fuse_session.specs.Exchange.{grown_by, HoldsAt, Lived, Exact}
+use Rattle.fuse_session.specs.Serving.{Work, settled_with, Turned, Broken, ProcessedAll, lasts, goes_on}
+use Rattle.fuse_session.proofs.Standing.{standing, StandAt}
+use Rattle.fuse_session.proofs.Handing.{left_within}
 use Rattle.fuse_session.proofs.Replies.{replied_none, replied_more, joined-append, replies-append}
 use Rattle.fuse_session.proofs.Outs.{answers-append, grown_kept, Works-append, GoesOn-append}
-use Rattle.fuse_session.proofs.Settled.{settled-append, again-parts}
+use Rattle.fuse_session.proofs.Settled.{settled-append, again-parts, includes_left, includes_right, in_either}
 use Rattle.fuse_session.proofs.Gathering.{moments-append}
 use Rattle.fuse_session.proofs.Batching.{are_more, answered_more, answered_last, answered_all, asked_both, left_both, rests_more, some_more, some_all}
 use Rattle.fuse_session.proofs.Transcripts.{handed_more}
-use Rattle.fuse_session.specs.Deeds.{Deeds, no_deeds, then_did}
+use Rattle.fuse_session.specs.Deeds.{Deeds}
+use Rattle.fuse_session.proofs.Doing.{no_deeds, then_did}
 use Rattle.fuse_session.specs.Transcript.{PortEvent, handed_in}
 use Rattle.fuse_session.specs.Slices.{RestsOfAll, RestsOfSome}
 use Rattle.fuse_session.proofs.Counted.{counted-append}
-use Rattle.fuse_session.proofs.Groups.{leaves_map, firm_leaves, lived_all, exact_all}
+use Rattle.fuse_session.proofs.Groups.{exchanged, leaves_map, firm_leaves, lived_all, exact_all}
 
 bytes-append : (xs ys : List Timed) → bytes_of (xs ++ ys) ≡ bytes_of xs ++ bytes_of ys
 bytes-append xs ys = map-append (λ (t : Timed). t.bytes) xs ys
@@ -36,23 +47,16 @@ bytes-append xs ys = map-append (λ (t : Timed). t.bytes) xs ys
 -- nothing was processed
 pub turned_quiet : (M : Model) → (holds : KeeperState M) (did : Deeds → Type 0) (p q : PortState) (pending : List ℕ) (deeds : Deeds) → did deeds
     → deeds.moments ≡ [] → deeds.asked ≡ [] → handed_in deeds.events ≡ [] → Replied p q [] []
-    → Turned holds holds did p q pending pending [] true none_counted
+    → Turned (passage holds holds p q did) pending pending [] true none_counted
 turned_quiet M holds did p q pending deeds done none unasked unhanded replied = record {
-  timed = [];
-  marks = [];
+  work = record { timed = []; marks = []; deeds = deeds; done = done; batches = []; are = record { messages = refl; answers = refl }; asked = unasked };
   bytes = refl;
   full = refl;
-  deeds = deeds;
-  done = done;
   moments = none;
-  batches = [];
-  are = record { messages = refl; answers = refl };
   answered = tt;
-  asked = unasked;
   left = refl;
   slices = unhanded;
   replied = replied;
-  handed = λ t within. subst (λ (u : List ℕ). Includes u pending) (sym (append-nil t)) within;
   all = λ honest s h t so within again. record {
     works = tt;
     goes = λ _. tt;
@@ -65,7 +69,7 @@ turned_quiet M holds did p q pending deeds done none unasked unhanded replied = 
 }
 
 pub turned_none : (M : Model) → (holds : KeeperState M) (did : Deeds → Type 0) (p : PortState) (pending : List ℕ) → did no_deeds
-    → Turned holds holds did p p pending pending [] true none_counted
+    → Turned (passage holds holds p p did) pending pending [] true none_counted
 turned_none M holds did p pending none = turned_quiet M holds did p p pending no_deeds none refl refl refl (replied_none p)
 
 -- the moments of two rows of messages
@@ -98,81 +102,120 @@ again_both V c c' t xs ys ms ns same full each =
     (subst (λ b. NoneComesAgain V c t b (ms ++ ns)) (bytes-append xs ys) each) in
     (parts.0, subst (λ b. NoneComesAgain V b (t ++ settled_in V c (bytes_of xs) ms) (bytes_of ys) ns) (sym same) parts.1)
 
--- messages, and then others
-pub turned_more : (M : Model) → HistoriesGrow M → (holds mid new : KeeperState M) (did did' did'' : Deeds → Type 0) (p q r : PortState)
-    (ids ids' ids'' : List ℕ) (prefix prefix' : List (List ℕ)) (going : Bool) (counts counts' : SessionCounts)
-    → (one : Turned holds mid did p q ids ids' prefix true counts) → Turned mid new did' q r ids' ids'' prefix' going counts' → (new.is_honest → mid.is_honest)
-    → ((b : Deeds) → did' b → did'' (then_did one.deeds b))
-    → Turned holds new did'' p r ids ids'' (prefix ++ prefix') going (plus counts counts')
-turned_more M grows holds mid new did did' did'' p q r ids ids' ids'' prefix prefix' going counts counts' one two honest_too onward = record {
+-- ---- the ids that are pending
+
+both_included : (t pending mid more pending' : List ℕ) → Includes t pending → ((u : List ℕ) → Includes u pending → Includes u mid) → pending' ≡ mid ++ more
+    → Includes (t ++ more) pending'
+both_included t pending mid more pending' within f is i there =
+    ⊎_elim (λ old. includes_left t more i (f t within i old)) (λ new. includes_right t more i new) (in_either mid more i (sym (ap (λ x. is_in x i) is) ∙ there))
+
+-- the ids that are pending after batches were settled before or by the answers to these
+left_settled : (V : OpcodeSet) (c : Bool) (pending : List ℕ) (bs : List Batch) (t : List ℕ) → AllAnswered bs → Includes t pending
+    → Includes (t ++ settled_in V c (bytes_of (timed_in bs)) (marks_in bs)) (left_over V c pending bs)
+left_settled V c pending [] t answered within = subst (λ (u : List ℕ). Includes u pending) (sym (append-nil t)) within
+left_settled V c pending (b ∷ bs) t answered within =
+    let es = kept_in V b.timed in
+    let here = settled_in V c (bytes_of b.timed) b.marks in
+    subst (λ (u : List ℕ). Includes u (left_over V c (pending_after V c pending b) bs))
+    (settled_both V c c t b.timed (timed_in bs) b.marks (marks_in bs) refl answered.0)
+    (left_settled V c (pending_after V c pending b) bs (t ++ here) answered.1
+    (both_included t pending (left_pending es pending) here (pending_after V c pending b) within (left_within pending (left_pending es pending) es refl) refl))
+
+pub still_pending : (M : Model) → (p : Passage M) (ids ids' : List ℕ) (prefix : List (List ℕ)) (going : Bool) (counts : SessionCounts)
+    → (one : Turned p ids ids' prefix going counts) → (t : List ℕ) → Includes t ids → Includes (settled_with t one.work) ids'
+still_pending M p ids ids' prefix going counts one t within =
+    let w = one.work in
+    let c = p.port.confirms in
+    subst (λ (l : List ℕ). Includes (settled_with t w) l) (sym one.left)
+    (subst (λ (ts : List Timed). Includes (t ++ settled_in M.serves c (bytes_of ts) w.marks) (left_over M.serves c ids w.batches)) (sym w.are.messages)
+    (subst (λ (ms : List Mark). Includes (t ++ settled_in M.serves c (bytes_of (timed_in w.batches)) ms) (left_over M.serves c ids w.batches)) (sym w.are.answers)
+    (left_settled M.serves c ids w.batches t one.answered within)))
+
+-- ---- messages, and then others
+
+-- what was done for both
+abbrev work_more : (M : Model) → (holds mid new : KeeperState M) (did did' did'' : Deeds → Type 0) (p q r : PortState) (ids ids' : List ℕ)
+    → (one : Work (passage holds mid p q did) ids) (two : Work (passage mid new q r did') ids') → q.confirms ≡ p.confirms
+    → ids' ≡ left_over M.serves p.confirms ids one.batches → ((b : Deeds) → did' b → did'' (then_did one.deeds b))
+    → Work (passage holds new p r did'') ids
+work_more M holds mid new did did' did'' p q r ids ids' one two same left onward = record {
   timed = one.timed ++ two.timed;
   marks = one.marks ++ two.marks;
-  bytes = ap (λ f. f ++ prefix') one.bytes ∙ ap (λ f. bytes_of one.timed ++ f) two.bytes ∙ sym (bytes-append one.timed two.timed);
-  full = length-append one.marks two.marks ∙ ap (λ n. n + length two.marks) one.full ∙ ap (λ n. length one.timed + n) two.full
-      ∙ sym (length-append one.timed two.timed);
   deeds = then_did one.deeds two.deeds;
   done = onward two.deeds two.done;
-  moments = moments_both M.serves one.timed two.timed one.deeds.moments two.deeds.moments [] one.moments
-      (two.moments ∙ sym (append-nil (moments_in M.serves two.timed))) ∙ append-nil (moments_in M.serves (one.timed ++ two.timed));
   batches = one.batches ++ two.batches;
   are = are_more one.batches two.batches one.timed two.timed one.marks two.marks one.are two.are;
-  answered = answered_more one.batches two.batches one.answered two.answered;
-  asked = asked_both M.serves p.confirms q.confirms ids ids' one.batches two.batches one.deeds.asked two.deeds.asked one.replied.confirms one.left one.asked
-      two.asked;
-  left = left_both M.serves p.confirms q.confirms ids ids' ids'' one.batches two.batches one.replied.confirms one.left two.left;
-  slices = slices_both one.marks two.marks one.deeds.events two.deeds.events one.slices two.slices;
-  replied = replied_more p q r one.marks two.marks [] one.replied two.replied;
-  handed = λ t within. subst (λ (u : List ℕ). Includes u ids'')
-      (settled_both M.serves p.confirms q.confirms t one.timed two.timed one.marks two.marks one.replied.confirms one.full)
-      (two.handed (t ++ settled_in M.serves p.confirms (bytes_of one.timed) one.marks) (one.handed t within));
-  all = λ is s h t so within again.
-      let c = p.confirms in
-      let parts = again_both M.serves c q.confirms t one.timed two.timed one.marks two.marks one.replied.confirms one.full again in
-      let a = one.all (honest_too is) s h t so within parts.0 in
-      let g = grown h (kept_in M.serves one.timed) in
-      let u = t ++ settled_in M.serves c (bytes_of one.timed) one.marks in
-      let b = two.all is s g u a.stands (one.handed t within) parts.1 in
-      record {
-        works = Works-append M s h one.timed two.timed (a.goes refl) b.works;
-        goes = λ going_on. GoesOn-append M s h one.timed two.timed (a.goes refl) (b.goes going_on);
-        last = λ over.
-            let l = b.last over in
-            record {
-              earlier = one.timed ++ l.earlier;
-              one = l.one;
-              parts = ap (λ f. one.timed ++ f) l.parts ∙ sym (append_assoc one.timed l.earlier (l.one ∷ []));
-              ends = (l.ends.0, ap (λ x. says_zero (said M s x (message_id l.one.bytes))) (grown_kept M.serves h one.timed two.timed) ∙ l.ends.1);
-            };
-        stands = subst (λ x. StandsFor new s x (t ++ settled_in M.serves c (bytes_of (one.timed ++ two.timed)) (one.marks ++ two.marks)))
-            (sym (grown_kept M.serves h one.timed two.timed))
-            (subst (StandsFor new s (grown g (kept_in M.serves two.timed)))
-            (settled_both M.serves c q.confirms t one.timed two.timed one.marks two.marks one.replied.confirms one.full) b.stands);
-        sent = replies-append one.marks two.marks ∙ ap (λ x. x ++ replies two.marks) a.sent ∙ ap (λ x. answers M s g one.timed ++ x) b.sent
-            ∙ sym (answers-append M grows s h one.timed two.timed);
-        counts_are = ap (λ x. plus x counts') a.counts_are ∙ ap (plus (counted M.serves h one.timed)) b.counts_are ∙ sym (counted-append M.serves h one.timed two.timed);
-      };
-  few = λ is t again h.
-      let c = p.confirms in
-      let parts = again_both M.serves c q.confirms t one.timed two.timed one.marks two.marks one.replied.confirms one.full again in
-      subst (λ (u : List ℕ). FewHave new u ids'') (settled_both M.serves c q.confirms t one.timed two.timed one.marks two.marks one.replied.confirms one.full)
-      (two.few is (t ++ settled_in M.serves c (bytes_of one.timed) one.marks) parts.1 (one.few (honest_too is) t parts.0 h));
+  asked = asked_both M.serves p.confirms q.confirms ids ids' one.batches two.batches one.deeds.asked two.deeds.asked same left one.asked two.asked;
 }
 
+pub turned_more : (M : Model) → HistoriesGrow M → (holds mid new : KeeperState M) (did did' did'' : Deeds → Type 0) (p q r : PortState)
+    (ids ids' ids'' : List ℕ) (prefix prefix' : List (List ℕ)) (going : Bool) (counts counts' : SessionCounts)
+    → (one : Turned (passage holds mid p q did) ids ids' prefix true counts) → Turned (passage mid new q r did') ids' ids'' prefix' going counts'
+    → (new.is_honest → mid.is_honest) → ((b : Deeds) → did' b → did'' (then_did one.work.deeds b))
+    → Turned (passage holds new p r did'') ids ids'' (prefix ++ prefix') going (plus counts counts')
+turned_more M grows holds mid new did did' did'' p q r ids ids' ids'' prefix prefix' going counts counts' one two honest_too onward =
+    let a = one.work in
+    let b = two.work in
+    let c = p.confirms in
+    let same = one.replied.confirms in
+    record {
+      work = work_more M holds mid new did did' did'' p q r ids ids' a b same one.left onward;
+      bytes = ap (λ f. f ++ prefix') one.bytes ∙ ap (λ f. bytes_of a.timed ++ f) two.bytes ∙ sym (bytes-append a.timed b.timed);
+      full = length-append a.marks b.marks ∙ ap (λ n. n + length b.marks) one.full ∙ ap (λ n. length a.timed + n) two.full
+          ∙ sym (length-append a.timed b.timed);
+      moments = moments_both M.serves a.timed b.timed a.deeds.moments b.deeds.moments [] one.moments
+          (two.moments ∙ sym (append-nil (moments_in M.serves b.timed))) ∙ append-nil (moments_in M.serves (a.timed ++ b.timed));
+      answered = answered_more a.batches b.batches one.answered two.answered;
+      left = left_both M.serves c q.confirms ids ids' ids'' a.batches b.batches same one.left two.left;
+      slices = slices_both a.marks b.marks a.deeds.events b.deeds.events one.slices two.slices;
+      replied = replied_more p q r a.marks b.marks [] one.replied two.replied;
+      all = λ is s h t so within again.
+          let parts = again_both M.serves c q.confirms t a.timed b.timed a.marks b.marks same one.full again in
+          let x = one.all (honest_too is) s h t so within parts.0 in
+          let g = grown h (kept_in M.serves a.timed) in
+          let u = t ++ settled_in M.serves c (bytes_of a.timed) a.marks in
+          let y = two.all is s g u x.stands (still_pending M (passage holds mid p q did) ids ids' prefix true counts one t within) parts.1 in
+          record {
+            works = Works-append M s h a.timed b.timed (x.goes refl) y.works;
+            goes = λ going_on. GoesOn-append M s h a.timed b.timed (x.goes refl) (y.goes going_on);
+            last = λ over.
+                let l = y.last over in
+                record {
+                  earlier = a.timed ++ l.earlier;
+                  one = l.one;
+                  parts = ap (λ f. a.timed ++ f) l.parts ∙ sym (append_assoc a.timed l.earlier (l.one ∷ []));
+                  ends = (l.ends.0, ap (λ z. says_zero (said M s z (message_id l.one.bytes))) (grown_kept M.serves h a.timed b.timed) ∙ l.ends.1);
+                };
+            stands = subst (λ z. StandsFor new s z (t ++ settled_in M.serves c (bytes_of (a.timed ++ b.timed)) (a.marks ++ b.marks)))
+                (sym (grown_kept M.serves h a.timed b.timed))
+                (subst (StandsFor new s (grown g (kept_in M.serves b.timed)))
+                (settled_both M.serves c q.confirms t a.timed b.timed a.marks b.marks same one.full) y.stands);
+            sent = replies-append a.marks b.marks ∙ ap (λ z. z ++ replies b.marks) x.sent ∙ ap (λ z. answers M s g a.timed ++ z) y.sent
+                ∙ sym (answers-append M grows s h a.timed b.timed);
+            counts_are = ap (λ z. plus z counts') x.counts_are ∙ ap (plus (counted M.serves h a.timed)) y.counts_are
+                ∙ sym (counted-append M.serves h a.timed b.timed);
+          };
+      few = λ is t again h.
+          let parts = again_both M.serves c q.confirms t a.timed b.timed a.marks b.marks same one.full again in
+          subst (λ (u : List ℕ). FewHave new u ids'') (settled_both M.serves c q.confirms t a.timed b.timed a.marks b.marks same one.full)
+          (two.few is (t ++ settled_in M.serves c (bytes_of a.timed) a.marks) parts.1 (one.few (honest_too is) t parts.0 h));
+    }
+
 -- a life after messages that were answered
-lived_more : (M : Model) → HistoriesGrow M → (stood : History → List ℕ → Type 0) (s : M.State) (h : History) (c c' : Bool) (t : List ℕ) (xs ys : List Timed)
+lived_more : (M : Model) → HistoriesGrow M → (Stood : Standing M → Type 0) (s : M.State) (h : History) (c c' : Bool) (t : List ℕ) (xs ys : List Timed)
     (ms ns : List Mark) (part : List ℕ) → c' ≡ c → length ms ≡ length xs
     → GoesOn M s h xs → replies ms ≡ answers M s (grown h (kept_in M.serves xs)) xs
-    → Lived M stood s (grown h (kept_in M.serves xs)) c' (t ++ settled_in M.serves c (bytes_of xs) ms) ys ns part
-    → Lived M stood s h c t (xs ++ ys) (ms ++ ns) part
-lived_more M grows stood s h c c' t xs ys ms ns part same full goes sent l =
+    → Lived M (grown_by (standing M s h t) (exchanged c xs ms)) (exchanged c' ys ns) Stood part
+    → Lived M (standing M s h t) (exchanged c (xs ++ ys) (ms ++ ns)) Stood part
+lived_more M grows Stood s h c c' t xs ys ms ns part same full goes sent l =
     let g = grown h (kept_in M.serves xs) in
     record {
       worked = xs ++ l.worked;
       unprocessed = l.unprocessed;
       parts = ap (λ f. xs ++ f) l.parts ∙ sym (append_assoc xs l.worked l.unprocessed);
       works = Works-append M s h xs l.worked goes l.works;
-      stands = subst (λ x. stood x (t ++ settled_in M.serves c (bytes_of (xs ++ l.worked)) (ms ++ ns))) (sym (grown_kept M.serves h xs l.worked))
-          (subst (stood (grown g (kept_in M.serves l.worked))) (settled_both M.serves c c' t xs l.worked ms ns same full) l.stands);
+      stands = subst (λ x. Stood (standing M s x (t ++ settled_in M.serves c (bytes_of (xs ++ l.worked)) (ms ++ ns)))) (sym (grown_kept M.serves h xs l.worked))
+          (subst (λ x. Stood (standing M s (grown g (kept_in M.serves l.worked)) x)) (settled_both M.serves c c' t xs l.worked ms ns same full) l.stands);
       later = l.later;
       sent = answers-append M grows s h xs l.worked ∙ ap (λ x. x ++ answers M s (grown g (kept_in M.serves l.worked)) l.worked) (sym sent)
           ∙ ap (λ x. replies ms ++ x) l.sent
@@ -182,131 +225,134 @@ lived_more M grows stood s h c c' t xs ys ms ns part same full goes sent l =
       next = l.next;
     }
 
-exact_more : (M : Model) → HistoriesGrow M → (stood stood' : History → List ℕ → Type 0) (s : M.State) (h : History) (c c' : Bool) (t : List ℕ)
+exact_more : (M : Model) → HistoriesGrow M → (Stood Stood' : Standing M → Type 0) (s : M.State) (h : History) (c c' : Bool) (t : List ℕ)
     (xs ys : List Timed) (ms ns : List Mark) → c' ≡ c → length ms ≡ length xs
-    → GoesOn M s h xs → replies ms ≡ answers M s (grown h (kept_in M.serves xs)) xs → ((g : History) (u : List ℕ) → stood g u → stood' g u)
-    → Exact M stood s (grown h (kept_in M.serves xs)) c' (t ++ settled_in M.serves c (bytes_of xs) ms) ys ns
-    → Exact M stood' s h c t (xs ++ ys) (ms ++ ns)
-exact_more M grows stood stood' s h c c' t xs ys ms ns same full goes sent f e =
+    → GoesOn M s h xs → replies ms ≡ answers M s (grown h (kept_in M.serves xs)) xs → ((after : Standing M) → Stood after → Stood' after)
+    → Exact M (grown_by (standing M s h t) (exchanged c xs ms)) (exchanged c' ys ns) Stood
+    → Exact M (standing M s h t) (exchanged c (xs ++ ys) (ms ++ ns)) Stood'
+exact_more M grows Stood Stood' s h c c' t xs ys ms ns same full goes sent f e =
     let g = grown h (kept_in M.serves xs) in
     record {
       worked = xs ++ e.worked;
       unprocessed = e.unprocessed;
       parts = ap (λ f. xs ++ f) e.parts ∙ sym (append_assoc xs e.worked e.unprocessed);
       works = Works-append M s h xs e.worked goes e.works;
-      stands = subst (λ x. stood' x (t ++ settled_in M.serves c (bytes_of (xs ++ e.worked)) (ms ++ ns))) (sym (grown_kept M.serves h xs e.worked))
-          (subst (stood' (grown g (kept_in M.serves e.worked))) (settled_both M.serves c c' t xs e.worked ms ns same full) (f _ _ e.stands));
+      stands = subst (λ x. Stood' (standing M s x (t ++ settled_in M.serves c (bytes_of (xs ++ e.worked)) (ms ++ ns)))) (sym (grown_kept M.serves h xs e.worked))
+          (subst (λ x. Stood' (standing M s (grown g (kept_in M.serves e.worked)) x)) (settled_both M.serves c c' t xs e.worked ms ns same full) (f _ e.stands));
       sent = replies-append ms ns ∙ ap (λ x. x ++ replies ns) sent ∙ ap (λ x. answers M s g xs ++ x) e.sent ∙ sym (answers-append M grows s h xs e.worked);
     }
 
+pub may_end : (may may' : StoreFault → Type 0) (e : Ended) → ((f : StoreFault) → may' f → may f) → MayEnd may' e → MayEnd may e
+may_end may may' ended.End m is = tt
+may_end may may' ended.Destroyed m is = tt
+may_end may may' ended.Turns m is = tt
+may_end may may' (ended.Frame f) m is = tt
+may_end may may' (ended.ZeroUnique at) m is = tt
+may_end may may' ended.PortFailed m is = tt
+may_end may may' (ended.Store fault) m is = m fault is
+may_end may may' ended.Memory m is = tt
+
 pub turned_broken : (M : Model) → HistoriesGrow M → (holds mid new : KeeperState M) (did did' did'' : Deeds → Type 0) (p q r : PortState)
-    (ids ids' : List ℕ)
-    (prefix messages : List (List ℕ)) (counts : SessionCounts) (exact want : Bool) (faulted faulted' : Type 0)
-    → (one : Turned holds mid did p q ids ids' prefix true counts) → Broken mid new did' q r ids' messages exact want faulted' → (mid.is_honest → faulted' → faulted)
-    → (new.is_clean → new.is_honest) → (new.is_honest → mid.is_honest) → (mid.is_honest → IsFirm holds → IsFirm mid)
-    → ((b : Deeds) → did' b → did'' (then_did one.deeds b))
-    → Broken holds new did'' p r ids (prefix ++ messages) exact want faulted
-turned_broken M grows holds mid new did did' did'' p q r ids ids' prefix messages counts exact want faulted faulted' one two faulted_too clean_honest
-    honest_too firm_too onward =
+    (ids ids' : List ℕ) (prefix messages : List (List ℕ)) (counts : SessionCounts) (e : Ended)
+    → (one : Turned (passage holds mid p q did) ids ids' prefix true counts) → Broken (passage mid new q r did') ids' messages e
+    → AnswersNoMore holds mid → (new.is_honest → mid.is_honest) → (mid.is_honest → IsFirm holds → IsFirm mid)
+    → ((b : Deeds) → did' b → did'' (then_did one.work.deeds b))
+    → Broken (passage holds new p r did'') ids (prefix ++ messages) e
+turned_broken M grows holds mid new did did' did'' p q r ids ids' prefix messages counts e one two no_more honest_too firm_too onward =
+    let a = one.work in
+    let b = two.work in
     let c = p.confirms in
-    let ts = one.timed ++ two.timed in
-    let marks = one.marks ++ two.marks in
+    let same = one.replied.confirms in
+    let pass = passage holds mid p q did in
+    let still = still_pending M pass ids ids' prefix true counts one in
     record {
-      timed = ts;
+      work = work_more M holds mid new did did' did'' p q r ids ids' a b same one.left onward;
       others = two.others;
-      marks = marks;
       part = two.part;
-      prefix = ap (λ f. f ++ messages) one.bytes ∙ ap (λ f. bytes_of one.timed ++ f) two.prefix
-          ∙ sym (append_assoc (bytes_of one.timed) (bytes_of two.timed) two.others)
-          ∙ ap (λ f. f ++ two.others) (sym (bytes-append one.timed two.timed));
-      deeds = then_did one.deeds two.deeds;
-      done = onward two.deeds two.done;
+      prefix = ap (λ f. f ++ messages) one.bytes ∙ ap (λ f. bytes_of a.timed ++ f) two.prefix
+          ∙ sym (append_assoc (bytes_of a.timed) (bytes_of b.timed) two.others)
+          ∙ ap (λ f. f ++ two.others) (sym (bytes-append a.timed b.timed));
       moments = (
         two.moments.0,
-        moments_both M.serves one.timed two.timed one.deeds.moments two.deeds.moments two.moments.0 one.moments two.moments.1,
+        moments_both M.serves a.timed b.timed a.deeds.moments b.deeds.moments two.moments.0 one.moments two.moments.1,
       );
-      batches = one.batches ++ two.batches;
-      are = are_more one.batches two.batches one.timed two.timed one.marks two.marks one.are two.are;
-      answered = answered_last one.batches two.batches one.answered two.answered;
-      asked = asked_both M.serves p.confirms q.confirms ids ids' one.batches two.batches one.deeds.asked two.deeds.asked one.replied.confirms one.left one.asked
-          two.asked;
-      slices = subst (RestsOfSome marks two.part) (sym (handed_more one.deeds.events two.deeds.events))
-          (some_more one.marks two.marks two.part (handed_in one.deeds.events) (handed_in two.deeds.events) one.slices two.slices);
-      all_slices = λ is. slices_both one.marks two.marks one.deeds.events two.deeds.events one.slices (two.all_slices is);
-      replied = replied_more p q r one.marks two.marks two.part one.replied two.replied;
-      no_part = two.no_part;
-      exactly = λ how is s h t so within again.
-          let parts = again_both M.serves c q.confirms t one.timed two.timed one.marks two.marks one.replied.confirms one.full again in
-          let a = one.all (honest_too is) s h t so within parts.0 in
-          exact_more M grows (λ g u. exact ≡ true → new.is_clean → StandsFor new s g u × faulted') (λ g u. exact ≡ true → new.is_clean → StandsFor new s g u
-          × faulted)
-          s h c q.confirms t one.timed two.timed one.marks two.marks one.replied.confirms one.full (a.goes refl) a.sent
-          (λ g u stands store clean. ((stands store clean).0, faulted_too (honest_too is) (stands store clean).1))
-          (two.exactly how is s (grown h (kept_in M.serves one.timed)) (t ++ settled_in M.serves c (bytes_of one.timed) one.marks) a.stands (one.handed t within) parts.1);
-      life = λ clean s h t so within again.
-          let parts = again_both M.serves c q.confirms t one.timed two.timed one.marks two.marks one.replied.confirms one.full again in
-          let a = one.all (honest_too (clean_honest clean)) s h t so within parts.0 in
-          lived_more M grows (StandsFor new s) s h c q.confirms t one.timed two.timed one.marks two.marks two.part one.replied.confirms one.full
-          (a.goes refl) a.sent
-          (two.life clean s (grown h (kept_in M.serves one.timed)) (t ++ settled_in M.serves c (bytes_of one.timed) one.marks) a.stands (one.handed t within) parts.1);
+      answered = answered_last a.batches b.batches one.answered two.answered;
+      slices = subst (RestsOfSome (a.marks ++ b.marks) two.part) (sym (handed_more a.deeds.events b.deeds.events))
+          (some_more a.marks b.marks two.part (handed_in a.deeds.events) (handed_in b.deeds.events) one.slices two.slices);
+      replied = replied_more p q r a.marks b.marks two.part one.replied two.replied;
+      exactly = λ how.
+          let x = two.exactly how in
+          record {
+            no_part = x.no_part;
+            slices = slices_both a.marks b.marks a.deeds.events b.deeds.events one.slices x.slices;
+            exact = λ is s h t so within again.
+                let parts = again_both M.serves c q.confirms t a.timed b.timed a.marks b.marks same one.full again in
+                let y = one.all (honest_too is) s h t so within parts.0 in
+                exact_more M grows (λ after. ended_store e ≡ true → new.is_clean → HoldsAt new after × MayEnd mid.may_answer e)
+                (λ after. ended_store e ≡ true → new.is_clean → HoldsAt new after × MayEnd holds.may_answer e)
+                s h c q.confirms t a.timed b.timed a.marks b.marks same one.full (y.goes refl) y.sent
+                (λ after stands store clean.
+                let z = stands store clean in (z.0, may_end holds.may_answer mid.may_answer e (no_more (honest_too is)) z.1))
+                (x.exact is s (grown h (kept_in M.serves a.timed)) (settled_with t a) y.stands (still t within) parts.1);
+          };
+      life = λ intact s h t so within again.
+          let parts = again_both M.serves c q.confirms t a.timed b.timed a.marks b.marks same one.full again in
+          let y = one.all (honest_too intact.honest) s h t so within parts.0 in
+          lived_more M grows (HoldsAt new) s h c q.confirms t a.timed b.timed a.marks b.marks two.part same one.full (y.goes refl) y.sent
+          (two.life intact s (grown h (kept_in M.serves a.timed)) (settled_with t a) y.stands (still t within) parts.1);
       crash = λ is firm s h t so within again.
-          let parts = again_both M.serves c q.confirms t one.timed two.timed one.marks two.marks one.replied.confirms one.full again in
-          let g = grown h (kept_in M.serves one.timed) in
-          let u = t ++ settled_in M.serves c (bytes_of one.timed) one.marks in
-          let a = one.all (honest_too is) s h t so within parts.0 in
-          leaves_map M new (λ x r. Lived M (Stands M x r s) s g q.confirms u two.timed two.marks two.part)
-          (λ x r. Lived M (Stands M x r s) s h c t ts marks two.part)
-          (λ x r l. lived_more M grows (Stands M x r s) s h c q.confirms t one.timed two.timed one.marks two.marks two.part one.replied.confirms one.full
-          (a.goes refl) a.sent l)
-          (two.crash is (firm_too (honest_too is) firm) s g u a.stands (one.handed t within) parts.1);
-      few = λ is clean t again h.
-          let parts = again_both M.serves c q.confirms t one.timed two.timed one.marks two.marks one.replied.confirms one.full again in
-          let f = two.few is clean (t ++ settled_in M.serves c (bytes_of one.timed) one.marks) parts.1 (one.few (honest_too is) t parts.0 h) in (
+          let parts = again_both M.serves c q.confirms t a.timed b.timed a.marks b.marks same one.full again in
+          let g = grown h (kept_in M.serves a.timed) in
+          let u = settled_with t a in
+          let y = one.all (honest_too is) s h t so within parts.0 in
+          leaves_map M new (λ x r. Lived M (standing M s g u) (exchanged q.confirms b.timed b.marks) (StandAt M x r) two.part)
+          (λ x r. Lived M (standing M s h t) (exchanged c (a.timed ++ b.timed) (a.marks ++ b.marks)) (StandAt M x r) two.part)
+          (λ x r l. lived_more M grows (StandAt M x r) s h c q.confirms t a.timed b.timed a.marks b.marks two.part same one.full (y.goes refl) y.sent l)
+          (two.crash is (firm_too (honest_too is) firm) s g u y.stands (still t within) parts.1);
+      few = λ intact t again h.
+          let parts = again_both M.serves c q.confirms t a.timed b.timed a.marks b.marks same one.full again in
+          let f = two.few intact (settled_with t a) parts.1 (one.few (honest_too intact.honest) t parts.0 h) in (
             f.0,
-            subst (λ (u : List ℕ). FewHave new u f.0) (settled_both M.serves c q.confirms t one.timed two.timed one.marks two.marks one.replied.confirms one.full)
-                f.1,
+            subst (λ (u : List ℕ). FewHave new u f.0) (settled_both M.serves c q.confirms t a.timed b.timed a.marks b.marks same one.full) f.1,
           );
     }
 
 -- messages that were answered, as a life, with others after them
 pub turned_life : (M : Model) → (holds new : KeeperState M) (did : Deeds → Type 0) (p q : PortState) (ids ids' : List ℕ)
-    (prefix others messages : List (List ℕ)) (going : Bool) (counts : SessionCounts) (exact want : Bool) (faulted : Type 0) → exact ≡ false
-    → Turned holds new did p q ids ids' prefix going counts → messages ≡ prefix ++ others → (new.is_clean → new.is_honest)
-    → (new.is_honest → IsFirm holds → IsFirm new)
-    → Broken holds new did p q ids messages exact want faulted
-turned_life M holds new did p q ids ids' prefix others messages going counts exact want faulted inexact one parts clean_honest firm_still = record {
-  timed = one.timed;
-  others = others;
-  marks = one.marks;
-  part = [];
-  prefix = parts ∙ ap (λ f. f ++ others) one.bytes;
-  deeds = one.deeds;
-  done = one.done;
-  moments = ([], one.moments ∙ sym (append-nil (moments_in M.serves one.timed)));
-  batches = one.batches;
-  are = one.are;
-  answered = answered_all one.batches one.answered;
-  asked = one.asked;
-  slices = some_all one.marks (handed_in one.deeds.events) one.slices;
-  all_slices = λ _. one.slices;
-  replied = one.replied;
-  no_part = λ _. refl;
-  exactly = λ _ is s h t so within again.
-      let a = one.all is s h t so within again in
-      exact_all M (λ g u. exact ≡ true → new.is_clean → StandsFor new s g u × faulted) s h p.confirms t one.timed one.marks a.works
-      (λ store _. absurd (cc (store, inexact))) a.sent;
-  life = λ is s h t so within again.
-      let a = one.all (clean_honest is) s h t so within again in
-      lived_all M (StandsFor new s) s h p.confirms t one.timed one.marks [] [] [] a.works a.stands (sym (append-nil (replies one.marks) ∙ a.sent)) refl refl;
-  crash = λ is firm s h t so within again.
-      let a = one.all is s h t so within again in
-      leaves_map M new (λ x r. Stands M x r s (grown h (kept_in M.serves one.timed)) (t ++ settled_in M.serves p.confirms (bytes_of one.timed) one.marks))
-      (λ x r. Lived M (Stands M x r s) s h p.confirms t one.timed one.marks [])
-      (λ x r stands. lived_all M (Stands M x r s) s h p.confirms t one.timed one.marks [] [] [] a.works stands (sym (append-nil (replies one.marks) ∙ a.sent))
-      refl refl)
-      (firm_leaves M new s (grown h (kept_in M.serves one.timed)) (t ++ settled_in M.serves p.confirms (bytes_of one.timed) one.marks) (firm_still is firm) a.stands);
-  few = λ is clean t again h. (ids', one.few is t again h);
-}
+    (prefix others messages : List (List ℕ)) (going : Bool) (counts : SessionCounts) (e : Ended) → ended_store e ≡ false
+    → Turned (passage holds new p q did) ids ids' prefix going counts → messages ≡ prefix ++ others → (new.is_honest → IsFirm holds → IsFirm new)
+    → Broken (passage holds new p q did) ids messages e
+turned_life M holds new did p q ids ids' prefix others messages going counts e inexact one parts firm_still =
+    let w = one.work in
+    let x = exchanged p.confirms w.timed w.marks in
+    record {
+      work = w;
+      others = others;
+      part = [];
+      prefix = parts ∙ ap (λ f. f ++ others) one.bytes;
+      moments = ([], one.moments ∙ sym (append-nil (moments_in M.serves w.timed)));
+      answered = answered_all w.batches one.answered;
+      slices = some_all w.marks (handed_in w.deeds.events) one.slices;
+      replied = one.replied;
+      exactly = λ _. record {
+        no_part = refl;
+        slices = one.slices;
+        exact = λ is s h t so within again.
+            let a = one.all is s h t so within again in
+            exact_all M (λ after. ended_store e ≡ true → new.is_clean → HoldsAt new after × MayEnd holds.may_answer e) (standing M s h t) x a.works
+            (λ store _. absurd (cc (store, inexact))) a.sent;
+      };
+      life = λ intact s h t so within again.
+          let a = one.all intact.honest s h t so within again in
+          lived_all M (HoldsAt new) (standing M s h t) x [] [] [] a.works a.stands (sym (append-nil (replies w.marks) ∙ a.sent)) refl refl;
+      crash = λ is firm s h t so within again.
+          let a = one.all is s h t so within again in
+          leaves_map M new (λ x r. Stands M x r s (grown h (kept_in M.serves w.timed)) (settled_with t w))
+          (λ rows r. Lived M (standing M s h t) x (StandAt M rows r) [])
+          (λ rows r stands. lived_all M (StandAt M rows r) (standing M s h t) x [] [] [] a.works stands (sym (append-nil (replies w.marks) ∙ a.sent)) refl refl)
+          (firm_leaves M new s (grown h (kept_in M.serves w.timed)) (settled_with t w) (firm_still is firm) a.stands);
+      few = λ intact t again h. (ids', one.few intact.honest t again h);
+    }
 
 -- ---- places in the messages
 
@@ -341,58 +387,45 @@ lasts_on ZeroUnique is = absurd (cc is)
 pub group_more : (M : Model) → HistoriesGrow M → (holds mid new : KeeperState M) (did did' did'' : Deeds → Type 0) (p q r : PortState)
     (ids ids' ids'' : List ℕ) (messages slice : List (List ℕ)) (i n : ℕ) (going : Bool) (counts counts' sum : SessionCounts)
     → slice ≡ take (length messages - i) (drop i messages) → sum ≡ plus counts counts'
-    → (one : Turned holds mid did p q ids ids' (take i messages) true counts) → Turned mid new did' q r ids' ids'' (take n slice) going counts'
-    → (new.is_honest → mid.is_honest) → ((b : Deeds) → did' b → did'' (then_did one.deeds b))
-    → Turned holds new did'' p r ids ids'' (take (i + n) messages) going sum
+    → (one : Turned (passage holds mid p q did) ids ids' (take i messages) true counts) → Turned (passage mid new q r did') ids' ids'' (take n slice) going counts'
+    → (new.is_honest → mid.is_honest) → ((b : Deeds) → did' b → did'' (then_did one.work.deeds b))
+    → Turned (passage holds new p r did'') ids ids'' (take (i + n) messages) going sum
 group_more M grows holds mid new did did' did'' p q r ids ids' ids'' messages slice i n going counts counts' sum same sum_is one two honest_too onward =
-    subst (λ f. Turned holds new did'' p r ids ids'' f going sum) (take_parts messages i n)
-    (subst (λ c. Turned holds new did'' p r ids ids'' (take i messages ++ take n (take (length messages - i) (drop i messages))) going c) (sym sum_is)
+    subst (λ f. Turned (passage holds new p r did'') ids ids'' f going sum) (take_parts messages i n)
+    (subst (λ c. Turned (passage holds new p r did'') ids ids'' (take i messages ++ take n (take (length messages - i) (drop i messages))) going c) (sym sum_is)
     (turned_more M grows holds mid new did did' did'' p q r ids ids' ids'' (take i messages) (take n (take (length messages - i) (drop i messages))) going
     counts counts' one
-    (subst (λ x. Turned mid new did' q r ids' ids'' (take n x) going counts') same two) honest_too onward))
+    (subst (λ x. Turned (passage mid new q r did') ids' ids'' (take n x) going counts') same two) honest_too onward))
 
 -- a fault in the next group
 pub group_broken : (M : Model) → HistoriesGrow M → (holds mid new : KeeperState M) (did did' did'' : Deeds → Type 0) (p q r : PortState)
-    (ids ids' : List ℕ)
-    (messages slice : List (List ℕ)) (i : ℕ) (counts : SessionCounts) (exact want : Bool) (faulted faulted' : Type 0)
+    (ids ids' : List ℕ) (messages slice : List (List ℕ)) (i : ℕ) (counts : SessionCounts) (e : Ended)
     → slice ≡ take (length messages - i) (drop i messages)
-    → (one : Turned holds mid did p q ids ids' (take i messages) true counts) → Broken mid new did' q r ids' slice exact want faulted' → (mid.is_honest → faulted' → faulted)
-    → (new.is_clean → new.is_honest) → (new.is_honest → mid.is_honest) → (mid.is_honest → IsFirm holds → IsFirm mid)
-    → ((b : Deeds) → did' b → did'' (then_did one.deeds b))
-    → Broken holds new did'' p r ids messages exact want faulted
-group_broken M grows holds mid new did did' did'' p q r ids ids' messages slice i counts exact want faulted faulted' same one two faulted_too clean_honest
-    honest_too firm_too onward =
-    subst (λ m. Broken holds new did'' p r ids m exact want faulted) (ap (λ x. take i messages ++ x) same ∙ parts_at messages i)
-    (turned_broken M grows holds mid new did did' did'' p q r ids ids' (take i messages) slice counts exact want faulted faulted' one two faulted_too
-    clean_honest honest_too firm_too onward)
+    → (one : Turned (passage holds mid p q did) ids ids' (take i messages) true counts) → Broken (passage mid new q r did') ids' slice e
+    → AnswersNoMore holds mid → (new.is_honest → mid.is_honest) → (mid.is_honest → IsFirm holds → IsFirm mid)
+    → ((b : Deeds) → did' b → did'' (then_did one.work.deeds b))
+    → Broken (passage holds new p r did'') ids messages e
+group_broken M grows holds mid new did did' did'' p q r ids ids' messages slice i counts e same one two no_more honest_too firm_too onward =
+    subst (λ m. Broken (passage holds new p r did'') ids m e) (ap (λ x. take i messages ++ x) same ∙ parts_at messages i)
+    (turned_broken M grows holds mid new did did' did'' p q r ids ids' (take i messages) slice counts e one two no_more honest_too firm_too onward)
 
 -- the last group
-pub worked_part : (M : Model) → (holds new : KeeperState M) (did : Deeds → Type 0) (p q : PortState) (ids ids' : List ℕ) (messages slice : List (List ℕ))
-    (i n : ℕ) (rest : Next) (begin place : ℕ) (counts : SessionCounts)
+pub worked_part : (M : Model) → (pass : Passage M) (ids ids' : List ℕ) (messages slice : List (List ℕ)) (i n : ℕ) (rest : Next) (counts : SessionCounts)
     → slice ≡ take (length messages - i) (drop i messages) → (goes_on rest ≡ false) → (rest ≡ ZeroUnique → StartsZero (drop n slice))
-    → place ≡ begin + length (joined (take (i + n) messages))
-    → Turned holds new did p q ids ids' (take (i + n) messages) (lasts rest) counts → ProcessedAll holds new did p q ids ids' messages rest begin place counts
-worked_part M holds new did p q ids ids' messages slice i n rest begin place counts same over zero place_is t = record {
-  prefix = take (i + n) messages;
-  others = drop (i + n) messages;
-  parts = sym (take-append-drop (i + n) messages);
+    → Turned pass ids ids' (take (i + n) messages) (lasts rest) counts
+    → ProcessedAll pass ids ids' messages (record { count = i + n; next = rest; counts = counts })
+worked_part M pass ids ids' messages slice i n rest counts same over zero t = record {
   all = λ is. absurd (cc (is, over));
   zero = λ is. subst StartsZero (ap (drop n) (same ∙ rest_slice messages i) ∙ drop-drop n i messages) (zero is);
-  at = place_is;
   turned = t;
 }
 
-pub worked_all : (M : Model) → (holds new : KeeperState M) (did : Deeds → Type 0) (p q : PortState) (ids ids' : List ℕ) (messages : List (List ℕ))
-    (i : ℕ) (begin place : ℕ) (counts : SessionCounts)
-    → length messages ≤ i → place ≡ begin + length (joined (take i messages))
-    → Turned holds new did p q ids ids' (take i messages) true counts → ProcessedAll holds new did p q ids ids' messages GoesOnHere begin place counts
-worked_all M holds new did p q ids ids' messages i begin place counts past place_is t = record {
-  prefix = take i messages;
-  others = [];
-  parts = sym (append-nil (take i messages) ∙ take_all i messages past);
-  all = λ _. refl;
+pub worked_all : (M : Model) → (pass : Passage M) (ids ids' : List ℕ) (messages : List (List ℕ)) (i : ℕ) (counts : SessionCounts)
+    → length messages ≤ i → Turned pass ids ids' (take i messages) true counts
+    → ProcessedAll pass ids ids' messages (record { count = i; next = GoesOnHere; counts = counts })
+worked_all M pass ids ids' messages i counts past t = record {
+  all = λ _. drop_all i messages past;
   zero = λ isnt. absurd (cc isnt);
-  at = place_is;
   turned = t;
 }
 

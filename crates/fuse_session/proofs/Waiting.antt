@@ -1,5 +1,5 @@
 -- Messages that are taken, one after another.
-use Rattle.std.proofs.Common.{◌≡◌, ◌<◌, ◌+◌, ◌-◌, ℕ, List, [], ◌∷◌, ◌++◌, length, take, Option, Some, None, Ok, Err, refl, sym, ap, subst, ◌∙◌, append_assoc}
+use Rattle.std.proofs.Common.{◌≡◌, ◌<◌, ◌+◌, ◌-◌, ℕ, List, [], ◌∷◌, ◌++◌, length, take, ◌≤◌, All, Option, Some, None, Ok, Err, refl, sym, ap, subst, ◌∙◌, append_assoc}
 use Rattle.std.proofs.Common.{arith, length-append}
 use Rattle.std.specs.Option.{option_or}
 use Rattle.std.proofs.lemmas.List.{append-nil, length-take-le}
@@ -9,9 +9,18 @@ use Rattle.fuse_request.specs.declared.framer.FrameFault.TheVariants.{Short, Too
 use Rattle.fuse_request.specs.declared.header.TheConstants.{MAX_MESSAGE}
 use Rattle.fuse_request.specs.Stream.{cut, joined, IsMessage}
 use Rattle.fuse_request.specs.Framing.{Held, HasNone, Gives, GivesNext, bad_length, end_fault, ends, needed}
-use Rattle.fuse_session.specs.Receiving.{IsOpen, TookSome, TookAll}
+use Rattle.fuse_session.specs.inner.Receiving.{IsOpen, TookAll}
 use Rattle.fuse_session.proofs.Replies.{joined-append}
 use Rattle.fuse_session.proofs.Settled.{only_one}
+
+-- the first messages were taken
+pub record TookSome (old new : Held) (messages : List (List ℕ)) : Type 0 where
+  pub prefix : (cut old.bytes).0 ≡ messages ++ (cut new.bytes).0
+  pub rest : (cut old.bytes).1 ≡ (cut new.bytes).1
+  pub at : new.at ≡ old.at + length (joined messages)
+  pub fault : new.fault ≡ None
+  pub each : All IsMessage messages
+  pub few : length messages ≤ length (joined messages)
 
 pub took_none : (h : Held) (messages : List (List ℕ)) → messages ≡ [] → h.fault ≡ None → TookSome h h messages
 took_none h messages none ready = subst (TookSome h h) (sym none) (record {

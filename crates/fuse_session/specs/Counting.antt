@@ -1,5 +1,5 @@
 -- The counts of a session's messages (own profile).
-use Rattle.std.specs.Prelude.{ℕ, ◌+◌, ◌≤◌, ◌==◌, ◌&&◌, Bool, if◌then◌else◌, List, [], ◌∷◌, Option, Some, None, is_none}
+use Rattle.std.specs.Prelude.{ℕ, ◌+◌, ◌==◌, ◌&&◌, Bool, if◌then◌else◌, List, [], ◌∷◌, is_none}
 use Rattle.fuse_request.specs.declared.class.Class.{Class}
 use Rattle.fuse_request.specs.declared.class.Class.TheVariants.{Silent, Bare, Kept}
 use Rattle.fuse_wire.specs.Opcodes.{fuse_interrupt}
@@ -37,22 +37,8 @@ plus a b = record {
   interrupts = a.interrupts + b.interrupts;
 }
 
--- with more counts, if there are some
-abbrev pub plus_if : SessionCounts → Option SessionCounts → Option SessionCounts
-plus_if a None = None
-plus_if a (Some b) = Some (plus a b)
-
 -- the messages by class, where h was the history before
 abbrev pub counted : OpcodeSet → History → List Timed → SessionCounts
 counted V h [] = none_counted
 counted V h (t ∷ ts) =
     plus (counted_one (class_for V t.bytes) (has h (entry_id (timed_entry t))) (is_interrupt t.bytes)) (counted V (grown h (entries_at V t)) ts)
-
--- no count is above n
-pub record IsBelow (c : SessionCounts) (n : ℕ) : Type 0 where
-  pub messages : c.messages ≤ n
-  pub kept : c.kept ≤ n
-  pub repeated : c.repeated ≤ n
-  pub bare : c.bare ≤ n
-  pub silent : c.silent ≤ n
-  pub interrupts : c.interrupts ≤ n

@@ -1,22 +1,13 @@
 -- What a session did: the moments that its clock gave, what its keeper was asked to perform, and what happened at its port (own profile).
-use Rattle.std.specs.Prelude.{◌≡◌, ℕ, List, [], ◌++◌}
+use Rattle.std.specs.Prelude.{◌≡◌, ℕ, List}
 use Rattle.fuse_wire.specs.declared.moment.Moment.{Moment}
 use Rattle.fuse_keeper.specs.Performance.{Performance}
-use Rattle.fuse_session.specs.declared.port.Sent.{Sent}
-use Rattle.fuse_session.specs.Transcript.{PortEvent, received_in, sends_of}
+use Rattle.fuse_session.specs.Transcript.{PortEvent, received_in}
 
 pub record Deeds : Type 0 where
   pub moments : List Moment
   pub asked : List Performance
   pub events : List PortEvent
-
--- nothing was done
-abbrev pub no_deeds : Deeds
-no_deeds = record { moments = []; asked = []; events = [] }
-
--- these, and then those
-abbrev pub then_did : Deeds → Deeds → Deeds
-then_did a b = record { moments = a.moments ++ b.moments; asked = a.asked ++ b.asked; events = a.events ++ b.events }
 
 -- the clock gave these moments, the keeper was asked to perform these and nothing else, and these are the events of the port
 pub record Did (gave : List Moment → Type 0) (performed : List Performance → Type 0) (became : List PortEvent → Type 0) (deeds : Deeds) : Type 0 where
@@ -27,9 +18,3 @@ pub record Did (gave : List Moment → Type 0) (performed : List Performance →
 -- and these bytes came to the port
 abbrev pub Hears : (Deeds → Type 0) → List ℕ → Deeds → Type 0
 Hears did received deeds = did deeds × (received_in deeds.events ≡ received)
-
--- and nothing was received
-pub record Mute (did : Deeds → Type 0) (deeds : Deeds) : Type 0 where
-  pub done : did deeds
-  pub slices : List (List ℕ × Sent)
-  pub events : deeds.events ≡ sends_of slices

@@ -1,8 +1,6 @@
 -- The bytes that a port gives and takes (own profile).
 use Rattle.std.specs.Prelude.{◌≡◌, ℕ, ◌+◌, ◌<◌, ◌≤◌, ◌^◌, Bool, true, false, ◌==◌, if◌then◌else◌, List, [], ◌∷◌, ◌++◌, length, take, Option, IfSome}
 use Rattle.std.specs.Io.KnownBytes.{Keeps, Appends, Consumes, IsAtEnd}
-use Rattle.fuse_session.specs.declared.port.Passed.{Passed}
-use Rattle.fuse_session.specs.declared.port.Passed.TheVariants.{Taken, Gone as PassedGone}
 use Rattle.fuse_session.specs.declared.port.Received.{Received}
 use Rattle.fuse_session.specs.declared.port.Received.TheVariants.{Got, End, Failed as ReceiveFailed}
 use Rattle.fuse_session.specs.declared.port.Sent.{Sent}
@@ -103,11 +101,6 @@ pub record Sends (old new : PortState) (result : Sent) (bytes : List ℕ) : Type
   pub gone : MoreGone (is_gone result) old.gone new.gone new.sent
   pub quiet : IsQuiet old new
 
--- whether an answer was sent by being answered Gone
-abbrev pub reports_gone : Passed → Bool
-reports_gone Taken = false
-reports_gone PassedGone = true
-
 -- all of a slice was sent, as one answer, and whether it was answered Gone, which an empty one never is
 pub record SentWhole (old new : PortState) (bytes : List ℕ) (gone_at_end : Bool) : Type 0 where
   pub sent : Appends old.sent new.sent bytes
@@ -123,15 +116,6 @@ pub record SentPart (old new : PortState) (bytes : List ℕ) : Type 0 where
   pub parts : bytes ≡ part ++ rest
   pub sent : Appends old.sent new.sent part
   pub failures : old.failures < new.failures
-  pub gone : new.gone ≡ old.gone
-  pub quiet : IsQuiet old new
-
--- a prefix of a slice was sent, and this is left of it
-pub record SentPrefix (old new : PortState) (bytes rest : List ℕ) : Type 0 where
-  pub part : List ℕ
-  pub parts : bytes ≡ part ++ rest
-  pub sent : Appends old.sent new.sent part
-  pub failures : new.failures ≡ old.failures
   pub gone : new.gone ≡ old.gone
   pub quiet : IsQuiet old new
 

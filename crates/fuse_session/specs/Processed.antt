@@ -114,7 +114,3 @@ moment_if Kept t = t ∷ []
 abbrev pub moments_in : OpcodeSet → List Timed → List Moment
 moments_in V [] = []
 moments_in V (t ∷ ts) = moment_if (class_for V t.bytes) t.moment ++ moments_in V ts
-
--- their moments are the first that were given
-abbrev pub GaveFirst : OpcodeSet → (List Moment → Type 0) → List Timed → Type 0
-GaveFirst V gave timed = (more : List Moment) × gave (moments_in V timed ++ more)

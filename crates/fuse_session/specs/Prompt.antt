@@ -1,15 +1,17 @@
 -- All messages that came are answered before more is received (own profile).
-use Rattle.std.specs.Prelude.{◌≡◌, ℕ, Bool, List, ◌∷◌, ◌++◌, length}
+use Rattle.std.specs.Prelude.{◌≡◌, ℕ, Bool, List, [], ◌∷◌, ◌++◌, length}
 use Rattle.fuse_request.specs.Stream.{cut}
-use Rattle.fuse_keeper.specs.History.{History, grown}
+use Rattle.fuse_keeper.specs.History.{grown}
 use Rattle.fuse_keeper.specs.Model.{Model}
-use Rattle.fuse_keeper.specs.KeeperState.{KeeperState, StandsFor}
+use Rattle.fuse_keeper.specs.KeeperState.{KeeperState}
 use Rattle.fuse_session.specs.declared.port.Received.{Received as ReceiveResult}
 use Rattle.fuse_session.specs.Transcript.{PortEvent, Received, received_in, handed_in}
 use Rattle.fuse_session.specs.Deeds.{Deeds}
 use Rattle.fuse_session.specs.Processed.{Timed, bytes_of, kept_in, answers}
-use Rattle.fuse_session.specs.Settling.{Mark, replies, NoneComesAgain}
+use Rattle.fuse_session.specs.Settling.{Mark, replies}
 use Rattle.fuse_session.specs.Slices.{RestsOfAll}
+use Rattle.fuse_session.specs.Passage.{Passage}
+use Rattle.fuse_session.specs.Exchange.{IfNoneComesAgain}
 
 -- after these events: all messages of the bytes that came were processed, and exactly their answers were handed over, each whole;
 -- `k` is the keeper at first and `new` the one in the end
@@ -19,9 +21,8 @@ pub record CaughtUp {M : Model} (k new : KeeperState M) (confirms : Bool) (event
   pub bytes : (cut (received_in events)).0 ≡ bytes_of timed
   pub full : length marks ≡ length timed
   pub slices : RestsOfAll marks (handed_in events)
-  pub sent : new.is_honest → (s : M.State) (h : History) (t : List ℕ) → StandsFor k s h t
-      → NoneComesAgain M.serves confirms t (bytes_of timed) marks
-      → replies marks ≡ answers M s (grown h (kept_in M.serves timed)) timed
+  pub sent : new.is_honest → IfNoneComesAgain k [] (record { confirms = confirms; timed = timed; marks = marks })
+      (λ at. replies marks ≡ answers M at.state (grown at.history (kept_in M.serves timed)) timed)
 
 -- so it was before each receive
 abbrev pub AnswersFirst : {M : Model} → KeeperState M → KeeperState M → Bool → List PortEvent → Type 0
@@ -29,7 +30,7 @@ AnswersFirst k new confirms events = (before after : List PortEvent) (result : R
     → events ≡ before ++ Received result bytes ∷ after → CaughtUp k new confirms before
 
 -- a session did this, and answered all that came before it received more
-pub record Prompt {M : Model} (k new : KeeperState M) (did : Deeds → Type 0) (confirms : Bool) : Type 0 where
+pub record Prompt {M : Model} (p : Passage M) : Type 0 where
   pub deeds : Deeds
-  pub done : did deeds
-  pub first : AnswersFirst k new confirms deeds.events
+  pub done : p.did deeds
+  pub first : AnswersFirst p.keeper p.keeper' p.port.confirms deeds.events

@@ -96,12 +96,3 @@ FewRecorded k ids = (more : List ℕ) × FewHave k ids more
 -- the records are some of those of before, and some of these ids
 abbrev pub SomeAndMore : Records → List ℕ → Records → Type 0
 SomeAndMore before more records = (i : ℕ) → is_in more i ≡ false → (records i ≡ None) ⊎ (records i ≡ before i)
-
--- the records that are held are some of those of before, and of at most 16 ids more
-pub record AtMostMore {M : Model} (before : Records) (k : KeeperState M) : Type 0 where
-  pub rows : M.Rows
-  pub records : Records
-  pub held : k.holds rows records
-  pub more : List ℕ
-  pub few : length more ≤ 16
-  pub some : SomeAndMore before more records

@@ -1,7 +1,7 @@
 -- The slices in which answers are handed to a port: each is all that is left of one answer (own profile).
 use Rattle.std.specs.Prelude.{◌≡◌, ℕ, List, [], ◌∷◌, ◌++◌}
 use Rattle.fuse_session.specs.declared.port.Sent.{Sent}
-use Rattle.fuse_session.specs.Transcript.{PortEvent, sends_of, RestsOf, left_of}
+use Rattle.fuse_session.specs.Transcript.{RestsOf, left_of}
 use Rattle.fuse_session.specs.Settling.{Mark}
 
 -- all of an answer was handed over so
@@ -22,9 +22,3 @@ pub record RestsOfSome (marks : List Mark) (part : List ℕ) (slices : List (Lis
   pub answers : RestsOfAll marks whole
   pub unsent : List ℕ
   pub begun : RestsOf (part ++ unsent) last
-
--- slices of this kind were handed over, and nothing else happened at the port
-pub record HandsSlices (became : List PortEvent → Type 0) (Kind : List (List ℕ × Sent) → Type 0) : Type 0 where
-  pub slices : List (List ℕ × Sent)
-  pub calls : became (sends_of slices)
-  pub kind : Kind slices

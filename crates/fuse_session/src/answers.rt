@@ -6,10 +6,12 @@ ghost use Rattle.fuse_request.specs.Stream.{IsMessage};
 ghost use Rattle.fuse_request.specs.Classes.{class_for};
 ghost use Rattle.fuse_session.specs.Processed.{unique_of};
 ghost use Rattle.fuse_keeper.specs.Group.{ids_of};
-ghost use Rattle.fuse_session.specs.Port.{IsYoung, SentWhole, reports_gone};
+ghost use Rattle.fuse_session.specs.Port.{IsYoung, SentWhole};
 ghost use Rattle.fuse_session.specs.Transcript.{Hands};
-ghost use Rattle.fuse_session.specs.Group.{answers_in, wires, AreEnough, head_wire, left_by};
-ghost use Rattle.fuse_session.specs.Group.{SendFails, SentNext, SentAll, SentSome, classes_in};
+ghost use Rattle.fuse_session.specs.inner.Group.{answers_in, wires, AreEnough, head_wire, left_by};
+ghost use Rattle.fuse_session.specs.inner.Group.{classes_in};
+ghost use Rattle.fuse_session.specs.inner.Sending.{reports_gone, sending};
+ghost use Rattle.fuse_session.specs.inner.Sending.{SendFails, SentNext, SentAll, SentSome};
 
 use crate::fault::Fault;
 use crate::port::{Passed, Port, PortFailed, send_whole};
@@ -66,9 +68,9 @@ fn send_kept<K: Keeper, P: Port>(
     requires message { IsMessage message.now }
     requires kept { class_for K.model.serves message.now ≡ Class.Kept }
     requires young { IsYoung (P.told port.old) }
-    ensures ok { OnOk result (SentNext K.model.serves (P.became port.old port.new) (P.told port.old) (P.told port.new) message.now
-        (wire answer.now.errno answer.now.body (unique_of message.now))
-        (ids_of pending.old.items) (ids_of pending.new.items)) }
+    ensures ok { OnOk result (SentNext K.model.serves (sending (P.became port.old port.new)
+        (P.told port.old) (P.told port.new) (ids_of pending.old.items) (ids_of pending.new.items))
+        message.now (wire answer.now.errno answer.now.body (unique_of message.now))) }
     ensures few { length pending.new.items ≤ length pending.old.items + 1 }
     ensures err { IfErr result (λ fault. SendFails fault (P.became port.old port.new) (P.told port.old) (P.told port.new)
         (wire answer.now.errno answer.now.body (unique_of message.now))) }
@@ -125,10 +127,10 @@ fn send_next<K: Keeper, P: Port>(
     ensures next { IfOk result (λ n. n ≤ length dones.now) }
     ensures left { IfOk result (λ n. drop n (answers_in dones.now)
         ≡ left_by (class_for K.model.serves message.now) (drop next (answers_in dones.now))) }
-    ensures ok { OnOk result (SentNext K.model.serves (P.became port.old port.new) (P.told port.old) (P.told port.new) message.now
-        (head_wire (class_for K.model.serves message.now) (unique_of message.now)
-        (drop next (answers_in dones.now)))
-        (ids_of pending.old.items) (ids_of pending.new.items)) }
+    ensures ok { OnOk result (SentNext K.model.serves (sending (P.became port.old port.new)
+        (P.told port.old) (P.told port.new) (ids_of pending.old.items) (ids_of pending.new.items))
+        message.now (head_wire (class_for K.model.serves message.now) (unique_of message.now)
+        (drop next (answers_in dones.now)))) }
     ensures few { IfOk result
         (λ n. length pending.new.items + next ≤ length pending.old.items + n) }
     ensures err { IfErr result (λ fault. SendFails fault (P.became port.old port.new) (P.told port.old) (P.told port.new)
@@ -162,9 +164,9 @@ pub(crate) fn send_answers<K: Keeper, P: Port>(
     requires classes { classes.now ≡ classes_in K.model.serves messages.now }
     requires enough { AreEnough K.model.serves messages.now (answers_in dones.now) }
     requires young { IsYoung (P.told port.old) }
-    ensures ok { OnOk result (SentAll K.model.serves (P.became port.old port.new) (P.told port.old) (P.told port.new) messages.now
-        (wires K.model.serves messages.now (answers_in dones.now))
-        (ids_of pending.old.items) (ids_of pending.new.items)) }
+    ensures ok { OnOk result (SentAll K.model.serves (sending (P.became port.old port.new)
+        (P.told port.old) (P.told port.new) (ids_of pending.old.items) (ids_of pending.new.items))
+        messages.now (wires K.model.serves messages.now (answers_in dones.now))) }
     ensures few { OnOk result
         (length pending.new.items ≤ length pending.old.items + length dones.now) }
     ensures err { IfErr result (λ fault. SentSome (P.became port.old port.new) (P.told port.old) (P.told port.new)

@@ -2,8 +2,9 @@
 ghost use Rattle.std.specs.Prelude.{◌≡◌, ◌≤◌, ◌<◌, ◌-◌, ◌^◌, is_none, length, drop, All};
 ghost use Rattle.fuse_request.specs.Stream.{IsMessage};
 ghost use Rattle.fuse_request.specs.Faults.{first_fault};
-ghost use Rattle.fuse_session.specs.Counting.{plus, counted_one, is_interrupt, IsBelow};
-ghost use Rattle.fuse_session.specs.Group.{tallied, repeats_in, head_repeat, left_by, classes_in};
+ghost use Rattle.fuse_session.specs.Counting.{plus, counted_one, is_interrupt};
+ghost use Rattle.fuse_session.specs.inner.Counting.{IsBelow};
+ghost use Rattle.fuse_session.specs.inner.Group.{tallied, repeats_in, head_repeat, left_by, classes_in};
 
 use crate::gather::has_opcode;
 use bytes::Bytes;

@@ -7,7 +7,7 @@ ghost use Rattle.fuse_request.specs.Header.{raw_of};
 ghost use Rattle.fuse_keeper.specs.Group.{entries_of, HasId, IsKept};
 ghost use Rattle.fuse_keeper.specs.declared.keeper.TheConstants.{MAX_GROUP as max_group};
 ghost use Rattle.fuse_session.specs.Processed.{entry_if, message_entry, moment_if};
-ghost use Rattle.fuse_session.specs.Group.{Gathers, IsStuck, listed, classes_in};
+ghost use Rattle.fuse_session.specs.inner.Group.{Gathers, IsStuck, listed, classes_in};
 
 use crate::clock::Clock;
 use bytes::Bytes;

@@ -5,8 +5,8 @@ ghost use Rattle.fuse_request.specs.Framing.{fed_of};
 ghost use Rattle.fuse_request.specs.declared.framer.TheConstants.{MAX_FED as max_fed};
 ghost use Rattle.fuse_request.specs.declared.header.TheConstants.{MAX_MESSAGE as max_message};
 ghost use Rattle.fuse_session.specs.Port.{IsYoung};
-ghost use Rattle.fuse_session.specs.Receiving.{IsOpen, TookAll, IsHearing, EndsSo};
-ghost use Rattle.fuse_session.specs.Receiving.{Comes, Heard, NotHeard};
+ghost use Rattle.fuse_session.specs.inner.Receiving.{IsOpen, TookAll, IsHearing, EndsSo};
+ghost use Rattle.fuse_session.specs.inner.Receiving.{Comes, Heard, NotHeard};
 
 use crate::ended::Ended;
 use crate::port::{Port, Received};

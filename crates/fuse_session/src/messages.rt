@@ -1,18 +1,21 @@
 // The messages that wait, group by group.
-ghost use Rattle.std.specs.Prelude.{◌≡◌, ◌≤◌, ◌<◌, ◌+◌, ◌^◌, ℕ, true, false, not, length, take};
-ghost use Rattle.std.specs.Prelude.{All, IfOk, IfErr, OnOk, OnErr};
+ghost use Rattle.std.specs.Prelude.{◌≡◌, ◌≤◌, ◌<◌, ◌^◌, true, false, not, length};
+ghost use Rattle.std.specs.Prelude.{All, IfOk, IfErr, OnOk};
 ghost use Rattle.fuse_request.specs.Stream.{IsMessage, joined};
 ghost use Rattle.fuse_keeper.specs.KeeperState.{AnswersNoMore};
 ghost use Rattle.fuse_keeper.specs.Group.{ids_of};
 ghost use Rattle.fuse_keeper.specs.declared.keeper.TheConstants.{MAX_SETTLED as max_settled};
-ghost use Rattle.fuse_session.specs.Faults.{is_port, is_store, is_memory, MayFault};
-ghost use Rattle.fuse_session.specs.Loans.{SameLoans};
-ghost use Rattle.fuse_session.specs.Moves.{FailedBy, HandsOn};
 ghost use Rattle.fuse_session.specs.Port.{IsYoung, IsQuiet};
-ghost use Rattle.fuse_session.specs.Deeds.{Did, Mute};
+ghost use Rattle.fuse_session.specs.Deeds.{Did};
+ghost use Rattle.fuse_session.specs.Passage.{passage};
 ghost use Rattle.fuse_session.specs.Starts.{Kept, HoldsUnder};
-ghost use Rattle.fuse_session.specs.Counting.{IsBelow};
+ghost use Rattle.fuse_session.specs.Ended.{ended_store, IsIntact};
 ghost use Rattle.fuse_session.specs.Serving.{KeepsFirm, ProcessedAll, Broken, goes_on};
+ghost use Rattle.fuse_session.specs.inner.Counting.{IsBelow};
+ghost use Rattle.fuse_session.specs.inner.Finishing.{ended_at, ended_port};
+ghost use Rattle.fuse_session.specs.inner.Loans.{SameLoans};
+ghost use Rattle.fuse_session.specs.inner.Moves.{FailedBy, HandsOn};
+ghost use Rattle.fuse_session.specs.inner.Turn.{muted};
 
 use crate::clock::Clock;
 use crate::counts::{SessionCounts, sum_of};
@@ -55,21 +58,19 @@ impl<K: Keeper, P: Port, C: Clock> Session<'_, '_, '_, '_, K, P, C> {
         requires few { length self.old.pending.now.items ≤ max_settled }
         requires short { length messages.now < 2 ^ 60 }
         ensures within { IfOk result (λ progress. progress.count ≤ length messages.now) }
-        ensures ok { IfOk result (λ progress. (begin : ℕ)
-            → ProcessedAll (K.told self.old.keeper.now) (K.told self.new.keeper.now)
-            (Mute (Did (C.gave self.old.clock.now self.new.clock.now)
+        ensures ok { IfOk result (λ progress. ProcessedAll (muted (passage (K.told self.old.keeper.now)
+            (K.told self.new.keeper.now) (P.told self.old.port.now) (P.told self.new.port.now)
+            (Did (C.gave self.old.clock.now self.new.clock.now)
             (K.performed self.old.keeper.now self.new.keeper.now)
-            (P.became self.old.port.now self.new.port.now)))
-            (P.told self.old.port.now) (P.told self.new.port.now)
+            (P.became self.old.port.now self.new.port.now))))
             (ids_of self.old.pending.now.items) (ids_of self.new.pending.now.items) messages.now
-            progress.next begin (begin + length (joined (take progress.count messages.now)))
-            progress.counts) }
+            progress) }
         ensures below { IfOk result (λ progress. IsBelow progress.counts (length messages.now)) }
         ensures few { OnOk result (length self.new.pending.now.items ≤ max_settled) }
         ensures going { OnOk result ((K.told self.new.keeper.now).has_failed ≡ false) }
         ensures firm { OnOk result
             (KeepsFirm (K.told self.old.keeper.now) (K.told self.new.keeper.now)) }
-        ensures firm_still { IfErr result (λ fault. is_store fault ≡ false
+        ensures firm_still { IfErr result (λ fault. ended_store (ended_at fault) ≡ false
             → KeepsFirm (K.told self.old.keeper.now) (K.told self.new.keeper.now)) }
         ensures more { OnOk result ((P.told self.old.port.now).confirms ≡ true
             → (K.told self.new.keeper.now).is_honest → (before : Kept)
@@ -77,24 +78,23 @@ impl<K: Keeper, P: Port, C: Clock> Session<'_, '_, '_, '_, K, P, C> {
             → HandsOn before (K.told self.new.keeper.now) (ids_of self.new.pending.now.items)) }
         ensures failures { OnOk result
             ((P.told self.new.port.now).failures ≡ (P.told self.old.port.now).failures) }
-        ensures err { IfErr result (λ fault. Broken (K.told self.old.keeper.now)
-            (K.told self.new.keeper.now) (Mute (Did (C.gave self.old.clock.now self.new.clock.now)
+        ensures err { IfErr result (λ fault. Broken (muted (passage (K.told self.old.keeper.now)
+            (K.told self.new.keeper.now) (P.told self.old.port.now) (P.told self.new.port.now)
+            (Did (C.gave self.old.clock.now self.new.clock.now)
             (K.performed self.old.keeper.now self.new.keeper.now)
-            (P.became self.old.port.now self.new.port.now)))
-            (P.told self.old.port.now) (P.told self.new.port.now)
-            (ids_of self.old.pending.now.items) messages.now (is_store fault) (is_memory fault)
-            (MayFault (K.told self.old.keeper.now).may_answer fault)) }
+            (P.became self.old.port.now self.new.port.now))))
+            (ids_of self.old.pending.now.items) messages.now (ended_at fault)) }
         ensures may { AnswersNoMore (K.told self.old.keeper.now) (K.told self.new.keeper.now) }
         ensures medium { (K.told self.old.keeper.now).in_memory
             → (K.told self.new.keeper.now).in_memory }
-        ensures at_most { OnErr result ((P.told self.old.port.now).confirms ≡ true
-            → (K.told self.new.keeper.now).is_clean → (before : Kept)
+        ensures at_most { IfErr result (λ fault. (P.told self.old.port.now).confirms ≡ true
+            → IsIntact (K.told self.new.keeper.now) (ended_at fault) → (before : Kept)
             → HandsOn before (K.told self.old.keeper.now) (ids_of self.old.pending.now.items)
             → HoldsUnder before (K.told self.new.keeper.now)) }
-        ensures failed { IfErr result (λ fault. FailedBy (is_port fault)
+        ensures failed { IfErr result (λ fault. FailedBy (ended_port (ended_at fault))
             (P.told self.old.port.now).failures (P.told self.new.port.now).failures) }
-        ensures store { IfErr result
-            (λ fault. (K.told self.new.keeper.now).has_failed ≡ is_store fault) }
+        ensures store { IfErr result (λ fault. (K.told self.new.keeper.now).has_failed
+            ≡ ended_store (ended_at fault)) }
         ensures honest { (K.told self.new.keeper.now).is_honest
             → (K.told self.old.keeper.now).is_honest }
         ensures quiet { IsQuiet (P.told self.old.port.now) (P.told self.new.port.now) }

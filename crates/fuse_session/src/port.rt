@@ -2,9 +2,10 @@
 ghost use Rattle.std.specs.Prelude.{◌≡◌, ◌≢◌, ◌≤◌, [], length, List, IfOk, OnErr, is_ok};
 ghost use Rattle.fuse_request.specs.declared.header.TheConstants.{MAX_MESSAGE as max_message};
 ghost use Rattle.fuse_session.specs.Port.{PortState, IsYoung, Receives, Sends};
-ghost use Rattle.fuse_session.specs.Port.{SentWhole, SentPart, reports_gone};
+ghost use Rattle.fuse_session.specs.Port.{SentWhole, SentPart};
 ghost use Rattle.fuse_session.specs.Transcript.{PortEvent, IsTranscript, Tells, Hands};
 ghost use Rattle.fuse_session.specs.Transcript.{one_receive, one_send};
+ghost use Rattle.fuse_session.specs.inner.Sending.{reports_gone};
 
 /// The result of a call of `receive`.
 #[derive(Clone, Copy, Debug, PartialEq, Eq)]

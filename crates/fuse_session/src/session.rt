@@ -1,26 +1,22 @@
 // A session: the messages of a port are served from a keeper.
-ghost use Rattle.std.specs.Prelude.{◌≡◌, ◌↔◌, ◌≤◌, ◌<◌, ◌+◌, ◌-◌, ◌^◌, [], true, false, None, Some};
+ghost use Rattle.std.specs.Prelude.{◌≡◌, ◌≤◌, ◌<◌, ◌+◌, ◌-◌, ◌^◌, true, false, None, Some};
 ghost use Rattle.std.specs.Prelude.{length, take, IfOk, IfErr, OnOk, IfSome};
 ghost use Rattle.fuse_request.specs.Framing.{fed_of};
 ghost use Rattle.fuse_request.specs.Stream.{joined};
 ghost use Rattle.fuse_request.specs.declared.header.TheConstants.{MAX_MESSAGE as max_message};
-ghost use Rattle.fuse_keeper.specs.KeeperState.{OfHeld, AnswersNoMore};
+ghost use Rattle.fuse_keeper.specs.KeeperState.{AnswersNoMore};
 ghost use Rattle.fuse_keeper.specs.Group.{ids_of};
 ghost use Rattle.fuse_keeper.specs.declared.keeper.TheConstants.{MAX_SETTLED as max_settled};
-ghost use Rattle.fuse_session.specs.Faults.{is_port, is_store, is_memory};
-ghost use Rattle.fuse_session.specs.Loans.{SameLoans};
 ghost use Rattle.fuse_session.specs.Port.{IsYoung};
 ghost use Rattle.fuse_session.specs.Deeds.{Did};
-ghost use Rattle.fuse_session.specs.Settling.{AtMostMore};
-ghost use Rattle.fuse_session.specs.Starts.{HoldsUnder};
-ghost use Rattle.fuse_session.specs.Counting.{IsBelow, plus_if};
-ghost use Rattle.fuse_session.specs.Receiving.{IsOpen};
-ghost use Rattle.fuse_session.specs.Serving.{Run, FewSettled, KeepsFirm};
-ghost use Rattle.fuse_session.specs.Ends.{ExactAt, MayEnd, SessionEnds, counts_at};
-ghost use Rattle.fuse_session.specs.Ends.{ended_store, ended_memory, ended_port};
-ghost use Rattle.fuse_session.specs.Finishing.{FinishedBy, IsFault, ended_at};
-ghost use Rattle.fuse_session.specs.Prompt.{Prompt};
-ghost use Rattle.fuse_session.specs.Turn.{TurnPassed, TurnEnded};
+ghost use Rattle.fuse_session.specs.Passage.{passage};
+ghost use Rattle.fuse_session.specs.Ends.{counts_at};
+ghost use Rattle.fuse_session.specs.Session.{Session as SessionServed};
+ghost use Rattle.fuse_session.specs.inner.Counting.{IsBelow, plus_if};
+ghost use Rattle.fuse_session.specs.inner.Finishing.{FinishedBy, IsFault, ended_at};
+ghost use Rattle.fuse_session.specs.inner.Loans.{SameLoans};
+ghost use Rattle.fuse_session.specs.inner.Receiving.{IsOpen};
+ghost use Rattle.fuse_session.specs.inner.Turn.{TurnPassed, TurnEnded, waits};
 
 use crate::clock::Clock;
 use crate::counts::{SessionCounts, sum_of};
@@ -48,11 +44,8 @@ pub(crate) struct Session<'k, 'p, 'c, 'i, K: Keeper, P: Port, C: Clock> {
 }
 
 fn ended_of(fault: Fault) -> Ended
-    ensures store { ended_store result ≡ is_store fault }
-    ensures memory { ended_memory result ≡ is_memory fault }
-    ensures port { ended_port result ≡ is_port fault }
-    ensures fault { IsFault result }
     ensures is { result ≡ ended_at fault }
+    ensures fault { IsFault result }
 {
     match fault {
         Fault::PortFailed => Ended::PortFailed,
@@ -151,19 +144,20 @@ impl<K: Keeper, P: Port, C: Clock> Session<'_, '_, '_, '_, K, P, C> {
         requires opened { IsOpen framer.old }
         requires room { length buffer.old ≡ max_message }
         requires fed { fed_of framer.old + length buffer.old ≤ 2 ^ 59 }
-        ensures ok { IfOk result (λ counts. TurnPassed (K.told self.old.keeper.now)
-            (K.told self.new.keeper.now) (Did (C.gave self.old.clock.now self.new.clock.now)
+        ensures ok { IfOk result (λ counts. TurnPassed (passage (K.told self.old.keeper.now)
+            (K.told self.new.keeper.now) (P.told self.old.port.now) (P.told self.new.port.now)
+            (Did (C.gave self.old.clock.now self.new.clock.now)
             (K.performed self.old.keeper.now self.new.keeper.now)
-            (P.became self.old.port.now self.new.port.now))
-            (P.told self.old.port.now) (P.told self.new.port.now)
-            (ids_of self.old.pending.now.items) (ids_of self.new.pending.now.items)
-            framer.old framer.new counts) }
-        ensures err { IfErr result (λ served. TurnEnded (K.told self.old.keeper.now)
-            (K.told self.new.keeper.now) (Did (C.gave self.old.clock.now self.new.clock.now)
+            (P.became self.old.port.now self.new.port.now)))
+            (waits (ids_of self.old.pending.now.items) framer.old)
+            (waits (ids_of self.new.pending.now.items) framer.new) counts) }
+        ensures err { IfErr result (λ served. TurnEnded (passage (K.told self.old.keeper.now)
+            (K.told self.new.keeper.now) (P.told self.old.port.now) (P.told self.new.port.now)
+            (Did (C.gave self.old.clock.now self.new.clock.now)
             (K.performed self.old.keeper.now self.new.keeper.now)
-            (P.became self.old.port.now self.new.port.now))
-            (P.told self.old.port.now) (P.told self.new.port.now)
-            (ids_of self.old.pending.now.items) framer.old served.ended served.counts) }
+            (P.became self.old.port.now self.new.port.now)))
+            (waits (ids_of self.old.pending.now.items) framer.old) served) }
+        ensures opened { OnOk result (IsOpen framer.new) }
         ensures few { OnOk result (length self.new.pending.now.items ≤ max_settled) }
         ensures receives { (P.told self.new.port.now).receives
             ≡ (P.told self.old.port.now).receives + 1 }
@@ -222,14 +216,16 @@ fn one_turn<K: Keeper, P: Port, C: Clock>(
     requires opened { IsOpen framer.old }
     requires room { length buffer.old ≡ max_message }
     requires fed { fed_of framer.old + length buffer.old ≤ 2 ^ 59 }
-    ensures ok { IfOk result (λ counts. TurnPassed (K.told keeper.old) (K.told keeper.new)
-        (Did (C.gave clock.old clock.new) (K.performed keeper.old keeper.new)
-        (P.became port.old port.new)) (P.told port.old) (P.told port.new)
-        (ids_of pending.old.items) (ids_of pending.new.items) framer.old framer.new counts) }
-    ensures err { IfErr result (λ served. TurnEnded (K.told keeper.old) (K.told keeper.new)
-        (Did (C.gave clock.old clock.new) (K.performed keeper.old keeper.new)
-        (P.became port.old port.new)) (P.told port.old) (P.told port.new)
-        (ids_of pending.old.items) framer.old served.ended served.counts) }
+    ensures ok { IfOk result (λ counts. TurnPassed (passage (K.told keeper.old) (K.told keeper.new)
+        (P.told port.old) (P.told port.new) (Did (C.gave clock.old clock.new)
+        (K.performed keeper.old keeper.new) (P.became port.old port.new)))
+        (waits (ids_of pending.old.items) framer.old) (waits (ids_of pending.new.items) framer.new)
+        counts) }
+    ensures err { IfErr result (λ served. TurnEnded (passage (K.told keeper.old) (K.told keeper.new)
+        (P.told port.old) (P.told port.new) (Did (C.gave clock.old clock.new)
+        (K.performed keeper.old keeper.new) (P.became port.old port.new)))
+        (waits (ids_of pending.old.items) framer.old) served) }
+    ensures opened { OnOk result (IsOpen framer.new) }
     ensures few { OnOk result (length pending.new.items ≤ max_settled) }
     ensures receives { (P.told port.new).receives ≡ (P.told port.old).receives + 1 }
     ensures confirms { (P.told port.new).confirms ≡ (P.told port.old).confirms }
@@ -263,66 +259,11 @@ pub fn serve<K: Keeper, P: Port, C: Clock>(
     requires going { (K.told keeper.old).has_failed ≡ false }
     requires receives { (P.told port.old).receives < 2 ^ 62 }
     requires failures { (P.told port.old).failures < 2 ^ 62 }
-    // The messages that were processed and answered at each of the ends, and their counts; what the
-    // keeper was asked to perform, batch by batch, with which settled ids; and the slices that the
-    // port was handed, each all that is left of one answer.
-    ensures ends { SessionEnds (K.told keeper.old) (K.told keeper.new) (Did
-        (C.gave clock.old clock.new) (K.performed keeper.old keeper.new)
-        (P.became port.old port.new)) (P.told port.old) (P.told port.new) turns
-        result.ended result.counts }
-
-    // However it ends, the bytes sent are a prefix of those to be sent for messages that the
-    // keeper stands for, and that whatever a crash leaves stands for. The keeper was asked to
-    // perform these messages with the settled ids, and nothing else.
-    ensures life { Run (K.told keeper.old) (K.told keeper.new) (Did
-        (C.gave clock.old clock.new) (K.performed keeper.old keeper.new)
-        (P.became port.old port.new)) (P.told port.old) (P.told port.new) [] []
-        (ended_store result.ended) (ended_memory result.ended)
-        (MayEnd (K.told keeper.old).may_answer result.ended) }
-
-    // Before more is received, all that came is answered.
-    ensures prompt { Prompt (K.told keeper.old) (K.told keeper.new) (Did
-        (C.gave clock.old clock.new) (K.performed keeper.old keeper.new)
-        (P.became port.old port.new)) (P.told port.old).confirms }
-
-    // Where the store or a lack of memory ended it, exactly the answers to some of the messages
-    // were sent. The store's fault is one that the keeper may answer, and the keeper stands for
-    // those messages, where its store is clean.
-    ensures exactly { ExactAt (K.told keeper.old) (K.told keeper.new) (Did
-        (C.gave clock.old clock.new) (K.performed keeper.old keeper.new)
-        (P.became port.old port.new)) (P.told port.old) (P.told port.new) [] [] result.ended }
-
-    // On a port that confirms few records stay,
-    ensures at_most { (P.told port.old).confirms ≡ true → (K.told keeper.new).is_clean
-        → OfHeld (K.told keeper.old) (λ rows records. AtMostMore records (K.told keeper.new)) }
-
-    // and but for at most 16 under the current lot they stay under the lots of before.
-    ensures lots { (P.told port.old).confirms ≡ true → (K.told keeper.new).is_clean
-        → OfHeld (K.told keeper.old) (λ rows records. HoldsUnder
-        (record { records = records; lots = (K.told keeper.old).lots }) (K.told keeper.new)) }
-
-    // On any port few of the ids that the answers settled have a record, whether the port confirms
-    // or answered Gone.
-    ensures settled { (K.told keeper.new).is_clean → FewSettled (K.told keeper.old)
-        (K.told keeper.new) (Did (C.gave clock.old clock.new)
-        (K.performed keeper.old keeper.new) (P.became port.old port.new))
-        (P.told port.old) (P.told port.new) }
-
-    // It receives no more often than it may.
-    ensures turns { (P.told port.new).receives ≤ (P.told port.old).receives + turns }
-
-    // It ends by the port and by the store exactly where they failed.
-    ensures failed { (result.ended ≡ Ended.PortFailed)
-        ↔ ((P.told port.old).failures < (P.told port.new).failures) }
-    ensures store { (K.told keeper.new).has_failed ≡ ended_store result.ended }
-
-    // The keeper afterwards: unless the store ended it, a crash leaves no more than is held, if so
-    // it was before.
-    ensures firm { ended_store result.ended ≡ false
-        → KeepsFirm (K.told keeper.old) (K.told keeper.new) }
-    ensures honest { (K.told keeper.new).is_honest → (K.told keeper.old).is_honest }
-    ensures medium { (K.told keeper.old).in_memory → (K.told keeper.new).in_memory }
-    ensures may { AnswersNoMore (K.told keeper.old) (K.told keeper.new) }
+    // What a session promises of the keeper and the port: `ends`, `life`, `prompt` and the other
+    // parts of it.
+    ensures session { SessionServed (passage (K.told keeper.old) (K.told keeper.new)
+        (P.told port.old) (P.told port.new) (Did (C.gave clock.old clock.new)
+        (K.performed keeper.old keeper.new) (P.became port.old port.new))) turns result }
     ensures unopened { K.became keeper.old keeper.new 0 }
 {
     cut_joins();

@@ -20,7 +20,7 @@ use Rattle.fuse_keeper.specs.Taking.{Took, TakesAll, GroupsGrow}
 use Rattle.fuse_keeper.specs.Group.{entry_of, entries_of, handed_to, left_pending}
 use Rattle.fuse_keeper.specs.declared.keeper.Done.{Done}
 use Rattle.fuse_session.specs.Processed.{entry_if, message_entry, unique_of}
-use Rattle.fuse_session.specs.Group.{left_by}
+use Rattle.fuse_session.specs.inner.Group.{left_by}
 use Rattle.fuse_sim.specs.declared.event.Event.{Event}
 use Rattle.fuse_sim.specs.declared.event.Outcome.{Outcome}
 use Rattle.fuse_sim.specs.Driving.{commits_in, committed, answer_in, outcome_of, OutcomesBegin, bytes_given, is_taken, where_taken}

@@ -12,10 +12,11 @@ use Rattle.fuse_request.specs.Classes.{class_for}
 use Rattle.fuse_request.specs.Stream.{cut, joined}
 use Rattle.fuse_keeper.specs.Model.{Model}
 use Rattle.fuse_keeper.specs.History.{Entry, entry_id, History, has, Distinct, add, said, grown, HistoriesGrow}
-use Rattle.fuse_session.specs.Port.{PortState}
+use Rattle.fuse_keeper.specs.Stands.{Standing}
 use Rattle.fuse_session.specs.Deeds.{Deeds, Hears}
 use Rattle.fuse_session.specs.Batches.{TimedFirst}
-use Rattle.fuse_session.specs.Serving.{Lived}
+use Rattle.fuse_session.specs.Passage.{Passage}
+use Rattle.fuse_session.specs.Exchange.{Lived}
 use Rattle.fuse_session.specs.Settling.{Mark, replies, settled_in, Replied}
 use Rattle.fuse_session.specs.Processed.{Timed, bytes_of, kept_in, entries_at, entry_if, timed_entry, message_id, unique_of, answered, answers, answer_by, out}
 use Rattle.fuse_session.specs.Processed.{moment_if, moments_in}
@@ -152,12 +153,13 @@ timed_prefix V given xs ys timed = (
   timed.1 ∙ ap (λ (r : List Moment). r ++ timed.0) (moments-append V xs ys) ∙ append_assoc (moments_in V xs) (moments_in V ys) timed.0,
 )
 
-pub run_lived : (M : Model) (stood : History → List ℕ → Type 0) (did : Deeds → Type 0) (s : M.State) (h : History) (t : List ℕ) (old new : PortState)
+pub run_lived : (M : Model) (Stood : Standing M → Type 0) (p : Passage M) (s : M.State) (h : History) (t : List ℕ)
     (received : List ℕ) (timed : List Timed) (others : List (List ℕ)) (marks : List Mark) (part : List ℕ) (deeds : Deeds)
-    → Consumes old.coming new.coming received → (cut received).0 ≡ bytes_of timed ++ others → Hears did received deeds
-    → TimedFirst M.serves deeds.moments timed → Replied old new marks part
-    → Lived M stood s h old.confirms t timed marks part → RanAsLife M stood did s h t old new
-run_lived M stood did s h t old new received timed others marks part deeds came prefix done moments replied l =
+    → Consumes p.port.coming p.port'.coming received → (cut received).0 ≡ bytes_of timed ++ others → Hears p.did received deeds
+    → TimedFirst M.serves deeds.moments timed → Replied p.port p.port' marks part
+    → Lived M (record { state = s; history = h; settled = t }) (record { confirms = p.port.confirms; timed = timed; marks = marks }) Stood part
+    → RanAsLife p (record { state = s; history = h; settled = t }) Stood
+run_lived M Stood p s h t received timed others marks part deeds came prefix done moments replied l =
     let sent = joined (replies marks) ++ part in
     let parts : bytes_of timed ++ others ≡ bytes_of l.worked ++ (bytes_of l.unprocessed ++ others) =
     ap (λ (x : List Timed). bytes_of x ++ others) l.parts ∙ ap (λ (x : List (List ℕ)). x ++ others) (map-append (λ (x : Timed). x.bytes) l.worked l.unprocessed)
@@ -167,7 +169,7 @@ run_lived M stood did s h t old new received timed others marks part deeds came 
     let begun : joined (replies marks) ++ joined l.later ≡ sent ++ l.unsent =
     ap (λ (x : List ℕ). joined (replies marks) ++ x) l.begun ∙ sym (append_assoc (joined (replies marks)) part l.unsent) in
     record {
-      life = record { received = received; sent = sent; worked = l.worked; settled = settled_in M.serves old.confirms (bytes_of l.worked) marks };
+      life = record { received = received; sent = sent; worked = l.worked; settled = settled_in M.serves p.port.confirms (bytes_of l.worked) marks };
       lived = record { others = bytes_of l.unprocessed ++ others; prefix = prefix ∙ parts; works = l.works; unsent = l.unsent; sends = split ∙ begun };
       came = came;
       marks = marks;

@@ -11,7 +11,7 @@ use Rattle.fuse_request.specs.declared.class.Class.TheVariants.{Silent, Bare, Ke
 use Rattle.fuse_request.specs.Classes.{class_for}
 use Rattle.fuse_keeper.specs.Group.{ids_of}
 use Rattle.fuse_keeper.specs.declared.keeper.Done.{Done}
-use Rattle.fuse_session.specs.Group.{left_by}
+use Rattle.fuse_session.specs.inner.Group.{left_by}
 use Rattle.fuse_session.specs.Settling.{settles_if}
 use Rattle.fuse_session.specs.Processed.{message_id}
 use Rattle.fuse_sim.specs.declared.event.Event.{Event}

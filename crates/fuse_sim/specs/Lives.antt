@@ -5,13 +5,12 @@ use Rattle.fuse_request.specs.Opcodes.{OpcodeSet}
 use Rattle.fuse_request.specs.Stream.{cut, joined}
 use Rattle.fuse_keeper.specs.History.{History, grown}
 use Rattle.fuse_keeper.specs.Model.{Model}
-use Rattle.fuse_keeper.specs.KeeperState.{KeeperState}
+use Rattle.fuse_keeper.specs.Stands.{Standing}
 use Rattle.fuse_session.specs.declared.ended.Ended.{Ended}
-use Rattle.fuse_session.specs.Ends.{MayEnd, ended_store, ended_memory}
-use Rattle.fuse_session.specs.Port.{PortState}
+use Rattle.fuse_session.specs.Passage.{Passage}
 use Rattle.fuse_session.specs.Deeds.{Deeds, Hears}
 use Rattle.fuse_session.specs.Batches.{TimedFirst}
-use Rattle.fuse_session.specs.Serving.{Run}
+use Rattle.fuse_session.specs.Serving.{nothing_waits, Run}
 use Rattle.fuse_session.specs.Settling.{Mark, replies, settled_in, Replied}
 use Rattle.fuse_session.specs.Processed.{Timed, bytes_of, kept_in, out, Works}
 
@@ -51,23 +50,22 @@ abbrev pub AllSend : (M : Model) → M.State → History → List Lifetime → T
 AllSend M s last [] = Unit {0}
 AllSend M s last (life ∷ lives) = ((unsent : List ℕ) × (out M s last life.worked ≡ life.sent ++ unsent)) × AllSend M s last lives
 
--- the clause `life` of `serve` for a run, at whatever end, of a keeper that was k and is k'
-abbrev pub RunOfServe : {M : Model} → KeeperState M → KeeperState M → (Deeds → Type 0) → PortState → PortState → Ended → Type 0
-RunOfServe k k' did old new ended = Run k k' did old new [] [] (ended_store ended) (ended_memory ended) (MayEnd k.may_answer ended)
+-- the part `life` of what `serve` promises of a run, at whatever end
+abbrev pub RunOfServe : {M : Model} → Passage M → Ended → Type 0
+RunOfServe p ended = Run p nothing_waits ended
 
 -- a run of a server was a life: the bytes that came to its port, the answers that it sent whole and the part of another
 -- one, the ids that these settle, what was done, with the moments of the messages, and what is left
-pub record RanAsLife (M : Model) (stood : History → List ℕ → Type 0) (did : Deeds → Type 0) (s : M.State)
-    (h : History) (t : List ℕ) (old new : PortState) : Type 0 where
+pub record RanAsLife {M : Model} (p : Passage M) (at : Standing M) (Stood : Standing M → Type 0) : Type 0 where
   pub life : Lifetime
-  pub lived : IsLife M s h life
-  pub came : Consumes old.coming new.coming life.received
+  pub lived : IsLife M at.state at.history life
+  pub came : Consumes p.port.coming p.port'.coming life.received
   pub marks : List Mark
   pub part : List ℕ
-  pub replied : Replied old new marks part
+  pub replied : Replied p.port p.port' marks part
   pub sent : life.sent ≡ joined (replies marks) ++ part
-  pub settled_are : life.settled ≡ settled_in M.serves old.confirms (bytes_of life.worked) marks
+  pub settled_are : life.settled ≡ settled_in M.serves p.port.confirms (bytes_of life.worked) marks
   pub deeds : Deeds
-  pub done : Hears did life.received deeds
+  pub done : Hears p.did life.received deeds
   pub moments : TimedFirst M.serves deeds.moments life.worked
-  pub stands : stood (grown h (kept_in M.serves life.worked)) (t ++ life.settled)
+  pub stands : Stood (record { state = at.state; history = grown at.history (kept_in M.serves life.worked); settled = at.settled ++ life.settled })

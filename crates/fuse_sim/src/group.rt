@@ -8,7 +8,7 @@ ghost use Rattle.fuse_request.specs.Stream.{IsMessage};
 ghost use Rattle.fuse_request.specs.Classes.{class_for};
 ghost use Rattle.fuse_keeper.specs.Group.{entries_of, IsKept, ids_of};
 ghost use Rattle.fuse_session.specs.Processed.{entry_if, message_entry};
-ghost use Rattle.fuse_session.specs.Group.{listed, left_by};
+ghost use Rattle.fuse_session.specs.inner.Group.{listed, left_by};
 ghost use Rattle.fuse_sim.specs.Driving.{IsFit, CausedBy, event_of, is_store, dies};
 ghost use Rattle.fuse_sim.specs.Driving.{bytes_given, settles, is_taken};
 ghost use Rattle.fuse_sim.specs.inner.Running.{dies_before, Gathers, EndsWith, StopsAt, Joins};

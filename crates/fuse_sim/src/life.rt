@@ -1,10 +1,13 @@
 // Several lives of a server in one mount.
 ghost use Rattle.std.specs.Prelude.{◌≡◌, ℕ, List, []};
 ghost use Rattle.fuse_keeper.specs.History.{History, Distinct, grown};
-ghost use Rattle.fuse_keeper.specs.Stands.{Stands};
+ghost use Rattle.fuse_keeper.specs.Stands.{StandsAt};
 ghost use Rattle.fuse_keeper.specs.KeeperState.{StandsFor, Leaves, IsFirm};
 ghost use Rattle.fuse_session.specs.declared.ended.Ended.{Ended as EndedValue};
 ghost use Rattle.fuse_session.specs.Deeds.{Did};
+ghost use Rattle.fuse_session.specs.Ended.{IsIntact};
+ghost use Rattle.fuse_session.specs.Exchange.{HoldsAt};
+ghost use Rattle.fuse_session.specs.Passage.{passage};
 ghost use Rattle.fuse_session.specs.Settling.{NoneComesAgain};
 ghost use Rattle.fuse_session.specs.Processed.{bytes_of, kept_in};
 ghost use Rattle.fuse_sim.specs.Lives.{Lifetime, AreLives, after_lives, all_processed, AllSend};
@@ -28,29 +31,31 @@ pub fn lives<K: Keeper>()
     histories_grow::<K>();
 }
 
-/// Each run of `serve` is such a life: `run` is its clause `life`, of a keeper that was `k` and is
+/// Each run of `serve` is such a life: `run` is the part `life` of its promise, of a keeper that was `k` and is
 /// `k'`, at whatever end; its port was `p` and is `p'`, its clock was `c` and is `c'`. The premise is that no kept message comes
 /// again whose answer was settled before or by the run.
 pub fn runs_are_lives<K: Keeper, P: Port, C: Clock>()
     // The rows and records that the keeper holds stand for the history that the life leaves, where
-    // its store is clean,
+    // its store gave back what was written and, after a fault of the store, is clean,
     ensures ends { (k k' : K) (p p' : P) (c c' : C) (ended : EndedValue)
-        (run : RunOfServe (K.told k) (K.told k')
-        (Did (C.gave c c') (K.performed k k') (P.became p p')) (P.told p) (P.told p') ended)
+        (run : RunOfServe (passage (K.told k) (K.told k') (P.told p) (P.told p')
+        (Did (C.gave c c') (K.performed k k') (P.became p p'))) ended)
         (s : K.model.State) (h : History) (t : List ℕ) → StandsFor (K.told k) s h t
         → NoneComesAgain K.model.serves (P.told p).confirms t
-        (bytes_of run.broken.timed) run.broken.marks
-        → (K.told k').is_clean
-        → RanAsLife K.model (StandsFor (K.told k') s)
-        (Did (C.gave c c') (K.performed k k') (P.became p p')) s h t (P.told p) (P.told p') }
+        (bytes_of run.broken.work.timed) run.broken.work.marks
+        → IsIntact (K.told k') ended → RanAsLife (passage (K.told k) (K.told k') (P.told p) (P.told p')
+        (Did (C.gave c c') (K.performed k k') (P.became p p')))
+        (record { state = s; history = h; settled = t }) (HoldsAt (K.told k')) }
     // and so does whatever a crash then leaves, where the keeper was firm.
     ensures crashes { (k k' : K) (p p' : P) (c c' : C) (ended : EndedValue)
-        (run : RunOfServe (K.told k) (K.told k')
-        (Did (C.gave c c') (K.performed k k') (P.became p p')) (P.told p) (P.told p') ended)
+        (run : RunOfServe (passage (K.told k) (K.told k') (P.told p) (P.told p')
+        (Did (C.gave c c') (K.performed k k') (P.became p p'))) ended)
         (s : K.model.State) (h : History) (t : List ℕ) → StandsFor (K.told k) s h t
         → NoneComesAgain K.model.serves (P.told p).confirms t
-        (bytes_of run.broken.timed) run.broken.marks
+        (bytes_of run.broken.work.timed) run.broken.work.marks
         → (K.told k').is_honest → IsFirm (K.told k)
-        → Leaves (K.told k') (λ x r. RanAsLife K.model (Stands K.model x r s)
-        (Did (C.gave c c') (K.performed k k') (P.became p p')) s h t (P.told p) (P.told p')) }
+        → Leaves (K.told k') (λ x r. RanAsLife (passage (K.told k) (K.told k') (P.told p) (P.told p')
+        (Did (C.gave c c') (K.performed k k') (P.became p p')))
+        (record { state = s; history = h; settled = t })
+        (StandsAt K.model (record { rows = x; records = r }))) }
 {}

@@ -18,7 +18,7 @@ use Rattle.fuse_keeper.specs.Bounds.{max_group_len}
 use Rattle.fuse_keeper.specs.Group.{entries_of, HasId, IsKept, handed_to, left_pending}
 use Rattle.fuse_keeper.specs.Performance.{Performance, performances_of}
 use Rattle.fuse_session.specs.Processed.{unique_of}
-use Rattle.fuse_session.specs.Group.{left_by}
+use Rattle.fuse_session.specs.inner.Group.{left_by}
 use Rattle.fuse_sim.specs.declared.event.Fate.{Fate}
 use Rattle.fuse_sim.specs.declared.event.Fate.TheVariants.{Answered, AnswerLost, DiedBeforeCommit, DiedAfterCommit}
 use Rattle.fuse_sim.specs.declared.event.Event.{Event}

@@ -5,7 +5,7 @@ use Rattle.fuse_session.specs.Stepping.{Stepped}
 use Rattle.fuse_commands.specs.Endings.{IsOfStream}
 use Rattle.fuse_commands.specs.Replaying.{Replayed}
 use Rattle.fuse_commands.specs.inner.Sending.{Sends}
-use Rattle.fuse_session.specs.Ends.{ended_store, ended_memory}
+use Rattle.fuse_session.specs.Ended.{ended_store}
 use Rattle.fuse_session.specs.Port.{fresh}
 use Rattle.fuse_session.specs.Stream.{stream_told}
 use Rattle.fuse_commands.proofs.Streams.{session_replayed, session_faulted, session_kept, counts_shown}

@@ -1,7 +1,7 @@
 use Rattle.std.proofs.Common.{take, drop, ap, arith}
 use Rattle.std.proofs.lemmas.List.{take_all, drop_all}
 use Rattle.fuse_keeper.specs.Group.{ids_of}
-use Rattle.fuse_session.specs.Group.{answers_in, wires}
+use Rattle.fuse_session.specs.inner.Group.{answers_in, wires}
 use Rattle.fuse_session.proofs.Sends.{young_still, sent_first_none, sent_more, sent_some, sent_all, enough_at, enough_more}
 use Rattle.fuse_session.proofs.answers.send_answers.Goals as goal
 

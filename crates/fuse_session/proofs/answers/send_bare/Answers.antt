@@ -1,5 +1,5 @@
 use Rattle.fuse_session.specs.Processed.{unique_of}
-use Rattle.fuse_session.specs.Port.{reports_gone}
+use Rattle.fuse_session.specs.inner.Sending.{reports_gone}
 use Rattle.fuse_session.proofs.Sends.{bare_sent, bare_hands, bare_fails, if_ok, if_err, on_ok}
 use Rattle.fuse_session.proofs.answers.send_bare.Goals as goal
 

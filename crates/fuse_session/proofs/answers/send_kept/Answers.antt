@@ -4,7 +4,8 @@ use Rattle.fuse_wire.specs.Ids.{id_of}
 use Rattle.fuse_wire.specs.declared.id.Id.{Id}
 use Rattle.fuse_answer.specs.Wire.{wire}
 use Rattle.fuse_keeper.specs.Group.{ids_of}
-use Rattle.fuse_session.specs.Port.{SentWhole, reports_gone}
+use Rattle.fuse_session.specs.Port.{SentWhole}
+use Rattle.fuse_session.specs.inner.Sending.{reports_gone}
 use Rattle.fuse_session.specs.Transcript.{Hands}
 use Rattle.fuse_session.proofs.Sends.{kept_next}
 use Rattle.fuse_session.proofs.answers.send_kept.Goals as goal

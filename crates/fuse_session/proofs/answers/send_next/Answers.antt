@@ -1,7 +1,7 @@
 use Rattle.std.proofs.Common.{drop, ap, sym}
 use Rattle.fuse_keeper.specs.declared.keeper.Done.{Done}
 use Rattle.fuse_keeper.specs.Group.{ids_of}
-use Rattle.fuse_session.specs.Group.{answers_in}
+use Rattle.fuse_session.specs.inner.Group.{answers_in}
 use Rattle.fuse_session.proofs.Sends.{next_silent, next_bare, next_kept, left_kept, fails_kept}
 use Rattle.fuse_session.proofs.answers.send_next.Goals as goal
 

@@ -2,8 +2,9 @@ use Rattle.std.proofs.Common.{◌∙◌, ◌+◌, ◌-◌, ◌^◌, drop, length
 use Rattle.std.proofs.lemmas.List.{drop_all}
 use Rattle.fuse_request.specs.declared.class.Class.TheVariants.{Silent}
 use Rattle.fuse_request.specs.Classes.{class_for}
-use Rattle.fuse_session.specs.Counting.{plus, counted_one, is_interrupt, IsBelow}
-use Rattle.fuse_session.specs.Group.{repeats_in, tallied, left_by}
+use Rattle.fuse_session.specs.Counting.{plus, counted_one, is_interrupt}
+use Rattle.fuse_session.specs.inner.Counting.{IsBelow}
+use Rattle.fuse_session.specs.inner.Group.{repeats_in, tallied, left_by}
 use Rattle.fuse_session.proofs.Counted.{none_plus, plus_none, tallied_more, plus_below, below_more, one_counted_below, class_at}
 use Rattle.fuse_session.proofs.Sends.{left_at}
 use Rattle.fuse_session.proofs.counts.count_all.Goals as goal

@@ -1,6 +1,7 @@
 use Rattle.std.proofs.Common.{◌≡◌, ◌≤◌, length, drop}
-use Rattle.fuse_session.specs.Counting.{plus, IsBelow}
-use Rattle.fuse_session.specs.Group.{tallied, repeats_in}
+use Rattle.fuse_session.specs.Counting.{plus}
+use Rattle.fuse_session.specs.inner.Counting.{IsBelow}
+use Rattle.fuse_session.specs.inner.Group.{tallied, repeats_in}
 use Rattle.fuse_session.proofs.counts.count_all.Given as goal
 
 abbrev pub invariant-loop-place : goal.invariant-loop-place

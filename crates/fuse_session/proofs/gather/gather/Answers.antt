@@ -1,7 +1,7 @@
 use Rattle.std.proofs.Common.{◌≡◌, sym, subst, ap, arith, ◌∙◌, ◌+◌, All, length, length-append, take, false, ◌∷◌, []}
 use Rattle.std.proofs.lemmas.List.Elements.{All-nil}
 use Rattle.fuse_keeper.specs.Group.{HasId, IsKept, entries_of}
-use Rattle.fuse_session.specs.Group.{Gathers, classes_in}
+use Rattle.fuse_session.specs.inner.Group.{Gathers, classes_in}
 use Rattle.fuse_session.proofs.Gathering.{none_yet_gathered, gathers_none, gathers_some, named_some, kept_some, classes_more}
 use Rattle.fuse_session.proofs.gather.gather.Goals as goal
 use Rattle.fuse_session.proofs.gather.gather.Goals.{in-Some+in_ok-push-2+else-ends, in_default}

@@ -1,6 +1,6 @@
 use Rattle.std.proofs.Common.{◌≡◌, ◌≤◌, length, take, All, false}
 use Rattle.fuse_keeper.specs.Group.{HasId, IsKept, entries_of}
-use Rattle.fuse_session.specs.Group.{Gathers, classes_in}
+use Rattle.fuse_session.specs.inner.Group.{Gathers, classes_in}
 use Rattle.fuse_session.proofs.gather.gather.Given as goal
 
 abbrev pub invariant-loop-message : goal.invariant-loop-message

@@ -1,6 +1,6 @@
 use Rattle.std.proofs.Common.{◌≡◌, length}
 use Rattle.fuse_request.specs.Framing.{fed_of}
-use Rattle.fuse_session.specs.Receiving.{TookSome}
+use Rattle.fuse_session.proofs.Waiting.{TookSome}
 use Rattle.fuse_session.proofs.input.take_waiting.Given as goal
 
 abbrev pub invariant-loop-message : goal.invariant-loop-message

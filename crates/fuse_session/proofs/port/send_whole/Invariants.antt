@@ -1,5 +1,5 @@
 use Rattle.std.proofs.Common.{length}
-use Rattle.fuse_session.specs.Port.{SentPrefix}
+use Rattle.fuse_session.proofs.Bytes.{SentPrefix}
 use Rattle.fuse_session.proofs.Transcripts.{HandsSome}
 use Rattle.fuse_session.proofs.port.send_whole.Given as goal
 

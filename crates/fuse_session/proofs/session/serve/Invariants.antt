@@ -2,10 +2,12 @@ use Rattle.std.proofs.Common.{◌≡◌, ◌≤◌, ◌+◌, ◌*◌, ◌^◌, [
 use Rattle.fuse_request.specs.Framing.{fed_of}
 use Rattle.fuse_keeper.specs.KeeperState.{IsFirm, AnswersNoMore}
 use Rattle.fuse_keeper.specs.Group.{ids_of}
-use Rattle.fuse_session.specs.Moves.{HandsOn}
-use Rattle.fuse_session.specs.Counting.{IsBelow}
-use Rattle.fuse_session.specs.Receiving.{IsOpen}
-use Rattle.fuse_session.specs.Serving.{Whole}
+use Rattle.fuse_session.specs.inner.Moves.{HandsOn}
+use Rattle.fuse_session.specs.inner.Counting.{IsBelow}
+use Rattle.fuse_session.specs.inner.Receiving.{IsOpen}
+use Rattle.fuse_session.specs.Passage.{passage}
+use Rattle.fuse_session.specs.Serving.{nothing_waits, Whole}
+use Rattle.fuse_session.specs.inner.Turn.{waits}
 use Rattle.fuse_session.specs.Deeds.{Did}
 use Rattle.fuse_session.specs.Ends.{EndsNot}
 use Rattle.fuse_session.specs.Starts.{Kept}
@@ -14,10 +16,10 @@ use Rattle.fuse_session.proofs.session.serve.Given as goal
 
 abbrev pub invariant-loop-turn : goal.invariant-loop-turn
 invariant-loop-turn g l = record {
-  whole : Whole (g.K.Keeper.told l.fn.keeper) (g.K.Keeper.told l.keeper) (Answering (g.K.Keeper.told l.fn.keeper) (g.K.Keeper.told l.keeper)
+  whole : Whole (passage (g.K.Keeper.told l.fn.keeper) (g.K.Keeper.told l.keeper) (g.P.Port.told l.fn.port) (g.P.Port.told l.port)
+      (Answering (g.K.Keeper.told l.fn.keeper) (g.K.Keeper.told l.keeper)
       (Did (g.C.Clock.gave l.fn.clock l.clock) (g.K.Keeper.performed l.fn.keeper l.keeper) (g.P.Port.became l.fn.port l.port))
-      (g.P.Port.told l.fn.port).confirms) (g.P.Port.told l.fn.port) (g.P.Port.told l.port)
-      [] (ids_of l.pending.items) [] l.framer.bytes 0 l.framer.at l.counts;
+      (g.P.Port.told l.fn.port).confirms)) nothing_waits (waits (ids_of l.pending.items) l.framer) l.counts;
   ready : IsOpen l.framer;
   below : IsBelow l.counts (l.turn * 2 ^ 20);
   few : length l.pending.items ≤ 16;

@@ -9,15 +9,17 @@ none_pending t i there = absurd (cc there)
 
 pub returns : goal.returns
 returns g c = record {
-  ends = λ k k' port port' clock clock' ended run s h t stands none clean.
+  ends = λ k k' port port' clock clock' ended run s h t stands none intact.
       let b = run.broken in
-      run_lived g.K.Keeper.model _ _ s h t _ _ run.received b.timed b.others b.marks b.part b.deeds run.came b.prefix b.done b.moments b.replied
-      (b.life clean s h t stands (none_pending t) none);
+      let w = b.work in
+      run_lived g.K.Keeper.model _ _ s h t run.received w.timed b.others w.marks b.part w.deeds run.came b.prefix w.done b.moments b.replied
+      (b.life intact s h t stands (none_pending t) none);
   crashes = λ k k' port port' clock clock' ended run s h t stands none honest firm.
       let b = run.broken in
+      let w = b.work in
       let left = b.crash honest firm s h t stands (none_pending t) none in (
         left.0,
-        λ x r may. run_lived g.K.Keeper.model _ _ s h t _ _ run.received b.timed b.others b.marks b.part b.deeds run.came b.prefix b.done b.moments
+        λ x r may. run_lived g.K.Keeper.model _ _ s h t run.received w.timed b.others w.marks b.part w.deeds run.came b.prefix w.done b.moments
             b.replied (left.1 x r may),
       );
 }

@@ -1,14 +1,14 @@
-use Rattle.std.proofs.Common.{◌≡◌, ◌++◌, inl, true, false, sym, ap, refl, ◌∙◌, take, length, arith, [], subst}
+use Rattle.std.proofs.Common.{◌≡◌, ◌++◌, inl, sym, ap, refl, ◌∙◌, take, length, arith, [], subst}
 use Rattle.std.proofs.lemmas.List.{length-map}
 use Rattle.fuse_wire.specs.declared.id.Id.{Id}
 use Rattle.fuse_keeper.specs.History.{ids_in}
 use Rattle.fuse_session.specs.Starts.{Kept}
-use Rattle.fuse_session.specs.Moves.{HandsOn}
+use Rattle.fuse_session.specs.inner.Moves.{HandsOn}
 use Rattle.fuse_keeper.specs.Group.{ids_of, entry_of, entries_of}
-use Rattle.fuse_session.specs.Group.{classes_in}
+use Rattle.fuse_session.specs.inner.Group.{classes_in}
 use Rattle.fuse_session.proofs.Replies.{replied_none}
 use Rattle.fuse_session.proofs.Groups.{broken_none, broken_store, broken_sent, turned, firm_leaves, are_enough, stuck_zero, starts_zero, gathers_to}
-use Rattle.fuse_session.proofs.Handing.{hands_group, holds_under, under_kept, no_entries, performs_all, leaves_all, left_within, left_few, hands_on, few_left}
+use Rattle.fuse_session.proofs.Handing.{hands_group, holds_under, under_kept, no_entries, performs_all, leaves_all, left_few, hands_on, few_left}
 use Rattle.fuse_session.proofs.session.Session.serve_group.Goals as goal
 
 pub returns-in_default-clause-err : goal.returns-in_default-clause-err
@@ -17,7 +17,7 @@ returns-in_default-clause-err g c =
     let port = c.args.self.now.port.now in
     let p = g.P.Port.told port in
     let given = c.in_default.ensures.logged in
-    broken_none g.K.Keeper.model (g.K.Keeper.told k) (g.K.Keeper.told k) _ p p (ids_of c.args.self.now.pending.now.items) c.args.messages.now false true _ refl
+    broken_none g.K.Keeper.model (g.K.Keeper.told k) (g.K.Keeper.told k) _ p p (ids_of c.args.self.now.pending.now.items) c.args.messages.now _ refl
     (record { moments = given.0; asked = []; events = [] })
     (record {
       done = record { moments = given.1; asked = (g.met.K.Keeper.log).none k; events = (g.met.P.Port.path).none port };
@@ -27,12 +27,13 @@ returns-in_default-clause-err g c =
     (λ rows records held. held) (λ firm s h t so. firm_leaves g.K.Keeper.model (g.K.Keeper.told k) s h t firm so)
 
 pub returns-in_default-clause-at_most : goal.returns-in_default-clause-at_most
-returns-in_default-clause-at_most g c = λ clean (before : Kept) h.
+returns-in_default-clause-at_most g c = λ intact (before : Kept) h.
     holds_under g.K.Keeper.model before (g.K.Keeper.told c.args.self.now.keeper.now) (ids_of c.args.self.now.pending.now.items) h
 
 pub returns-in-Err-clause-at_most : goal.returns-in-Err-clause-at_most
-returns-in-Err-clause-at_most g c = λ clean (before : Kept) h.
+returns-in-Err-clause-at_most g c = λ intact (before : Kept) h.
     let called = c.in-Err.ensures.called in
+    let clean = intact.clean refl in
     under_kept g.K.Keeper.model before (g.K.Keeper.told c.args.self.now.keeper.now) (g.K.Keeper.told c.perform_group.new.keeper)
     (ids_of c.args.self.now.pending.now.items) (called.err clean) (called.err_lots clean) h
 
@@ -98,7 +99,6 @@ returns-in-Ok-send_answers-clause-ok g c =
     c.in-Ok-perform_group.dones.items c.as_slice-answered.result.now c.is_stuck.result c.next_of.result c.count_all.result
     (gathers_to g.K.Keeper.model.serves gave c.args.messages.now (length group.classes.items) c.len-count.result group.taken.items group.ends len c.in-Ok.ensures.gathers)
     c.as_slice-group.ensures.value c.perform_group.ensures.asked done.pending refl (performs_all M k k' pending es c.in-Ok-perform_group.dones.items done.ok)
-    (left_within pending left es done.pending)
     (λ honest u un have. few_left M k k' u pending left es done.pending (omega (arith, few)) (done.others honest) un have)
     (omega (
       arith,
@@ -151,15 +151,15 @@ returns-clause-err g c =
     broken_sent M c.histories_grow.ensures k k' gave (g.K.Keeper.performed c.args.self.now.keeper.now c.perform_group.new.keeper)
     (g.P.Port.became c.args.self.now.port.now c.send_answers.new.port) (g.P.Port.told c.args.self.now.port.now) _ pending left c.args.messages.now
     c.len-count.result group.taken.items group.ends c.as_slice-group.result.now (take c.len-count.result c.args.messages.now)
-    c.in-Ok-perform_group.dones.items c.as_slice-answered.result.now _ _
+    c.in-Ok-perform_group.dones.items c.as_slice-answered.result.now _
     (gathers_to g.K.Keeper.model.serves gave c.args.messages.now (length group.classes.items) c.len-count.result group.taken.items group.ends len c.in-Ok.ensures.gathers)
-    c.as_slice-group.ensures.value c.perform_group.ensures.asked refl (g.met.K.Keeper.sound c.perform_group.new.keeper).clean_is_honest
+    c.as_slice-group.ensures.value c.perform_group.ensures.asked refl
     (performs_all M k k' pending es c.in-Ok-perform_group.dones.items done.ok) (λ honest firm. done.firm honest (inl firm))
     (λ honest u un have. few_left M k k' u pending left es done.pending (omega (arith, few)) (done.others honest) un have)
     few c.as_slice-answered.ensures.value c.in-Err-send_answers.ensures.err
 
 pub returns-clause-at_most : goal.returns-clause-at_most
-returns-clause-at_most g c = λ clean (before : Kept) h.
+returns-clause-at_most g c = λ intact (before : Kept) h.
     let M = g.K.Keeper.model in
     let k = g.K.Keeper.told c.args.self.now.keeper.now in
     let k' = g.K.Keeper.told c.perform_group.new.keeper in
@@ -167,7 +167,7 @@ returns-clause-at_most g c = λ clean (before : Kept) h.
     let pending = ids_of c.args.self.now.pending.now.items in
     let left = ids_of c.perform_group.new.pending.items in
     let done = c.in-Ok-perform_group.ensures in
-    let honest = (g.met.K.Keeper.sound c.perform_group.new.keeper).clean_is_honest clean in
+    let honest = intact.honest in
     holds_under M before k' (left ++ ids_in es)
     (hands_on M before k k' pending left es done.pending
     (omega (arith, length-map c.as_slice-group.result.now entry_of, ap length c.as_slice-group.ensures.value, c.in-Ok.ensures.few))

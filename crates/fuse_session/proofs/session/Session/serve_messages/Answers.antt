@@ -1,15 +1,15 @@
 use Rattle.std.proofs.Common.{◌∙◌, ◌+◌, ◌-◌, ◌^◌, take, drop, length, arith, refl, sym, subst}
 use Rattle.fuse_keeper.specs.Group.{ids_of}
 use Rattle.fuse_session.specs.Starts.{Kept}
-use Rattle.fuse_session.specs.Deeds.{Did, Mute}
+use Rattle.fuse_session.specs.Deeds.{Did}
+use Rattle.fuse_session.specs.inner.Turn.{Mute}
 use Rattle.fuse_session.proofs.Doing.{did_none, mute_none, mute_more}
-use Rattle.fuse_session.specs.Counting.{IsBelow}
+use Rattle.fuse_session.specs.inner.Counting.{IsBelow}
+use Rattle.fuse_session.specs.Passage.{passage}
 use Rattle.fuse_session.specs.Serving.{Turned, goes_on, lasts}
 use Rattle.fuse_session.proofs.Bytes.{quiet_none, quiet_more}
 use Rattle.fuse_session.proofs.Counted.{plus_below, below_more}
-use Rattle.fuse_session.proofs.Turns.{turned_none, group_more, group_broken, worked_part, worked_all, lasts_on, within_parts}
-use Rattle.fuse_session.proofs.Turns.{is_over, isnt_over}
-use Rattle.fuse_session.proofs.Sessions.{may_fault}
+use Rattle.fuse_session.proofs.Turns.{turned_none, group_more, group_broken, worked_part, worked_all, lasts_on, within_parts, is_over, isnt_over}
 use Rattle.fuse_session.proofs.session.Session.serve_messages.Goals as goal
 
 pub loop-at-init : goal.loop-at-init
@@ -36,13 +36,12 @@ returns-in-Err-clause-err g c =
     let inv = c.loop-at.invariant in
     group_broken g.K.Keeper.model c.histories_grow.ensures (g.K.Keeper.told c.args.self.now.keeper.now) (g.K.Keeper.told c.loop-at.self.keeper.now)
     (g.K.Keeper.told c.serve_group.new.self.keeper.now) _ _
-    _ _ _ _ _ _ c.args.messages.now _ c.loop-at.at _ _ _ _ _
-    refl inv.turned c.in-Err.ensures.err (λ honest. may_fault (g.K.Keeper.told c.args.self.now.keeper.now).may_answer (g.K.Keeper.told c.loop-at.self.keeper.now).may_answer c.in-Err.fault
-    (inv.may honest)) (g.met.K.Keeper.sound c.serve_group.new.self.keeper.now).clean_is_honest c.in-Err.ensures.honest inv.firm
+    _ _ _ _ _ _ c.args.messages.now _ c.loop-at.at _ _
+    refl inv.turned c.in-Err.ensures.err inv.may c.in-Err.ensures.honest inv.firm
     (λ b two. mute_more g.C.Clock.gave g.K.Keeper.performed g.P.Port.became g.met.C.Clock.logged g.met.K.Keeper.log g.met.P.Port.path
     c.args.self.now.clock.now c.loop-at.self.clock.now c.serve_group.new.self.clock.now
     c.args.self.now.keeper.now c.loop-at.self.keeper.now c.serve_group.new.self.keeper.now
-    c.args.self.now.port.now c.loop-at.self.port.now c.serve_group.new.self.port.now inv.turned.deeds b inv.turned.done two)
+    c.args.self.now.port.now c.loop-at.self.port.now c.serve_group.new.self.port.now inv.turned.work.deeds b inv.turned.work.done two)
 
 pub sum_of-sum-requires-clause-a : goal.sum_of-sum-requires-clause-a
 sum_of-sum-requires-clause-a g c = below_more c.loop-at.counts c.loop-at.at (2 ^ 63 - 1) (omega (arith, c.loop-at.invariant.within, c.requires.short))
@@ -55,15 +54,14 @@ sum_of-sum-requires-clause-b g c =
     c.in-Ok.ensures.below
 
 pub returns-then-over-clause-ok : goal.returns-then-over-clause-ok
-returns-then-over-clause-ok g c = λ begin.
+returns-then-over-clause-ok g c =
     let ms = c.args.messages.now in
     let i = c.loop-at.at in
     let n = c.in-Ok.progress.count in
     let inv = c.loop-at.invariant in
-    worked_part g.K.Keeper.model (g.K.Keeper.told c.args.self.now.keeper.now) (g.K.Keeper.told c.serve_group.new.self.keeper.now) _ _ _ (ids_of c.args.self.now.pending.now.items)
-    (ids_of c.serve_group.new.self.pending.now.items) ms (take (length ms - i) (drop i ms)) i n c.in-Ok.progress.next begin _ c.sum_of-sum.result
+    worked_part g.K.Keeper.model _ (ids_of c.args.self.now.pending.now.items)
+    (ids_of c.serve_group.new.self.pending.now.items) ms (take (length ms - i) (drop i ms)) i n c.in-Ok.progress.next c.sum_of-sum.result
     refl (is_over (goes_on c.in-Ok.progress.next) (sym c.is_over-over.ensures ∙ c.if-over.true)) c.in-Ok.ensures.zero
-    refl
     (group_more g.K.Keeper.model c.histories_grow.ensures (g.K.Keeper.told c.args.self.now.keeper.now) (g.K.Keeper.told c.loop-at.self.keeper.now)
     (g.K.Keeper.told c.serve_group.new.self.keeper.now) _ _
     _ _ _ _ _ _ _ ms (take (length ms - i) (drop i ms)) i n
@@ -72,7 +70,7 @@ returns-then-over-clause-ok g c = λ begin.
     (λ b two. mute_more g.C.Clock.gave g.K.Keeper.performed g.P.Port.became g.met.C.Clock.logged g.met.K.Keeper.log g.met.P.Port.path
     c.args.self.now.clock.now c.loop-at.self.clock.now c.serve_group.new.self.clock.now
     c.args.self.now.keeper.now c.loop-at.self.keeper.now c.serve_group.new.self.keeper.now
-    c.args.self.now.port.now c.loop-at.self.port.now c.serve_group.new.self.port.now inv.turned.deeds b inv.turned.done two))
+    c.args.self.now.port.now c.loop-at.self.port.now c.serve_group.new.self.port.now inv.turned.work.deeds b inv.turned.work.done two))
 
 pub loop-at-preserved : goal.loop-at-preserved
 loop-at-preserved g c =
@@ -84,9 +82,10 @@ loop-at-preserved g c =
     let k' = c.serve_group.new.self.keeper.now in
     record {
       within = within_parts ms i n inv.within c.in-Ok.ensures.within;
-      turned = subst (λ b. Turned (g.K.Keeper.told c.args.self.now.keeper.now) (g.K.Keeper.told k') (Mute (Did (g.C.Clock.gave c.args.self.now.clock.now c.serve_group.new.self.clock.now)
-          (g.K.Keeper.performed c.args.self.now.keeper.now k') (g.P.Port.became c.args.self.now.port.now c.serve_group.new.self.port.now)))
+      turned = subst (λ b. Turned (passage (g.K.Keeper.told c.args.self.now.keeper.now) (g.K.Keeper.told k')
           (g.P.Port.told c.args.self.now.port.now) (g.P.Port.told c.serve_group.new.self.port.now)
+          (Mute (Did (g.C.Clock.gave c.args.self.now.clock.now c.serve_group.new.self.clock.now)
+          (g.K.Keeper.performed c.args.self.now.keeper.now k') (g.P.Port.became c.args.self.now.port.now c.serve_group.new.self.port.now))))
           (ids_of c.args.self.now.pending.now.items) (ids_of c.serve_group.new.self.pending.now.items) (take (i + n) ms) b c.sum_of-sum.result) (lasts_on c.in-Ok.progress.next on)
           (group_more g.K.Keeper.model c.histories_grow.ensures (g.K.Keeper.told c.args.self.now.keeper.now) (g.K.Keeper.told c.loop-at.self.keeper.now) (g.K.Keeper.told k')
           _ _
@@ -96,7 +95,7 @@ loop-at-preserved g c =
           (λ b two. mute_more g.C.Clock.gave g.K.Keeper.performed g.P.Port.became g.met.C.Clock.logged g.met.K.Keeper.log g.met.P.Port.path
           c.args.self.now.clock.now c.loop-at.self.clock.now c.serve_group.new.self.clock.now
           c.args.self.now.keeper.now c.loop-at.self.keeper.now c.serve_group.new.self.keeper.now
-          c.args.self.now.port.now c.loop-at.self.port.now c.serve_group.new.self.port.now inv.turned.deeds b inv.turned.done two));
+          c.args.self.now.port.now c.loop-at.self.port.now c.serve_group.new.self.port.now inv.turned.work.deeds b inv.turned.work.done two));
       loans = (c.in-Ok.ensures.loans.0 ∙ inv.loans.0, c.in-Ok.ensures.loans.1 ∙ inv.loans.1, c.in-Ok.ensures.loans.2 ∙ inv.loans.2, c.in-Ok.ensures.loans.3 ∙ inv.loans.3);
       below = subst (λ x. IsBelow x (i + n)) (sym c.sum_of-sum.ensures) (plus_below c.loop-at.counts c.in-Ok.progress.counts i n inv.below c.in-Ok.ensures.below);
       few = c.in-Ok.ensures.few;
@@ -113,11 +112,10 @@ loop-at-preserved g c =
     }
 
 pub returns-clause-ok : goal.returns-clause-ok
-returns-clause-ok g c = λ begin.
+returns-clause-ok g c =
     let inv = c.loop-at.invariant in
-    worked_all g.K.Keeper.model (g.K.Keeper.told c.args.self.now.keeper.now) (g.K.Keeper.told c.loop-at.self.keeper.now) _ _ _ (ids_of c.args.self.now.pending.now.items)
-    (ids_of c.loop-at.self.pending.now.items) c.args.messages.now c.loop-at.at begin _ c.loop-at.counts
-    c.loop-at-test.false refl inv.turned
+    worked_all g.K.Keeper.model _ (ids_of c.args.self.now.pending.now.items) (ids_of c.loop-at.self.pending.now.items) c.args.messages.now c.loop-at.at
+    c.loop-at.counts c.loop-at-test.false inv.turned
 
 pub returns-in-Err-clause-unopened : goal.returns-in-Err-clause-unopened
 returns-in-Err-clause-unopened g c = (g.met.K.Keeper.counted).then c.args.self.now.keeper.now c.loop-at.self.keeper.now c.serve_group.new.self.keeper.now 0 0 c.loop-at.invariant.unopened
@@ -151,7 +149,6 @@ pub returns-clause-medium : goal.returns-clause-medium
 returns-clause-medium g c = c.loop-at.invariant.medium
 
 pub returns-in-Err-clause-at_most : goal.returns-in-Err-clause-at_most
-returns-in-Err-clause-at_most g c = λ confirms clean (before : Kept) h.
+returns-in-Err-clause-at_most g c = λ confirms intact (before : Kept) h.
     let inv = c.loop-at.invariant in
-    let honest = c.in-Err.ensures.honest ((g.met.K.Keeper.sound c.serve_group.new.self.keeper.now).clean_is_honest clean) in
-    c.in-Err.ensures.at_most clean before (inv.more confirms honest before h)
+    c.in-Err.ensures.at_most intact before (inv.more confirms (c.in-Err.ensures.honest intact.honest) before h)

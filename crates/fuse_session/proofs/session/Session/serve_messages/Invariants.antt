@@ -1,12 +1,14 @@
 use Rattle.std.proofs.Common.{◌≡◌, ◌≤◌, ◌-◌, length, take, true, false}
 use Rattle.fuse_session.specs.Starts.{Kept}
-use Rattle.fuse_session.specs.Deeds.{Did, Mute}
+use Rattle.fuse_session.specs.Deeds.{Did}
+use Rattle.fuse_session.specs.inner.Turn.{Mute}
 use Rattle.fuse_keeper.specs.KeeperState.{IsFirm, AnswersNoMore}
 use Rattle.fuse_keeper.specs.Group.{ids_of}
-use Rattle.fuse_session.specs.Loans.{SameLoans}
+use Rattle.fuse_session.specs.inner.Loans.{SameLoans}
 use Rattle.fuse_session.specs.Port.{IsQuiet}
-use Rattle.fuse_session.specs.Moves.{HandsOn}
-use Rattle.fuse_session.specs.Counting.{IsBelow}
+use Rattle.fuse_session.specs.inner.Moves.{HandsOn}
+use Rattle.fuse_session.specs.inner.Counting.{IsBelow}
+use Rattle.fuse_session.specs.Passage.{passage}
 use Rattle.fuse_session.specs.Serving.{Turned}
 use Rattle.fuse_session.proofs.session.Session.serve_messages.Given as goal
 
@@ -14,8 +16,9 @@ abbrev pub invariant-loop-at : goal.invariant-loop-at
 invariant-loop-at g l = record {
   within : l.at ≤ length l.messages;
   loans : SameLoans l.fn.self l.self;
-  turned : Turned (g.K.Keeper.told l.fn.self.keeper.now) (g.K.Keeper.told l.self.keeper.now) (Mute (Did (g.C.Clock.gave l.fn.self.clock.now l.self.clock.now)
-      (g.K.Keeper.performed l.fn.self.keeper.now l.self.keeper.now) (g.P.Port.became l.fn.self.port.now l.self.port.now))) (g.P.Port.told l.fn.self.port.now) (g.P.Port.told l.self.port.now)
+  turned : Turned (passage (g.K.Keeper.told l.fn.self.keeper.now) (g.K.Keeper.told l.self.keeper.now)
+      (g.P.Port.told l.fn.self.port.now) (g.P.Port.told l.self.port.now) (Mute (Did (g.C.Clock.gave l.fn.self.clock.now l.self.clock.now)
+      (g.K.Keeper.performed l.fn.self.keeper.now l.self.keeper.now) (g.P.Port.became l.fn.self.port.now l.self.port.now))))
       (ids_of l.fn.self.pending.now.items) (ids_of l.self.pending.now.items) (take l.at l.messages) true l.counts;
   below : IsBelow l.counts l.at;
   few : length l.self.pending.now.items ≤ 16;

@@ -4,18 +4,21 @@ use Rattle.fuse_session.specs.Starts.{Kept}
 use Rattle.fuse_session.specs.declared.port.Received.{Received as Receipt}
 use Rattle.fuse_session.specs.Transcript.{Received}
 use Rattle.fuse_session.specs.Deeds.{Did}
-use Rattle.fuse_session.specs.Turn.{OneTurn}
+use Rattle.fuse_session.specs.inner.Turn.{OneTurn, muted, waits}
 use Rattle.fuse_session.proofs.Doing.{turn_none, turn_hears}
 use Rattle.fuse_keeper.specs.Group.{ids_of}
-use Rattle.fuse_session.specs.Counting.{IsBelow, none_counted}
-use Rattle.fuse_session.specs.Faults.{is_port}
-use Rattle.fuse_session.specs.Moves.{FailedBy}
-use Rattle.fuse_session.specs.Serving.{Whole}
+use Rattle.fuse_session.specs.inner.Counting.{IsBelow}
+use Rattle.fuse_session.specs.Counting.{none_counted}
+use Rattle.fuse_session.specs.inner.Moves.{FailedBy}
+use Rattle.fuse_session.specs.Ended.{ended_store, IsIntact}
+use Rattle.fuse_session.specs.Passage.{passage}
+use Rattle.fuse_session.specs.Serving.{Whole, Broken}
+use Rattle.fuse_session.specs.inner.Finishing.{ended_at, ended_port}
 use Rattle.fuse_session.proofs.Counted.{below_more}
 use Rattle.fuse_session.proofs.Handing.{holds_under}
 use Rattle.fuse_session.proofs.Growing.{life_heard, whole_heard}
 use Rattle.fuse_session.proofs.Sessions.{life_unheard, ends_unheard, unheard_store, fault_ends, fault_not_turns, fault_counts, life_worked, ends_finished}
-use Rattle.fuse_session.proofs.Sessions.{finished_store, finished_counts, unheard_counts, fault_may_end, none_below}
+use Rattle.fuse_session.proofs.Sessions.{finished_store, finished_counts, unheard_counts, none_below}
 use Rattle.fuse_session.proofs.session.Session.serve_turn.Goals as goal
 
 -- ---- nothing was received
@@ -32,7 +35,7 @@ returns-in-Err-clause-err g c =
     result bytes ((g.met.C.Clock.logged).none clock) ((g.met.K.Keeper.log).none keeper) once in
     let by = unheard_store e became _ _ c.args.framer.now c.in-Err.ensures.err in
     record {
-      life = life_unheard g.K.Keeper.model k _ became _ _ (ids_of c.args.self.now.pending.now.items) c.args.framer.now e _ _ _ by.0 alone c.in-Err.ensures.err
+      life = life_unheard g.K.Keeper.model k _ became _ _ (ids_of c.args.self.now.pending.now.items) c.args.framer.now e by.0 alone c.in-Err.ensures.err
           c.in-Err.ensures.hearing;
       counts = none_counted;
       below = none_below (2 ^ 20);
@@ -73,28 +76,32 @@ returns-in-Err-serve_messages-clause-err g c =
     let k' = g.K.Keeper.told c.serve_messages.new.self.keeper.now in
     let s = c.in-Err-serve_messages.ensures in
     let p = g.P.Port.told c.args.self.now.port.now in
+    let q = g.P.Port.told c.receive_messages.new.port in
     let r = g.P.Port.told c.serve_messages.new.self.port.now in
+    let e = c.ended_of.ensures.is in
+    let pass = passage k k' q r (Did (g.C.Clock.gave c.args.self.now.clock.now c.serve_messages.new.self.clock.now)
+    (g.K.Keeper.performed c.args.self.now.keeper.now c.serve_messages.new.self.keeper.now)
+    (g.P.Port.became c.receive_messages.new.port c.serve_messages.new.self.port.now)) in
     record {
       life = life_heard g.K.Keeper.model c.histories_grow.ensures k k' s.honest
           _ _ (g.P.Port.became c.args.self.now.port.now c.receive_messages.new.port) _ _ _ (ids_of c.args.self.now.pending.now.items)
-          c.args.framer.now c.receive_messages.new.framer c.in-Ok.waiting.messages.items c.as_slice-slice.result.now c.in-Ok.waiting.fault _ _ _ _ _ _
+          c.args.framer.now c.receive_messages.new.framer c.in-Ok.waiting.messages.items c.as_slice-slice.result.now c.in-Ok.waiting.fault _
           c.in-Ok.ensures.ok (λ b two. turn_hears (g.C.Clock.gave c.args.self.now.clock.now c.serve_messages.new.self.clock.now)
           (g.K.Keeper.performed c.args.self.now.keeper.now c.serve_messages.new.self.keeper.now) g.P.Port.became g.met.P.Port.path c.args.self.now.port.now
           c.receive_messages.new.port c.serve_messages.new.self.port.now c.in-Ok.ensures.ok.came.result c.in-Ok.ensures.ok.received b c.in-Ok.ensures.ok.came.once two)
-          c.in-Ok.ensures.hearing c.as_slice-slice.ensures.value c.ended_of.ensures.store c.ended_of.ensures.memory s.err
-          (λ _. fault_may_end k.may_answer c.in-Err-serve_messages.fault c.ended_of.result c.ended_of.ensures.is) s.quiet
-          (g.met.K.Keeper.sound c.serve_messages.new.self.keeper.now).clean_is_honest;
+          c.in-Ok.ensures.hearing c.as_slice-slice.ensures.value
+          (subst (λ x. Broken (muted pass) (ids_of c.args.self.now.pending.now.items) c.as_slice-slice.result.now x) (sym e) s.err) s.quiet;
       counts = none_counted;
       below = none_below (2 ^ 20);
-      ends = fault_ends g.K.Keeper.model _ _ _ p (g.P.Port.told c.receive_messages.new.port) r _ _ _ _ c.ended_of.result _ c.ended_of.ensures.fault
+      ends = fault_ends g.K.Keeper.model _ _ _ c.ended_of.result _ c.ended_of.ensures.fault
           (s.quiet.receive_failures ∙ c.in-Ok.ensures.ok.came.receive_failures);
       told_are = fault_counts c.ended_of.result p r none_counted c.ended_of.ensures.fault
           (s.quiet.receive_failures ∙ c.in-Ok.ensures.ok.came.receive_failures);
-      at_most = λ confirms clean (before : Kept) h. s.at_most (c.in-Ok.ensures.hearing.confirms ∙ confirms) clean before h;
-      failed = subst (λ b. FailedBy b p.failures r.failures) (sym c.ended_of.ensures.port)
-          (subst (λ n. FailedBy (is_port c.in-Err-serve_messages.fault) n r.failures) c.in-Ok.ensures.ok.came.failures s.failed);
-      firm = λ isnt. s.firm_still (sym c.ended_of.ensures.store ∙ isnt);
-      store = s.store ∙ sym c.ended_of.ensures.store;
+      at_most = λ confirms intact (before : Kept) h. s.at_most (c.in-Ok.ensures.hearing.confirms ∙ confirms) (subst (IsIntact k') e intact) before h;
+      failed = subst (λ x. FailedBy (ended_port x) p.failures r.failures) (sym e)
+          (subst (λ n. FailedBy (ended_port (ended_at c.in-Err-serve_messages.fault)) n r.failures) c.in-Ok.ensures.ok.came.failures s.failed);
+      firm = λ isnt. s.firm_still (ap ended_store (sym e) ∙ isnt);
+      store = s.store ∙ ap ended_store (sym e);
       not_turns = fault_not_turns c.ended_of.result c.ended_of.ensures.fault;
     }
 
@@ -112,20 +119,19 @@ returns-in-Ok-finish-clause-ok g c =
     let short = c.requires.opened.short in
     let room = c.requires.room in
     record {
-      whole = subst (λ x. Whole k k' (OneTurn (Did (g.C.Clock.gave c.args.self.now.clock.now c.serve_messages.new.self.clock.now)
+      whole = subst (Whole (passage k k' (g.P.Port.told c.args.self.now.port.now) (g.P.Port.told c.serve_messages.new.self.port.now)
+          (OneTurn (Did (g.C.Clock.gave c.args.self.now.clock.now c.serve_messages.new.self.clock.now)
           (g.K.Keeper.performed c.args.self.now.keeper.now c.serve_messages.new.self.keeper.now)
-          (g.P.Port.became c.args.self.now.port.now c.serve_messages.new.self.port.now)))
-          (g.P.Port.told c.args.self.now.port.now) (g.P.Port.told c.serve_messages.new.self.port.now)
-          (ids_of c.args.self.now.pending.now.items) (ids_of c.serve_messages.new.self.pending.now.items) c.args.framer.now.bytes
-          c.receive_messages.new.framer.bytes c.args.framer.now.at c.receive_messages.new.framer.at x) (sym fin.0)
+          (g.P.Port.became c.args.self.now.port.now c.serve_messages.new.self.port.now))))
+          (waits (ids_of c.args.self.now.pending.now.items) c.args.framer.now)
+          (waits (ids_of c.serve_messages.new.self.pending.now.items) c.receive_messages.new.framer)) (sym fin.0)
           (whole_heard g.K.Keeper.model c.histories_grow.ensures k k' s.honest _ _ (g.P.Port.became c.args.self.now.port.now c.receive_messages.new.port) _ _ _
           (ids_of c.args.self.now.pending.now.items) (ids_of c.serve_messages.new.self.pending.now.items) c.args.framer.now c.receive_messages.new.framer
-          c.in-Ok.waiting.messages.items c.as_slice-slice.result.now c.in-Ok.waiting.fault 0 _
-          progress.next progress.counts heard (λ b two. turn_hears (g.C.Clock.gave c.args.self.now.clock.now c.serve_messages.new.self.clock.now)
+          c.in-Ok.waiting.messages.items c.as_slice-slice.result.now c.in-Ok.waiting.fault
+          progress heard (λ b two. turn_hears (g.C.Clock.gave c.args.self.now.clock.now c.serve_messages.new.self.clock.now)
           (g.K.Keeper.performed c.args.self.now.keeper.now c.serve_messages.new.self.keeper.now) g.P.Port.became g.met.P.Port.path c.args.self.now.port.now
           c.receive_messages.new.port c.serve_messages.new.self.port.now c.in-Ok.ensures.ok.came.result c.in-Ok.ensures.ok.received b c.in-Ok.ensures.ok.came.once two)
-          c.in-Ok.ensures.hearing c.as_slice-slice.ensures.value fin.1 (s.ok 0) s.quiet);
-      opened = took.opened fin.2;
+          c.in-Ok.ensures.hearing c.as_slice-slice.ensures.value fin.1 s.ok s.quiet);
       below = subst (λ x. IsBelow x (2 ^ 20)) (sym fin.0) (below_more progress.counts (length c.as_slice-slice.result.now) (2 ^ 20)
           (omega (arith, ap length c.as_slice-slice.ensures.value, took.few, took.at, c.in-Ok.ensures.fed, short, room)) s.below);
       going = s.going;
@@ -135,6 +141,9 @@ returns-in-Ok-finish-clause-ok g c =
       receive_failures = s.quiet.receive_failures ∙ heard.came.receive_failures;
       not_ended = record { ends = s.quiet.ends ∙ heard.came.ends; has_ended = s.quiet.has_ended ∙ heard.came.has_ended };
     }
+
+pub returns-in-Ok-finish-clause-opened : goal.returns-in-Ok-finish-clause-opened
+returns-in-Ok-finish-clause-opened g c = c.in-Ok.ensures.ok.took.opened c.in-Ok-finish.ensures.ok.2
 
 -- ---- up to the end of the session
 
@@ -151,28 +160,26 @@ returns-clause-err g c =
     let short = c.requires.opened.short in
     let room = c.requires.room in
     let by = finished_store e _ _ _ fin.1 in
-    let clean = (g.met.K.Keeper.sound c.serve_messages.new.self.keeper.now).clean_is_honest in
     record {
       life = life_worked g.K.Keeper.model c.histories_grow.ensures k k' s.honest _ _ (g.P.Port.became c.args.self.now.port.now c.receive_messages.new.port) _ _ _
           (ids_of c.args.self.now.pending.now.items) (ids_of c.serve_messages.new.self.pending.now.items)
-          c.args.framer.now c.receive_messages.new.framer c.in-Ok.waiting.messages.items c.as_slice-slice.result.now c.in-Ok.waiting.fault 0 _ progress.next
-          progress.counts _ _ _ by.0 heard (λ b two. turn_hears (g.C.Clock.gave c.args.self.now.clock.now c.serve_messages.new.self.clock.now)
+          c.args.framer.now c.receive_messages.new.framer c.in-Ok.waiting.messages.items c.as_slice-slice.result.now c.in-Ok.waiting.fault progress
+          e by.0 heard (λ b two. turn_hears (g.C.Clock.gave c.args.self.now.clock.now c.serve_messages.new.self.clock.now)
           (g.K.Keeper.performed c.args.self.now.keeper.now c.serve_messages.new.self.keeper.now) g.P.Port.became g.met.P.Port.path c.args.self.now.port.now
           c.receive_messages.new.port c.serve_messages.new.self.port.now c.in-Ok.ensures.ok.came.result c.in-Ok.ensures.ok.received b c.in-Ok.ensures.ok.came.once two)
-          c.in-Ok.ensures.hearing c.as_slice-slice.ensures.value (s.ok 0) s.quiet clean s.firm;
+          c.in-Ok.ensures.hearing c.as_slice-slice.ensures.value s.ok s.quiet s.firm;
       counts = progress.counts;
       below = below_more progress.counts (length c.as_slice-slice.result.now) (2 ^ 20)
           (omega (arith, ap length c.as_slice-slice.ensures.value, took.few, took.at, c.in-Ok.ensures.fed, short, room)) s.below;
       ends = ends_finished g.K.Keeper.model c.histories_grow.ensures k k' s.honest _ _ (g.P.Port.became c.args.self.now.port.now c.receive_messages.new.port) _ _ _
           (ids_of c.args.self.now.pending.now.items) (ids_of c.serve_messages.new.self.pending.now.items)
-          c.args.framer.now c.receive_messages.new.framer c.in-Ok.waiting.messages.items c.as_slice-slice.result.now c.in-Ok.waiting.fault _ _
-          progress.next progress.counts 0 e fin.1 heard (λ b two. turn_hears (g.C.Clock.gave c.args.self.now.clock.now c.serve_messages.new.self.clock.now)
+          c.args.framer.now c.receive_messages.new.framer c.in-Ok.waiting.messages.items c.as_slice-slice.result.now c.in-Ok.waiting.fault _
+          progress 0 e fin.1 heard (λ b two. turn_hears (g.C.Clock.gave c.args.self.now.clock.now c.serve_messages.new.self.clock.now)
           (g.K.Keeper.performed c.args.self.now.keeper.now c.serve_messages.new.self.keeper.now) g.P.Port.became g.met.P.Port.path c.args.self.now.port.now
           c.receive_messages.new.port c.serve_messages.new.self.port.now c.in-Ok.ensures.ok.came.result c.in-Ok.ensures.ok.received b c.in-Ok.ensures.ok.came.once two)
-          c.in-Ok.ensures.hearing c.as_slice-slice.ensures.value (omega (arith, c.fed.ensures, c.held.ensures))
-          (s.ok _) s.quiet;
+          c.in-Ok.ensures.hearing c.as_slice-slice.ensures.value (omega (arith, c.fed.ensures, c.held.ensures)) s.ok s.quiet;
       told_are = finished_counts e _ _ _ c.in-Err-finish.served.counts progress.counts fin.1 _ fin.0;
-      at_most = λ confirms is (before : Kept) h. holds_under g.K.Keeper.model before k' _ (s.more (c.in-Ok.ensures.hearing.confirms ∙ confirms) (clean is)
+      at_most = λ confirms is (before : Kept) h. holds_under g.K.Keeper.model before k' _ (s.more (c.in-Ok.ensures.hearing.confirms ∙ confirms) is.honest
           before h);
       failed = subst (λ b. FailedBy b (g.P.Port.told c.args.self.now.port.now).failures (g.P.Port.told c.serve_messages.new.self.port.now).failures)
           (sym by.1) (s.failures ∙ heard.came.failures);

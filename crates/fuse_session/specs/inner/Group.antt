@@ -8,23 +8,12 @@ use Rattle.fuse_request.specs.declared.class.Class.TheVariants.{Silent, Bare, Ke
 use Rattle.fuse_request.specs.declared.request.Request.{Request}
 use Rattle.fuse_request.specs.Classes.{class_for, is_zero}
 use Rattle.fuse_request.specs.Opcodes.{OpcodeSet}
-use Rattle.fuse_request.specs.Stream.{joined}
-use Rattle.fuse_keeper.specs.Model.{Model}
 use Rattle.fuse_keeper.specs.declared.keeper.Done.{Done}
-use Rattle.fuse_keeper.specs.History.{Entry, entry_id, History, add, said}
 use Rattle.fuse_keeper.specs.Group.{entries_of}
 use Rattle.fuse_session.specs.declared.counts.SessionCounts.{SessionCounts}
 use Rattle.fuse_session.specs.declared.group.Next.{Next}
 use Rattle.fuse_session.specs.declared.group.Next.TheVariants.{GoesOn as GoesOnHere, Destroyed, ZeroUnique}
-use Rattle.fuse_session.specs.declared.fault.Fault.{Fault}
-use Rattle.fuse_session.specs.declared.fault.Fault.TheVariants.{PortFailed, Store, Memory}
-use Rattle.fuse_session.specs.Port.{PortState, IsQuiet, SentWhole, SentPart}
 use Rattle.fuse_session.specs.Processed.{Timed, bytes_of, kept_in, unique_of, destroys, moments_in}
-use Rattle.fuse_session.specs.Transcript.{PortEvent, Hands}
-use Rattle.fuse_session.specs.Slices.{RestsOfAll, RestsOfSome, HandsSlices}
-use Rattle.fuse_session.specs.Moves.{FailedBy}
-use Rattle.fuse_session.specs.Faults.{is_port, is_store}
-use Rattle.fuse_session.specs.Settling.{Mark, replies, settles, settled_in, Replied, BeginsNext}
 use Rattle.fuse_session.specs.Counting.{counted_one, none_counted, plus, is_interrupt}
 
 -- no message is zero, and none is a kept DESTROY, but for the last
@@ -105,11 +94,6 @@ abbrev pub wires : OpcodeSet → List (List ℕ) → List Said → List (List �
 wires V [] answers = []
 wires V (m ∷ ms) answers = head_wire (class_for V m) (unique_of m) answers ∷ wires V ms (left_by (class_for V m) answers)
 
--- the answer to each entry when it is added
-abbrev pub told : (M : Model) → M.State → History → List Entry → List (Option Said)
-told M s h [] = []
-told M s h (e ∷ es) = said M s (add h e) (entry_id e) ∷ told M s (add h e) es
-
 -- there is an answer for each kept message
 abbrev pub AreEnough : OpcodeSet → List (List ℕ) → List Said → Type 0
 AreEnough V [] answers = Unit {0}
@@ -124,56 +108,3 @@ head_repeat (b ∷ repeated) = b
 abbrev pub tallied : OpcodeSet → List (List ℕ) → List Bool → SessionCounts
 tallied V [] repeated = none_counted
 tallied V (m ∷ ms) repeated = plus (counted_one (class_for V m) (head_repeat repeated) (is_interrupt m)) (tallied V ms (left_by (class_for V m) repeated))
-
--- an answer wasn't sent whole
-abbrev pub SendFails : Fault → (List PortEvent → Type 0) → PortState → PortState → List ℕ → Type 0
-SendFails Memory became old new bytes = (new ≡ old) × became []
-SendFails PortFailed became old new bytes = SentPart old new bytes × Hands became bytes false
-SendFails (Store fault) became old new bytes = ⊥
-
--- what is to be sent for a message was sent, and the id that it settles is pending
-pub record SentNext (V : OpcodeSet) (became : List PortEvent → Type 0) (old new : PortState) (message bytes : List ℕ) (pending pending' : List ℕ) : Type 0 where
-  pub mark : Mark
-  pub reply : mark.reply ≡ bytes
-  pub sent : SentWhole old new mark.reply mark.gone
-  pub hands : Hands became mark.reply true
-  pub handed : pending' ≡ pending ++ settles V old.confirms message mark
-
--- so it was for messages, whose answers were these
-pub record SentAll (V : OpcodeSet) (became : List PortEvent → Type 0) (old new : PortState) (messages answers : List (List ℕ)) (pending pending' : List ℕ) : Type 0 where
-  pub marks : List Mark
-  pub whole : replies marks ≡ answers
-  pub full : length marks ≡ length messages
-  pub replied : Replied old new marks []
-  pub failures : new.failures ≡ old.failures
-  pub quiet : IsQuiet old new
-  pub hands : HandsSlices became (RestsOfAll marks)
-  pub handed : pending' ≡ pending ++ settled_in V old.confirms messages marks
-
--- so it was for the first of them, and these are left
-pub record SentFirst (V : OpcodeSet) (became : List PortEvent → Type 0) (old new : PortState) (messages answers left : List (List ℕ)) (pending pending' : List ℕ) : Type 0 where
-  pub marks : List Mark
-  pub whole : answers ≡ replies marks ++ left
-  pub full : length marks ≡ length messages
-  pub replied : Replied old new marks []
-  pub failures : new.failures ≡ old.failures
-  pub quiet : IsQuiet old new
-  pub hands : HandsSlices became (RestsOfAll marks)
-  pub handed : pending' ≡ pending ++ settled_in V old.confirms messages marks
-
--- the first of these answers were sent whole, and of the next one a part
-pub record SentSome (became : List PortEvent → Type 0) (old new : PortState) (answers : List (List ℕ)) (fault : Fault) : Type 0 where
-  pub marks : List Mark
-  pub later : List (List ℕ)
-  pub part : List ℕ
-  pub unsent : List ℕ
-  pub whole : answers ≡ replies marks ++ later
-  pub begun : joined later ≡ part ++ unsent
-  pub next : BeginsNext later part
-  pub replied : Replied old new marks part
-  pub memory : fault ≡ Memory → part ≡ []
-  pub hands : HandsSlices became (RestsOfSome marks part)
-  pub all : fault ≡ Memory → HandsSlices became (RestsOfAll marks)
-  pub sends : is_store fault ≡ false
-  pub failed : FailedBy (is_port fault) old.failures new.failures
-  pub quiet : IsQuiet old new

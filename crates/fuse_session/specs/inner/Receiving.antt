@@ -19,15 +19,6 @@ pub record IsOpen (h : Held) : Type 0 where
   pub good : bad_length h.at h.bytes ≡ None
   pub short : length h.bytes < max_message_len
 
--- the first messages were taken
-pub record TookSome (old new : Held) (messages : List (List ℕ)) : Type 0 where
-  pub prefix : (cut old.bytes).0 ≡ messages ++ (cut new.bytes).0
-  pub rest : (cut old.bytes).1 ≡ (cut new.bytes).1
-  pub at : new.at ≡ old.at + length (joined messages)
-  pub fault : new.fault ≡ None
-  pub each : All IsMessage messages
-  pub few : length messages ≤ length (joined messages)
-
 -- all messages were taken, and the bytes after them have this bad length, if they have one
 pub record TookAll (old new : Held) (messages : List (List ℕ)) (fault : Option FrameFault) : Type 0 where
   pub cut_is : cut old.bytes ≡ (messages, new.bytes)

@@ -1,8 +1,8 @@
--- How a turn ends a session, in the clauses of private functions alone (own profile).
-use Rattle.std.specs.Prelude.{◌≡◌, ℕ, Option, Some}
+-- How a turn ends a session (own profile).
+use Rattle.std.specs.Prelude.{◌≡◌, ℕ, Bool, true, false, Option, Some}
 use Rattle.fuse_request.specs.declared.framer.FrameFault.{FrameFault}
 use Rattle.fuse_session.specs.declared.ended.Ended.{Ended}
-use Rattle.fuse_session.specs.declared.ended.Ended.TheVariants.{Destroyed, Frame, ZeroUnique, PortFailed, Store, Memory}
+use Rattle.fuse_session.specs.declared.ended.Ended.TheVariants.{End, Destroyed, Turns, Frame, ZeroUnique, PortFailed, Store, Memory}
 use Rattle.fuse_session.specs.declared.group.Next.{Next}
 use Rattle.fuse_session.specs.declared.group.Next.TheVariants.{GoesOn as GoesOnHere, Destroyed as ByDestroy, ZeroUnique as ByZero}
 use Rattle.fuse_session.specs.declared.fault.Fault.{Fault}
@@ -13,6 +13,17 @@ abbrev pub ended_at : Fault → Ended
 ended_at ByPort = PortFailed
 ended_at (ByStore fault) = Store fault
 ended_at ByMemory = Memory
+
+-- the port ended it
+abbrev pub ended_port : Ended → Bool
+ended_port End = false
+ended_port Destroyed = false
+ended_port Turns = false
+ended_port (Frame f) = false
+ended_port (ZeroUnique at) = false
+ended_port PortFailed = true
+ended_port (Store fault) = false
+ended_port Memory = false
 
 -- a fault ended it
 abbrev pub IsFault : Ended → Type 0

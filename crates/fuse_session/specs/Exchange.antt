@@ -1,0 +1,65 @@
+-- Messages and the answers to them, over the history that a keeper stands for (own profile).
+use Rattle.std.specs.Prelude.{◌≡◌, ℕ, Bool, true, false, List, ◌++◌}
+use Rattle.fuse_request.specs.Stream.{joined}
+use Rattle.fuse_keeper.specs.History.{History, grown, Includes}
+use Rattle.fuse_keeper.specs.Model.{Model}
+use Rattle.fuse_keeper.specs.Stands.{Standing}
+use Rattle.fuse_keeper.specs.KeeperState.{KeeperState, StandsFor}
+use Rattle.fuse_session.specs.declared.counts.SessionCounts.{SessionCounts}
+use Rattle.fuse_session.specs.Processed.{Timed, bytes_of, kept_in, answers, GoesOn, Works, EndsLast}
+use Rattle.fuse_session.specs.Settling.{Mark, replies, settled_in, NoneComesAgain, BeginsNext}
+use Rattle.fuse_session.specs.Counting.{counted}
+
+-- messages, the whole answers that were sent for the first of them, and whether the port confirms
+pub record Exchange : Type 0 where
+  pub confirms : Bool
+  pub timed : List Timed
+  pub marks : List Mark
+
+-- the history with the messages added, and the ids that their answers settled with those that were settled before
+abbrev pub grown_by : {M : Model} → Standing M → Exchange → Standing M
+grown_by {M} at x = record {
+  state = at.state;
+  history = grown at.history (kept_in M.serves x.timed);
+  settled = at.settled ++ settled_in M.serves x.confirms (bytes_of x.timed) x.marks;
+}
+
+-- what a keeper holds stands so
+abbrev pub HoldsAt : {M : Model} → KeeperState M → Standing M → Type 0
+HoldsAt k at = StandsFor k at.state at.history at.settled
+
+-- this is so whatever the keeper stood for and whatever was settled, of which these ids are pending, where no message comes again
+abbrev pub IfNoneComesAgain : {M : Model} → KeeperState M → List ℕ → Exchange → (Standing M → Type 0) → Type 0
+IfNoneComesAgain {M} k pending x P = (s : M.State) (h : History) (t : List ℕ) → StandsFor k s h t → Includes t pending
+    → NoneComesAgain M.serves x.confirms t (bytes_of x.timed) x.marks → P (record { state = s; history = h; settled = t })
+
+-- all messages were processed, and their answers sent
+pub record Answered (M : Model) (at : Standing M) (x : Exchange) (Stood : Standing M → Type 0) (going : Bool) (counts : SessionCounts) : Type 0 where
+  pub works : Works M at.state at.history x.timed
+  pub goes : going ≡ true → GoesOn M at.state at.history x.timed
+  pub last : going ≡ false → EndsLast M at.state at.history x.timed
+  pub stands : Stood (grown_by at x)
+  pub sent : replies x.marks ≡ answers M at.state (grown at.history (kept_in M.serves x.timed)) x.timed
+  pub counts_are : counts ≡ counted M.serves at.history x.timed
+
+-- some of the messages were processed, and a prefix of their answers was sent: whole ones, and then this part of one
+pub record Lived (M : Model) (at : Standing M) (x : Exchange) (Stood : Standing M → Type 0) (part : List ℕ) : Type 0 where
+  pub worked : List Timed
+  pub unprocessed : List Timed
+  pub parts : x.timed ≡ worked ++ unprocessed
+  pub works : Works M at.state at.history worked
+  pub stands : Stood (grown_by at (record x { timed = worked }))
+  pub later : List (List ℕ)
+  pub sent : answers M at.state (grown at.history (kept_in M.serves worked)) worked ≡ replies x.marks ++ later
+  pub unsent : List ℕ
+  pub begun : joined later ≡ part ++ unsent
+  pub next : BeginsNext later part
+
+-- some of the messages were processed, and exactly their answers were sent
+pub record Exact (M : Model) (at : Standing M) (x : Exchange) (Stood : Standing M → Type 0) : Type 0 where
+  pub worked : List Timed
+  pub unprocessed : List Timed
+  pub parts : x.timed ≡ worked ++ unprocessed
+  pub works : Works M at.state at.history worked
+  pub stands : Stood (grown_by at (record x { timed = worked }))
+  pub sent : replies x.marks ≡ answers M at.state (grown at.history (kept_in M.serves worked)) worked

@@ -1,0 +1,9 @@
+-- What the code does on its way: no public contract cites it (own profile).
+pub mod Counting
+pub mod Moves
+pub mod Finishing
+pub mod Group
+pub mod Sending
+pub mod Receiving
+pub mod Loans
+pub mod Turn

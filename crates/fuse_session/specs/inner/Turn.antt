@@ -1,0 +1,69 @@
+-- One turn of a session (own profile).
+use Rattle.std.specs.Prelude.{◌≡◌, ◌^◌, ℕ, true, false, List, ◌∷◌}
+use Rattle.fuse_request.specs.Framing.{Held}
+use Rattle.fuse_keeper.specs.Model.{Model}
+use Rattle.fuse_session.specs.declared.counts.SessionCounts.{SessionCounts}
+use Rattle.fuse_session.specs.declared.ended.Ended.TheVariants.{Turns}
+use Rattle.fuse_session.specs.declared.ended.Served.{Served}
+use Rattle.fuse_session.specs.declared.port.Received.{Received as ReceiveResult}
+use Rattle.fuse_session.specs.declared.port.Sent.{Sent}
+use Rattle.fuse_session.specs.Transcript.{Received, sends_of}
+use Rattle.fuse_session.specs.Deeds.{Deeds}
+use Rattle.fuse_session.specs.Starts.{Kept, HoldsUnder}
+use Rattle.fuse_session.specs.Passage.{Passage}
+use Rattle.fuse_session.specs.Ended.{ended_store, IsIntact}
+use Rattle.fuse_session.specs.Serving.{Waiting, KeepsFirm, Whole, Run}
+use Rattle.fuse_session.specs.Ends.{EndsNot, EndsAs, receive_failed, counts_at}
+use Rattle.fuse_session.specs.inner.Counting.{IsBelow}
+use Rattle.fuse_session.specs.inner.Finishing.{ended_port}
+use Rattle.fuse_session.specs.inner.Moves.{FailedBy, HandsOn}
+
+-- nothing was received
+pub record Mute (did : Deeds → Type 0) (deeds : Deeds) : Type 0 where
+  pub done : did deeds
+  pub slices : List (List ℕ × Sent)
+  pub events : deeds.events ≡ sends_of slices
+
+abbrev pub muted : {M : Model} → Passage M → Passage M
+muted p = record p { did = Mute p.did }
+
+-- it received once, and then handed over slices
+pub record OneTurn (did : Deeds → Type 0) (deeds : Deeds) : Type 0 where
+  pub done : did deeds
+  pub result : ReceiveResult
+  pub bytes : List ℕ
+  pub slices : List (List ℕ × Sent)
+  pub events : deeds.events ≡ Received result bytes ∷ sends_of slices
+
+abbrev pub in_one_turn : {M : Model} → Passage M → Passage M
+in_one_turn p = record p { did = OneTurn p.did }
+
+-- what waits between two turns
+abbrev pub waits : List ℕ → Held → Waiting
+waits pending held = record { pending = pending; bytes = held.bytes; at = held.at }
+
+-- all messages that came are processed and answered, and the session goes on
+pub record TurnPassed {M : Model} (p : Passage M) (before after : Waiting) (counts : SessionCounts) : Type 0 where
+  pub whole : Whole (in_one_turn p) before after counts
+  pub below : IsBelow counts (2 ^ 20)
+  pub going : p.keeper'.has_failed ≡ false
+  pub firm : KeepsFirm p.keeper p.keeper'
+  pub more : p.port.confirms ≡ true → p.keeper'.is_honest → (kept : Kept) → HandsOn kept p.keeper before.pending
+      → HandsOn kept p.keeper' after.pending
+  pub failures : p.port'.failures ≡ p.port.failures
+  pub receive_failures : p.port'.receive_failures ≡ p.port.receive_failures
+  pub not_ended : EndsNot p.port p.port'
+
+-- the session ended
+pub record TurnEnded {M : Model} (p : Passage M) (before : Waiting) (served : Served) : Type 0 where
+  pub life : Run (in_one_turn p) before served.ended
+  pub counts : SessionCounts
+  pub below : IsBelow counts (2 ^ 20)
+  pub ends : EndsAs (in_one_turn p) before 0 served.ended counts
+  pub told_are : served.counts ≡ counts_at (receive_failed p.port p.port') served.ended counts
+  pub at_most : p.port.confirms ≡ true → IsIntact p.keeper' served.ended → (kept : Kept) → HandsOn kept p.keeper before.pending
+      → HoldsUnder kept p.keeper'
+  pub firm : ended_store served.ended ≡ false → KeepsFirm p.keeper p.keeper'
+  pub failed : FailedBy (ended_port served.ended) p.port.failures p.port'.failures
+  pub store : p.keeper'.has_failed ≡ ended_store served.ended
+  pub not_turns : served.ended ≡ Turns → ⊥
