@@ -15,15 +15,17 @@ use Rattle.fuse_keeper.specs.declared.fault.StoreFault.{StoreFault}
 use Rattle.fuse_keeper.specs.History.{Entry, History, grown, ids_in, Includes, IsUnsettled, repeats, HistoriesGrow}
 use Rattle.fuse_keeper.specs.Model.{Model}
 use Rattle.fuse_keeper.specs.Stands.{Standing, Records, Stands, StandsForEither, AreThese}
-use Rattle.fuse_keeper.specs.KeeperState.{KeeperState, StandsFor, Performed, Leaves, IsFirm, KeepsHeld}
-use Rattle.fuse_keeper.specs.Group.{entry_of, entries_of, left_pending}
+use Rattle.fuse_keeper.specs.KeeperState.{KeeperState, StandsFor, Performed, Leaves, IsFirm, KeepsHeld, ActsOn}
+use Rattle.fuse_keeper.specs.Group.{entry_of, entries_of, handed_to, left_pending}
 use Rattle.fuse_keeper.specs.Performance.{Performance, performances_of}
 use Rattle.fuse_session.specs.Transcript.{PortEvent, sends_of, handed_in}
 use Rattle.fuse_session.specs.Slices.{RestsOfAll, RestsOfSome}
 use Rattle.fuse_session.specs.Deeds.{Deeds, Did}
 use Rattle.fuse_session.specs.inner.Turn.{Mute}
 use Rattle.fuse_session.specs.declared.port.Sent.{Sent}
-use Rattle.fuse_session.proofs.Standing.{standing, StandAt, Stands-same, Stands-settled}
+use Rattle.fuse_keeper.specs.Taking.{GroupsGrow}
+use Rattle.fuse_session.proofs.Firsts.{group_first, first_unsent, same_answers}
+use Rattle.fuse_session.proofs.Standing.{standing, exchanged, StandAt, Stands-same, Stands-settled}
 use Rattle.fuse_session.specs.declared.ended.Ended.{Ended}
 use Rattle.fuse_session.specs.declared.ended.Ended.TheVariants.{Store as ByStore}
 use Rattle.fuse_session.specs.Ended.{ended_store, ended_between, MayEnd}
@@ -77,9 +79,6 @@ firm_leaves M holds s h t firm so =
     (firm so.rows so.records so.held)
 
 -- ---- lives
-
-abbrev pub exchanged : Bool → List Timed → List Mark → Exchange
-exchanged c timed marks = record { confirms = c; timed = timed; marks = marks }
 
 -- nothing was processed
 pub lived_none : (M : Model) → (Stood : Standing M → Type 0) (s : M.State) (h : History) (c : Bool) (t : List ℕ) (timed : List Timed) → Stood (standing M s h t)
@@ -146,7 +145,16 @@ pub broken_none : (M : Model) → (holds holds' : KeeperState M) (did : Deeds �
     → KeepsHeld holds holds' → ((IsFirm holds) → (s : M.State) (h : History) (t : List ℕ) → StandsFor holds s h t → Leaves holds' (λ x r. Stands M x r s h t))
     → Broken (passage holds holds' p q did) pending messages e
 broken_none M holds holds' did p q pending messages e inexact deeds done unasked unhanded replied keeps leaves = record {
-  work = record { timed = []; marks = []; deeds = deeds; done = done; batches = []; are = record { messages = refl; answers = refl }; asked = unasked };
+  work = record {
+    timed = [];
+    marks = [];
+    deeds = deeds;
+    done = done;
+    batches = [];
+    are = record { messages = refl; answers = refl };
+    asked = unasked;
+    first = λ _. first_unsent M holds p.confirms pending [];
+  };
   others = messages;
   part = [];
   prefix = refl;
@@ -200,6 +208,7 @@ broken_store M holds holds' gave performed became p pending messages count taken
         batches = one_batch ts [];
         are = are_one ts [];
         asked = asked_one M.serves p.confirms pending ts [] (entries_of group) (performances_of (entries_of group) pending) es refl;
+        first = λ _. first_unsent M holds p.confirms pending ts;
       };
       others = drop count messages;
       part = [];
@@ -226,10 +235,6 @@ broken_store M holds holds' gave performed became p pending messages count taken
     }
 
 -- ---- a group that was performed
-
-same_answers : (dones : List Done) → map (λ a. Some a) (answers_in dones) ≡ map (λ (d : Done). Some d.answer) dones
-same_answers [] = refl
-same_answers (d ∷ dones) = ap (λ r. Some d.answer ∷ r) (same_answers dones)
 
 says_told : (M : Model) → HistoriesGrow M → (holds : KeeperState M) (s : M.State) (h : History) (t : List ℕ) (es : List Entry) (ts : List Timed)
     (dones : List Done) → Performed holds s h t es dones → es ≡ kept_in M.serves ts
@@ -276,7 +281,7 @@ sent_slices became p q answers (Store f) x =
     record { slices = x.hands.slices; calls = x.hands.calls; kind = x.hands.kind; all = λ isnt. absurd (cc isnt) }
 
 -- its answers weren't all sent
-pub broken_sent : (M : Model) → HistoriesGrow M → (holds holds' : KeeperState M) (gave : List Moment → Type 0) (performed_so : List Performance → Type 0)
+pub broken_sent : (M : Model) → HistoriesGrow M → GroupsGrow M → (holds holds' : KeeperState M) (gave : List Moment → Type 0) (performed_so : List Performance → Type 0)
     (became : List PortEvent → Type 0) (p q : PortState) (pending mid : List ℕ)
     (messages : List (List ℕ)) (count : ℕ) (taken : List (Request × Moment)) (ends : Bool) (group : List (Request × Moment)) (prefix : List (List ℕ))
     (dones list : List Done) (fault : Fault)
@@ -286,11 +291,11 @@ pub broken_sent : (M : Model) → HistoriesGrow M → (holds holds' : KeeperStat
     → Performed holds' s h t (entries_of group) dones)
     → (holds'.is_honest → IsFirm holds → IsFirm holds')
     → (holds'.is_honest → (u : List ℕ) → All (IsUnsettled u) (entries_of group) → FewHave holds u pending → FewHave holds' u mid)
-    → length mid + length (entries_of group) ≤ 16
+    → length mid + length (entries_of group) ≤ 16 → ActsOn holds holds' (handed_to (entries_of group) pending) (entries_of group) dones
     → list ≡ dones → SentSome became p q (wires M.serves prefix (answers_in list)) fault
     → Broken (passage holds holds' p q (Mute (Did gave performed_so became))) pending messages (ended_at fault)
-broken_sent M grows holds holds' gave performed_so became p q pending mid messages count taken ends group prefix dones list fault gathers same asked same_prefix
-    performed firm_still few size same_list sent =
+broken_sent M grows groups holds holds' gave performed_so became p q pending mid messages count taken ends group prefix dones list fault gathers same asked same_prefix
+    performed firm_still few size acts same_list sent =
     let some = subst (λ l. SentSome became p q (wires M.serves prefix (answers_in l)) fault) same_list sent in
     let sl = sent_slices became p q (wires M.serves prefix (answers_in dones)) fault some in
     let ts = gathers.timed in
@@ -309,6 +314,8 @@ broken_sent M grows holds holds' gave performed_so became p q pending mid messag
         batches = one_batch ts some.marks;
         are = are_one ts some.marks;
         asked = asked_one M.serves p.confirms pending ts some.marks (entries_of group) (performances_of (entries_of group) pending) es refl;
+        first = λ honest. group_first M groups holds holds' p.confirms pending ts (entries_of group) dones some.marks some.later es acts
+            (ap (λ f. wires M.serves f (answers_in dones)) (sym bytes) ∙ some.whole) honest;
       };
       others = drop count messages;
       part = some.part;
@@ -372,7 +379,7 @@ and_false : (a b : Bool) → (a && b) ≡ false → (a ≡ false) ⊎ ((a ≡ tr
 and_false true b is = inr (refl, is)
 and_false false b is = inl refl
 
-pub turned : (M : Model) → HistoriesGrow M → (holds holds' : KeeperState M) (gave : List Moment → Type 0) (performed_so : List Performance → Type 0)
+pub turned : (M : Model) → HistoriesGrow M → GroupsGrow M → (holds holds' : KeeperState M) (gave : List Moment → Type 0) (performed_so : List Performance → Type 0)
     (became : List PortEvent → Type 0) (p q : PortState) (pending mid pending' : List ℕ)
     (messages : List (List ℕ)) (count : ℕ)
     (taken : List (Request × Moment)) (ends : Bool) (group : List (Request × Moment)) (prefix : List (List ℕ)) (dones list : List Done) (stuck : Bool)
@@ -382,11 +389,12 @@ pub turned : (M : Model) → HistoriesGrow M → (holds holds' : KeeperState M) 
     → (holds'.is_honest → (s : M.State) (h : History) (t : List ℕ) → StandsFor holds s h t → Includes t pending → All (IsUnsettled t) (entries_of group)
     → Performed holds' s h t (entries_of group) dones)
     → (holds'.is_honest → (u : List ℕ) → All (IsUnsettled u) (entries_of group) → FewHave holds u pending → FewHave holds' u mid) → length pending' ≤ 16
+    → ActsOn holds holds' (handed_to (entries_of group) pending) (entries_of group) dones
     → SentAll M.serves (sending became p q mid pending') prefix (wires M.serves prefix (answers_in list)) → list ≡ dones → rest ≡ rest_by (ends && last_zero (answers_in list)) stuck
     → counts ≡ tallied M.serves prefix (repeats_in list)
     → Turned (passage holds holds' p q (Mute (Did gave performed_so became))) pending pending' (take count messages) (lasts rest) counts
-turned M grows holds holds' gave performed_so became p q pending mid pending' messages count taken ends group prefix dones list stuck rest counts gathers same asked left same_prefix performed
-    few size sent same_list is counts_are =
+turned M grows groups holds holds' gave performed_so became p q pending mid pending' messages count taken ends group prefix dones list stuck rest counts gathers same asked left same_prefix performed
+    few size acts sent same_list is counts_are =
     let all = subst (λ l. SentAll M.serves (sending became p q mid pending') prefix (wires M.serves prefix (answers_in l))) same_list sent in
     let ts = gathers.timed in
     let es : entries_of group ≡ kept_in M.serves ts = ap entries_of same ∙ gathers.entries in
@@ -400,6 +408,8 @@ turned M grows holds holds' gave performed_so became p q pending mid pending' me
         batches = one_batch ts all.marks;
         are = are_one ts all.marks;
         asked = asked_one M.serves p.confirms pending ts all.marks (entries_of group) (performances_of (entries_of group) pending) es refl;
+        first = λ honest. group_first M groups holds holds' p.confirms pending ts (entries_of group) dones all.marks [] es acts
+            (ap (λ f. wires M.serves f (answers_in dones)) (sym bytes) ∙ sym all.whole ∙ sym (append-nil (replies all.marks))) honest;
       };
       bytes = gathers.bytes;
       full = all.full ∙ ap length bytes ∙ length-map ts (λ (t : Timed). t.bytes);

@@ -14,6 +14,7 @@ pub mod Gathering
 pub mod Counted
 pub mod Sends
 pub mod Handing
+pub mod Firsts
 pub mod Groups
 pub mod Turns
 pub mod Waiting

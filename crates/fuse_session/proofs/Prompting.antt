@@ -94,6 +94,7 @@ turned_did M k new did did' p q ids ids' prefix going counts f t = record {
     batches = t.work.batches;
     are = t.work.are;
     asked = t.work.asked;
+    first = t.work.first;
   };
   bytes = t.bytes;
   full = t.full;

@@ -3,10 +3,16 @@ use Rattle.std.proofs.Common.{◌≡◌, ◌⊎◌, inl, inr, ℕ, Bool, true, f
 use Rattle.fuse_keeper.specs.History.{Entry, History, after, add, grown, is_in, Includes}
 use Rattle.fuse_keeper.specs.Model.{Model, IsRowed}
 use Rattle.fuse_keeper.specs.Stands.{Standing, StandsAt, Records, Stands, AreThese}
+use Rattle.fuse_session.specs.Processed.{Timed}
+use Rattle.fuse_session.specs.Settling.{Mark}
+use Rattle.fuse_session.specs.Exchange.{Exchange}
 use Rattle.fuse_keeper.specs.KeeperState.{KeeperState, IsSound, IsFirm, KeepsHeld, WhereHeld}
 
 abbrev pub standing : (M : Model) → M.State → History → List ℕ → Standing M
 standing M s h t = record { state = s; history = h; settled = t }
+
+abbrev pub exchanged : Bool → List Timed → List Mark → Exchange
+exchanged c timed marks = record { confirms = c; timed = timed; marks = marks }
 
 -- these rows and records stand so
 abbrev pub StandAt : (M : Model) → M.Rows → Records → Standing M → Type 0

@@ -1,8 +1,8 @@
 -- Groups, one after another.
-use Rattle.std.proofs.Common.{◌≡◌, ⊎_elim, ℕ, ◌+◌, ◌-◌, ◌≤◌, Bool, true, false, not, List, [], ◌∷◌, ◌++◌, length, take, drop, get_or, ◌<◌, refl, sym, ap, subst, ◌∙◌}
+use Rattle.std.proofs.Common.{◌≡◌, inl, inr, ⊎_elim, ℕ, ◌+◌, ◌-◌, ◌≤◌, Bool, true, false, not, List, [], ◌∷◌, ◌++◌, length, take, drop, get_or, ◌<◌, refl, sym, ap, subst, ◌∙◌}
 use Rattle.std.proofs.Common.{append_assoc, arith, length-append, length-drop}
-use Rattle.std.proofs.lemmas.List.{append-nil, take-append-drop, take_all, drop_all, take_more, drop-drop, map-append, length-map}
-use Rattle.std.proofs.Math.Seq.{take-add}
+use Rattle.std.proofs.lemmas.List.{append-nil, take-append-drop, take_all, take-append-le, drop_all, take_more, drop-drop, map-append, length-map}
+use Rattle.std.proofs.Math.Seq.{take-add, take-append-add}
 use Rattle.fuse_request.specs.Opcodes.{OpcodeSet}
 use Rattle.fuse_wire.specs.declared.moment.Moment.{Moment}
 use Rattle.fuse_request.specs.Stream.{joined}
@@ -24,9 +24,10 @@ use Rattle.fuse_session.specs.Counting.{plus, none_counted, counted}
 use Rattle.fuse_session.specs.Batches.{Batch, timed_in, marks_in, pending_after, left_over, AllAnswered}
 use Rattle.fuse_session.specs.Ended.{ended_store, MayEnd}
 use Rattle.fuse_session.specs.Passage.{Passage, passage}
-use Rattle.fuse_session.specs.Exchange.{grown_by, HoldsAt, Lived, Exact}
+use Rattle.fuse_session.specs.Exchange.{grown_by, HoldsAt, Lived, Exact, FirstAnswered}
 use Rattle.fuse_session.specs.Serving.{Work, settled_with, Turned, Broken, ProcessedAll, lasts, goes_on}
-use Rattle.fuse_session.proofs.Standing.{standing, StandAt}
+use Rattle.fuse_session.proofs.Firsts.{either_part, again_some, first_unsent}
+use Rattle.fuse_session.proofs.Standing.{standing, exchanged, StandAt}
 use Rattle.fuse_session.proofs.Handing.{left_within}
 use Rattle.fuse_session.proofs.Replies.{replied_none, replied_more, joined-append, replies-append}
 use Rattle.fuse_session.proofs.Outs.{answers-append, grown_kept, Works-append, GoesOn-append}
@@ -39,7 +40,7 @@ use Rattle.fuse_session.proofs.Doing.{no_deeds, then_did}
 use Rattle.fuse_session.specs.Transcript.{PortEvent, handed_in}
 use Rattle.fuse_session.specs.Slices.{RestsOfAll, RestsOfSome}
 use Rattle.fuse_session.proofs.Counted.{counted-append}
-use Rattle.fuse_session.proofs.Groups.{exchanged, leaves_map, firm_leaves, lived_all, exact_all}
+use Rattle.fuse_session.proofs.Groups.{leaves_map, firm_leaves, lived_all, exact_all}
 
 bytes-append : (xs ys : List Timed) → bytes_of (xs ++ ys) ≡ bytes_of xs ++ bytes_of ys
 bytes-append xs ys = map-append (λ (t : Timed). t.bytes) xs ys
@@ -49,7 +50,16 @@ pub turned_quiet : (M : Model) → (holds : KeeperState M) (did : Deeds → Type
     → deeds.moments ≡ [] → deeds.asked ≡ [] → handed_in deeds.events ≡ [] → Replied p q [] []
     → Turned (passage holds holds p q did) pending pending [] true none_counted
 turned_quiet M holds did p q pending deeds done none unasked unhanded replied = record {
-  work = record { timed = []; marks = []; deeds = deeds; done = done; batches = []; are = record { messages = refl; answers = refl }; asked = unasked };
+  work = record {
+    timed = [];
+    marks = [];
+    deeds = deeds;
+    done = done;
+    batches = [];
+    are = record { messages = refl; answers = refl };
+    asked = unasked;
+    first = λ _. first_unsent M holds p.confirms pending [];
+  };
   bytes = refl;
   full = refl;
   moments = none;
@@ -133,19 +143,55 @@ still_pending M p ids ids' prefix going counts one t within =
 
 -- ---- messages, and then others
 
+-- the first of both
+first_more : (M : Model) → HistoriesGrow M → (holds mid new : KeeperState M) (did did' : Deeds → Type 0) (p q r : PortState)
+    (ids ids' : List ℕ) (prefix : List (List ℕ)) (counts : SessionCounts)
+    → (one : Turned (passage holds mid p q did) ids ids' prefix true counts) (two : Work (passage mid new q r did') ids') → (new.is_honest → mid.is_honest)
+    → new.is_honest → FirstAnswered holds ids (exchanged p.confirms (one.work.timed ++ two.timed) (one.work.marks ++ two.marks))
+first_more M grows holds mid new did did' p q r ids ids' prefix counts one two honest_too honest first others parts s h t so within again =
+    let a = one.work in
+    let V = M.serves in
+    let c = p.confirms in
+    let same = one.replied.confirms in
+    elim (either_part a.timed two.timed first others parts) [
+      | inl here ↦
+          let few : length first ≤ length a.marks = omega (arith, one.full, ap length here.1, length-append first here.0) in
+          let said = a.first (honest_too honest) first here.0 here.1 s h t so within
+          (again_some V c t (bytes_of first) a.marks two.marks (omega (arith, few, length-map first (λ (x : Timed). x.bytes))) again) in
+          (said.0, said.1 ∙ ap (λ (l : List Mark). replies l ++ said.0) (sym (take-append-le (length first) a.marks two.marks few)))
+      | inr there ↦
+          let zs = there.0 in
+          let again' = again_both V c q.confirms t a.timed zs a.marks two.marks same one.full
+          (subst (λ (l : List Timed). NoneComesAgain V c t (bytes_of l) (a.marks ++ two.marks)) there.1 again) in
+          let x = one.all (honest_too honest) s h t so within again'.0 in
+          let g = grown h (kept_in V a.timed) in
+          let y = two.first honest zs others there.2 s g (settled_with t a) x.stands
+          (still_pending M (passage holds mid p q did) ids ids' prefix true counts one t within) again'.1 in
+          let long : length first ≡ length a.marks + length zs = ap length there.1 ∙ length-append a.timed zs ∙ ap (λ n. n + length zs) (sym one.full) in (
+            y.0,
+            ap (λ (l : List Timed). answers M s (grown h (kept_in V l)) l) there.1 ∙ answers-append M grows s h a.timed zs
+                ∙ ap (λ l. l ++ answers M s (grown g (kept_in V zs)) zs) (sym x.sent) ∙ ap (λ l. replies a.marks ++ l) y.1
+                ∙ sym (append_assoc (replies a.marks) (replies (take (length zs) two.marks)) y.0)
+                ∙ ap (λ l. l ++ y.0) (sym (replies-append a.marks (take (length zs) two.marks)) ∙ ap replies (sym (take-append-add a.marks two.marks (length zs))
+                ∙ ap (λ n. take n (a.marks ++ two.marks)) (sym long))),
+          )
+    ]
+
 -- what was done for both
-abbrev work_more : (M : Model) → (holds mid new : KeeperState M) (did did' did'' : Deeds → Type 0) (p q r : PortState) (ids ids' : List ℕ)
-    → (one : Work (passage holds mid p q did) ids) (two : Work (passage mid new q r did') ids') → q.confirms ≡ p.confirms
-    → ids' ≡ left_over M.serves p.confirms ids one.batches → ((b : Deeds) → did' b → did'' (then_did one.deeds b))
-    → Work (passage holds new p r did'') ids
-work_more M holds mid new did did' did'' p q r ids ids' one two same left onward = record {
-  timed = one.timed ++ two.timed;
-  marks = one.marks ++ two.marks;
-  deeds = then_did one.deeds two.deeds;
+abbrev work_more : (M : Model) → HistoriesGrow M → (holds mid new : KeeperState M) (did did' did'' : Deeds → Type 0) (p q r : PortState)
+    (ids ids' : List ℕ) (prefix : List (List ℕ)) (counts : SessionCounts)
+    → (one : Turned (passage holds mid p q did) ids ids' prefix true counts) (two : Work (passage mid new q r did') ids') → (new.is_honest → mid.is_honest)
+    → ((b : Deeds) → did' b → did'' (then_did one.work.deeds b)) → Work (passage holds new p r did'') ids
+work_more M grows holds mid new did did' did'' p q r ids ids' prefix counts one two honest_too onward = record {
+  timed = one.work.timed ++ two.timed;
+  marks = one.work.marks ++ two.marks;
+  deeds = then_did one.work.deeds two.deeds;
   done = onward two.deeds two.done;
-  batches = one.batches ++ two.batches;
-  are = are_more one.batches two.batches one.timed two.timed one.marks two.marks one.are two.are;
-  asked = asked_both M.serves p.confirms q.confirms ids ids' one.batches two.batches one.deeds.asked two.deeds.asked same left one.asked two.asked;
+  batches = one.work.batches ++ two.batches;
+  are = are_more one.work.batches two.batches one.work.timed two.timed one.work.marks two.marks one.work.are two.are;
+  asked = asked_both M.serves p.confirms q.confirms ids ids' one.work.batches two.batches one.work.deeds.asked two.deeds.asked one.replied.confirms one.left
+      one.work.asked two.asked;
+  first = first_more M grows holds mid new did did' p q r ids ids' prefix counts one two honest_too;
 }
 
 pub turned_more : (M : Model) → HistoriesGrow M → (holds mid new : KeeperState M) (did did' did'' : Deeds → Type 0) (p q r : PortState)
@@ -159,7 +205,7 @@ turned_more M grows holds mid new did did' did'' p q r ids ids' ids'' prefix pre
     let c = p.confirms in
     let same = one.replied.confirms in
     record {
-      work = work_more M holds mid new did did' did'' p q r ids ids' a b same one.left onward;
+      work = work_more M grows holds mid new did did' did'' p q r ids ids' prefix counts one b honest_too onward;
       bytes = ap (λ f. f ++ prefix') one.bytes ∙ ap (λ f. bytes_of a.timed ++ f) two.bytes ∙ sym (bytes-append a.timed b.timed);
       full = length-append a.marks b.marks ∙ ap (λ n. n + length b.marks) one.full ∙ ap (λ n. length a.timed + n) two.full
           ∙ sym (length-append a.timed b.timed);
@@ -266,7 +312,7 @@ turned_broken M grows holds mid new did did' did'' p q r ids ids' prefix message
     let pass = passage holds mid p q did in
     let still = still_pending M pass ids ids' prefix true counts one in
     record {
-      work = work_more M holds mid new did did' did'' p q r ids ids' a b same one.left onward;
+      work = work_more M grows holds mid new did did' did'' p q r ids ids' prefix counts one b honest_too onward;
       others = two.others;
       part = two.part;
       prefix = ap (λ f. f ++ messages) one.bytes ∙ ap (λ f. bytes_of a.timed ++ f) two.prefix

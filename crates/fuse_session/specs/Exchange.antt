@@ -1,5 +1,5 @@
 -- Messages and the answers to them, over the history that a keeper stands for (own profile).
-use Rattle.std.specs.Prelude.{◌≡◌, ℕ, Bool, true, false, List, ◌++◌}
+use Rattle.std.specs.Prelude.{◌≡◌, ℕ, Bool, true, false, List, ◌++◌, length, take}
 use Rattle.fuse_request.specs.Stream.{joined}
 use Rattle.fuse_keeper.specs.History.{History, grown, Includes}
 use Rattle.fuse_keeper.specs.Model.{Model}
@@ -63,3 +63,13 @@ pub record Exact (M : Model) (at : Standing M) (x : Exchange) (Stood : Standing 
   pub works : Works M at.state at.history worked
   pub stands : Stood (grown_by at (record x { timed = worked }))
   pub sent : replies x.marks ≡ answers M at.state (grown at.history (kept_in M.serves worked)) worked
+
+-- the whole answers that were sent for these messages are the first of those that are said, where just these messages are added
+abbrev pub AnswersBegin : (M : Model) → Standing M → Exchange → Type 0
+AnswersBegin M at x = (unsent : List (List ℕ))
+    × (answers M at.state (grown at.history (kept_in M.serves x.timed)) x.timed ≡ replies (take (length x.timed) x.marks) ++ unsent)
+
+-- so it is up to the first message that comes again: of any of the first messages, whatever comes after them
+abbrev pub FirstAnswered : {M : Model} → KeeperState M → List ℕ → Exchange → Type 0
+FirstAnswered {M} k pending x = (first others : List Timed) → x.timed ≡ first ++ others
+    → IfNoneComesAgain k pending (record x { timed = first }) (λ at. AnswersBegin M at (record x { timed = first }))

@@ -18,7 +18,7 @@ use Rattle.fuse_session.specs.Slices.{RestsOfAll, RestsOfSome}
 use Rattle.fuse_session.specs.Batches.{Batch, AreBatches, AllAnswered, AnsweredButLast, handed_over, left_over, TimedFirst}
 use Rattle.fuse_session.specs.Ended.{ended_store, ended_between, MayEnd, IsIntact}
 use Rattle.fuse_session.specs.Passage.{Passage, hearing}
-use Rattle.fuse_session.specs.Exchange.{Exchange, HoldsAt, IfNoneComesAgain, Answered, Lived, Exact}
+use Rattle.fuse_session.specs.Exchange.{Exchange, HoldsAt, IfNoneComesAgain, Answered, Lived, Exact, FirstAnswered}
 
 -- it is firm if it was
 abbrev pub KeepsFirm : {M : Model} → KeeperState M → KeeperState M → Type 0
@@ -34,6 +34,8 @@ pub record Work {M : Model} (p : Passage M) (pending : List ℕ) : Type 0 where
   pub batches : List Batch
   pub are : AreBatches batches timed marks
   pub asked : deeds.asked ≡ handed_over M.serves p.port.confirms pending batches
+  -- up to the first message that comes again, each whole answer is the one that is said
+  pub first : p.keeper'.is_honest → FirstAnswered p.keeper pending (record { confirms = p.port.confirms; timed = timed; marks = marks })
 
 abbrev pub exchange : {M : Model} {p : Passage M} {pending : List ℕ} → Work p pending → Exchange
 exchange {p = p} work = record { confirms = p.port.confirms; timed = work.timed; marks = work.marks }
@@ -44,8 +46,8 @@ settled_with {M} {p} t work = t ++ settled_in M.serves p.port.confirms (bytes_of
 
 -- ---- all messages were answered
 
--- so it was, and the session goes on after them or not. Few of the settled ids have a record, all of them to be handed on, if so
--- it was before
+-- these messages were processed and answered, and the session goes on after them, or the last one ended it. Of the settled ids few
+-- have a record, all of them pending, if so it was before
 pub record Turned {M : Model} (p : Passage M) (pending pending' : List ℕ) (prefix : List (List ℕ)) (going : Bool) (counts : SessionCounts) : Type 0 where
   pub work : Work p pending
   pub bytes : prefix ≡ bytes_of work.timed

@@ -18,7 +18,8 @@ pub record Session {M : Model} (p : Passage M) (turns : ℕ) (served : Served) :
   pub ends : SessionEnds p turns served
   -- however it ended: the bytes sent are a prefix of the answers to messages that the keeper stands for, and that whatever a crash
   -- leaves stands for; and few of the ids that the answers settled have a record. Where the store or a lack of memory ended it,
-  -- exactly the answers to some of the messages were sent
+  -- exactly the answers to some of the messages were sent. Up to the first message that comes again, each answer is the one to be
+  -- sent
   pub life : Run p nothing_waits served.ended
   -- before more is received, all that came is answered
   pub prompt : Prompt p

@@ -28,7 +28,7 @@ use crate::port::Port;
 use crate::session::Session;
 use bytes::Bytes;
 use fuse_answer::Answer;
-use fuse_keeper::{Done, Keeper, histories_grow, perform_group};
+use fuse_keeper::{Done, Keeper, histories_grow, kept_groups_grow, perform_group};
 
 /// What comes next, once all answers so far are sent: more messages, or why there are none.
 #[derive(Clone, Copy, Debug, PartialEq, Eq)]
@@ -142,6 +142,7 @@ impl<K: Keeper, P: Port, C: Clock> Session<'_, '_, '_, '_, K, P, C> {
         ensures loans { SameLoans self.old self.new }
     {
         histories_grow::<K>();
+        kept_groups_grow::<K>();
         let Ok(gathered) = gather::<K, C>(self.alloc, self.clock, messages) else {
             return Err(Fault::Memory);
         };

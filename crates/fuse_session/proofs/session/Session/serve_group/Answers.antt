@@ -93,7 +93,7 @@ returns-in-Ok-send_answers-clause-ok g c =
     let done = c.in-Ok-perform_group.ensures in
     let few = left_few pending left es done.pending (omega (arith, length-map c.args.self.now.pending.now.items (λ (x : Id). x.0), c.requires.few))
     (omega (arith, length-map c.as_slice-group.result.now entry_of, ap length c.as_slice-group.ensures.value, c.in-Ok.ensures.few)) in
-    turned M c.histories_grow.ensures k k' gave (g.K.Keeper.performed c.args.self.now.keeper.now c.perform_group.new.keeper)
+    turned M c.histories_grow.ensures c.kept_groups_grow.ensures k k' gave (g.K.Keeper.performed c.args.self.now.keeper.now c.perform_group.new.keeper)
     (g.P.Port.became c.args.self.now.port.now c.send_answers.new.port) (g.P.Port.told c.args.self.now.port.now) _ pending left _ c.args.messages.now
     c.len-count.result group.taken.items group.ends c.as_slice-group.result.now (take c.len-count.result c.args.messages.now)
     c.in-Ok-perform_group.dones.items c.as_slice-answered.result.now c.is_stuck.result c.next_of.result c.count_all.result
@@ -109,7 +109,7 @@ returns-in-Ok-send_answers-clause-ok g c =
       c.in-Ok-send_answers.ensures.few,
       done.count,
       ap length c.as_slice-answered.ensures.value,
-    ))
+    )) done.acts
     c.in-Ok-send_answers.ensures.ok c.as_slice-answered.ensures.value c.next_of.ensures c.count_all.ensures.tallied
 
 pub returns-in-Ok-send_answers-clause-more : goal.returns-in-Ok-send_answers-clause-more
@@ -148,7 +148,7 @@ returns-clause-err g c =
     let done = c.in-Ok-perform_group.ensures in
     let few = left_few pending left es done.pending (omega (arith, length-map c.args.self.now.pending.now.items (λ (x : Id). x.0), c.requires.few))
     (omega (arith, length-map c.as_slice-group.result.now entry_of, ap length c.as_slice-group.ensures.value, c.in-Ok.ensures.few)) in
-    broken_sent M c.histories_grow.ensures k k' gave (g.K.Keeper.performed c.args.self.now.keeper.now c.perform_group.new.keeper)
+    broken_sent M c.histories_grow.ensures c.kept_groups_grow.ensures k k' gave (g.K.Keeper.performed c.args.self.now.keeper.now c.perform_group.new.keeper)
     (g.P.Port.became c.args.self.now.port.now c.send_answers.new.port) (g.P.Port.told c.args.self.now.port.now) _ pending left c.args.messages.now
     c.len-count.result group.taken.items group.ends c.as_slice-group.result.now (take c.len-count.result c.args.messages.now)
     c.in-Ok-perform_group.dones.items c.as_slice-answered.result.now _
@@ -156,7 +156,7 @@ returns-clause-err g c =
     c.as_slice-group.ensures.value c.perform_group.ensures.asked refl
     (performs_all M k k' pending es c.in-Ok-perform_group.dones.items done.ok) (λ honest firm. done.firm honest (inl firm))
     (λ honest u un have. few_left M k k' u pending left es done.pending (omega (arith, few)) (done.others honest) un have)
-    few c.as_slice-answered.ensures.value c.in-Err-send_answers.ensures.err
+    few done.acts c.as_slice-answered.ensures.value c.in-Err-send_answers.ensures.err
 
 pub returns-clause-at_most : goal.returns-clause-at_most
 returns-clause-at_most g c = λ intact (before : Kept) h.

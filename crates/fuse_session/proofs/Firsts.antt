@@ -1,0 +1,208 @@
+-- Up to the first message that comes again: the first messages of a group, and of several.
+use Rattle.std.proofs.Common.{◌≡◌, ◌⊎◌, inl, inr, ℕ, zero, suc, ◌≤◌, Bool, true, false, if◌then◌else◌, List, [], ◌∷◌, ◌++◌, length, map, take, All, Option, Some, None}
+use Rattle.std.proofs.Common.{refl, sym, ap, subst, ◌∙◌, arith}
+use Rattle.std.proofs.lemmas.List.{length-map, map-append}
+use Rattle.fuse_answer.specs.Said.{Said}
+use Rattle.fuse_request.specs.Opcodes.{OpcodeSet}
+use Rattle.fuse_request.specs.declared.class.Class.{Class}
+use Rattle.fuse_request.specs.declared.class.Class.TheVariants.{Silent, Bare, Kept}
+use Rattle.fuse_request.specs.Classes.{class_for}
+use Rattle.fuse_keeper.specs.declared.keeper.Done.{Done}
+use Rattle.fuse_keeper.specs.History.{Entry, entry_id, History, after, grown, said, is_in, Includes, IsUnsettled}
+use Rattle.fuse_keeper.specs.Model.{Model, IsRowed}
+use Rattle.fuse_keeper.specs.Stands.{Content, Records, Stands, without}
+use Rattle.fuse_keeper.specs.KeeperState.{KeeperState, StandsFor, ActsOn}
+use Rattle.fuse_keeper.specs.Taking.{Took, TakesAll, GroupsGrow}
+use Rattle.fuse_keeper.specs.Group.{handed_to}
+use Rattle.fuse_session.specs.Processed.{Timed, bytes_of, kept_in, entry_if, timed_entry, message_id, unique_of, answer_by, answered, answers}
+use Rattle.fuse_session.specs.Settling.{Mark, replies, settles, NoneComesAgain}
+use Rattle.fuse_session.specs.Exchange.{FirstAnswered}
+use Rattle.fuse_session.specs.inner.Group.{answers_in, head_wire, left_by, wires}
+use Rattle.fuse_session.proofs.Standing.{standing, exchanged, unsettled_too}
+use Rattle.fuse_session.proofs.Settled.{in_either, includes_left, includes_right, group_unsettled}
+use Rattle.fuse_session.proofs.Outs.{kept_in-append}
+
+-- ---- lists
+
+-- a list in two parts is also in two other parts: the cut of these is in the first part, or in the second
+pub either_part : {A : Type 0} (xs ys us vs : List A) → xs ++ ys ≡ us ++ vs
+    → ((zs : List A) × (xs ≡ us ++ zs)) ⊎ ((zs : List A) × (us ≡ xs ++ zs) × (ys ≡ zs ++ vs))
+either_part [] ys us vs is = inr (us, refl, is)
+either_part (x ∷ xs) ys [] vs is = inl (x ∷ xs, refl)
+either_part {A} (x ∷ xs) ys (a ∷ us) vs is =
+    let head : x ≡ a = cc is in
+    let tail : xs ++ ys ≡ us ++ vs = cc is in
+    elim (either_part xs ys us vs tail) [
+      | inl first ↦ inl (first.0, ap (λ y. y ∷ xs) head ∙ ap (λ (l : List A). a ∷ l) first.1)
+      | inr more ↦ inr (more.0, ap (λ (l : List A). a ∷ l) more.1 ∙ ap (λ y. y ∷ (xs ++ more.0)) (sym head), more.2)
+    ]
+
+-- the first of some answers, where marks begin all of them
+answers_begin : (us vs : List (List ℕ)) (marks : List Mark) (later : List (List ℕ)) → us ++ vs ≡ replies marks ++ later
+    → (unsent : List (List ℕ)) × (us ≡ replies (take (length us) marks) ++ unsent)
+answers_begin [] vs [] later is = ([], refl)
+answers_begin [] vs (m ∷ marks) later is = ([], refl)
+answers_begin (a ∷ us) vs [] later is = (a ∷ us, refl)
+answers_begin (a ∷ us) vs (m ∷ marks) later is =
+    let head : a ≡ m.reply = cc is in
+    let rest = answers_begin us vs marks later (cc is) in
+    (rest.0, ap (λ y. y ∷ us) head ∙ ap (λ (l : List (List ℕ)). m.reply ∷ l) rest.1)
+
+-- later answers say nothing of earlier messages
+pub again_some : (V : OpcodeSet) (c : Bool) (t : List ℕ) (ms : List (List ℕ)) (xs ys : List Mark) → length ms ≤ length xs → NoneComesAgain V c t ms (xs ++ ys)
+    → NoneComesAgain V c t ms xs
+again_some V c t [] xs ys few again = tt
+again_some V c t (m ∷ ms) [] ys few again = absurd (omega (arith, few))
+again_some V c t (m ∷ ms) (x ∷ xs) ys few again = (again.0, again_some V c (t ++ settles V c m x) ms xs ys (omega (arith, few)) again.1)
+
+-- ---- what the first of a list of answers sends
+
+left_says : (M : Model) (s : M.State) (g : History) (class : Class) (e : Entry) (es : List Entry) (list : List Said)
+    → map (λ a. Some a) list ≡ map (λ x. said M s g (entry_id x)) (entry_if class e ++ es)
+    → map (λ a. Some a) (left_by class list) ≡ map (λ x. said M s g (entry_id x)) es
+left_says M s g Silent e es list are = are
+left_says M s g (Bare errno) e es list are = are
+left_says M s g Kept e es [] are = absurd (cc are)
+left_says M s g Kept e es (a ∷ list) are = cc are
+
+head_says : (M : Model) (s : M.State) (g : History) (t : Timed) (class : Class) (es : List Entry) (list others : List Said)
+    → map (λ a. Some a) list ≡ map (λ x. said M s g (entry_id x)) (entry_if class (timed_entry t) ++ es)
+    → head_wire class (unique_of t.bytes) (list ++ others) ≡ answer_by class (said M s g (message_id t.bytes)) (unique_of t.bytes)
+head_says M s g t Silent es list others are = refl
+head_says M s g t (Bare errno) es list others are = refl
+head_says M s g t Kept es [] others are = absurd (cc are)
+head_says M s g t Kept es (a ∷ list) others are =
+    let here : Some a ≡ said M s g (entry_id (timed_entry t)) = cc are in ap (λ o. answer_by Kept o (unique_of t.bytes)) here
+
+left_parts : (M : Model) (s : M.State) (g : History) (class : Class) (e : Entry) (es : List Entry) (list others : List Said)
+    → map (λ a. Some a) list ≡ map (λ x. said M s g (entry_id x)) (entry_if class e ++ es) → left_by class (list ++ others) ≡ left_by class list ++ others
+left_parts M s g Silent e es list others are = refl
+left_parts M s g (Bare errno) e es list others are = refl
+left_parts M s g Kept e es [] others are = absurd (cc are)
+left_parts M s g Kept e es (a ∷ list) others are = refl
+
+wires_first : (M : Model) (s : M.State) (g : History) (first later : List Timed) (list others : List Said)
+    → map (λ a. Some a) list ≡ map (λ e. said M s g (entry_id e)) (kept_in M.serves first)
+    → wires M.serves (bytes_of (first ++ later)) (list ++ others) ≡ answers M s g first ++ wires M.serves (bytes_of later) others
+wires_first M s g [] later [] others are = refl
+wires_first M s g [] later (a ∷ list) others are = absurd (cc are)
+wires_first M s g (t ∷ first) later list others are =
+    let class = class_for M.serves t.bytes in
+    let es = kept_in M.serves first in
+    ap (λ w. w ∷ wires M.serves (bytes_of (first ++ later)) (left_by class (list ++ others))) (head_says M s g t class es list others are)
+    ∙ ap (λ (l : List Said). answered M s g t ∷ wires M.serves (bytes_of (first ++ later)) l) (left_parts M s g class (timed_entry t) es list others are)
+    ∙ ap (λ ws. answered M s g t ∷ ws)
+    (wires_first M s g first later (left_by class list) others (left_says M s g class (timed_entry t) es list are))
+
+-- ---- the first entries of a group
+
+record TakenFirst (M : Model) (before : Content M) (first : List Entry) (dones : List Done) : Type 0 where
+  held : Content M
+  some : List Done
+  others : List Done
+  parts : dones ≡ some ++ others
+  taken : TakesAll M before first held some
+
+taken_more : (M : Model) (before : Content M) (e : Entry) (first : List Entry) (mid : Content M) (done : Done) (dones : List Done)
+    → Took M before e mid done → TakenFirst M mid first dones → TakenFirst M before (e ∷ first) (done ∷ dones)
+taken_more M before e first mid done dones took more = record {
+  held = more.held;
+  some = done ∷ more.some;
+  others = more.others;
+  parts = ap (λ (ds : List Done). done ∷ ds) more.parts;
+  taken = (mid, took, more.taken);
+}
+
+taken_first : (M : Model) (before : Content M) (first later : List Entry) (after : Content M) (dones : List Done)
+    → TakesAll M before (first ++ later) after dones → TakenFirst M before first dones
+taken_first M before [] later after dones taken =
+    record { held = before; some = []; others = dones; parts = refl; taken = (refl, λ i. refl) }
+taken_first M before (e ∷ first) later after [] taken = absurd taken
+taken_first M before (e ∷ first) later after (done ∷ dones) taken =
+    taken_more M before e first taken.0 done dones taken.1 (taken_first M taken.0 first later after dones taken.2)
+
+-- what stands without the records of settled ids
+right_without : (b : Bool) (o : Option Said) (a : Said) → (if b then None else o) ≡ Some a → o ≡ Some a
+right_without true o a is = absurd (cc is)
+right_without false o a is = is
+
+Stands-without : (M : Model) (rows : M.Rows) (records : Records) (s : M.State) (h : History) (t handed : List ℕ) → Stands M rows records s h t
+    → Stands M rows (without handed records) s h (t ++ handed)
+Stands-without M rows records s h t handed so = record {
+  tree = so.tree;
+  distinct = so.distinct;
+  rows_are = so.rows_are;
+  right = λ i a is. so.right i a (right_without (is_in handed i) (records i) a is);
+  kept = λ i fresh.
+      ap (λ b. if b then None else records i) (unsettled_too (t ++ handed) handed i (includes_right t handed) fresh)
+      ∙ so.kept i (unsettled_too (t ++ handed) t i (includes_left t handed) fresh);
+}
+
+-- the answers to the first entries are those that are said where just these are added
+record FirstSaid (M : Model) (s : M.State) (g : History) (first : List Entry) (dones : List Done) : Type 0 where
+  some : List Done
+  others : List Done
+  parts : dones ≡ some ++ others
+  says : map (λ (d : Done). Some d.answer) some ≡ map (λ e. said M s g (entry_id e)) first
+
+first_said : (M : Model) → GroupsGrow M → (k k' : KeeperState M) (handed : List ℕ) (group first later : List Entry) (dones : List Done)
+    → ActsOn k k' handed group dones → group ≡ first ++ later → k'.is_honest → (s : M.State) (h : History) (t : List ℕ) → StandsFor k s h t
+    → All (IsUnsettled (t ++ handed)) first → FirstSaid M s (grown h first) first dones
+unfolding IsRowed
+first_said M grows k k' handed group first later dones acts parts honest s h t so fresh =
+    let done = acts honest so.rows so.records so.held (after M s h, so.stands.tree, so.stands.rows_are) in
+    let before : Content M = record { rows = so.rows; records = without handed so.records } in
+    let held : Content M = record { rows = done.rows; records = done.records } in
+    let taken = subst (λ (g : List Entry). TakesAll M before g held dones) parts done.taken in
+    let some = taken_first M before first later held dones taken in
+    let performed = grows.taken_is_performed before first some.held some.some (standing M s h (t ++ handed))
+    (Stands-without M so.rows so.records s h t handed so.stands) fresh some.taken in
+    record { some = some.some; others = some.others; parts = some.parts; says = performed.answers }
+
+-- ---- a group
+
+pub same_answers : (dones : List Done) → map (λ a. Some a) (answers_in dones) ≡ map (λ (d : Done). Some d.answer) dones
+same_answers [] = refl
+same_answers (d ∷ dones) = ap (λ r. Some d.answer ∷ r) (same_answers dones)
+
+handed_pending : (pending : List ℕ) (es : List Entry) (i : ℕ) → is_in (handed_to es pending) i ≡ true → is_in pending i ≡ true
+handed_pending pending [] i there = absurd (cc there)
+handed_pending pending (e ∷ es) i there = there
+
+with_handed : (t pending : List ℕ) (es : List Entry) → Includes t pending → Includes t (t ++ handed_to es pending)
+with_handed t pending es within i there = elim (in_either t (handed_to es pending) i there) [
+  | inl old ↦ old
+  | inr new ↦ within i (handed_pending pending es i new)
+]
+
+-- the first messages of a group that was performed, where these answers were sent of those to it
+pub group_first : (M : Model) → GroupsGrow M → (holds holds' : KeeperState M) (c : Bool) (pending : List ℕ) (ts : List Timed) (es : List Entry)
+    (dones : List Done) (marks : List Mark) (later : List (List ℕ))
+    → es ≡ kept_in M.serves ts → ActsOn holds holds' (handed_to es pending) es dones
+    → wires M.serves (bytes_of ts) (answers_in dones) ≡ replies marks ++ later
+    → holds'.is_honest → FirstAnswered holds pending (exchanged c ts marks)
+group_first M grows holds holds' c pending ts es dones marks later is acts whole honest first others parts s h t so within again =
+    let V = M.serves in
+    let handed = handed_to es pending in
+    let fresh : All (IsUnsettled (t ++ handed)) (kept_in V first) =
+    λ k d lt. unsettled_too t (t ++ handed) _ (with_handed t pending es within) (group_unsettled V c t first marks again k d lt) in
+    let f = first_said M grows holds holds' handed es (kept_in V first) (kept_in V others) dones acts (is ∙ ap (kept_in V) parts ∙ kept_in-append V first others)
+    honest s h t so fresh in
+    let g = grown h (kept_in V first) in
+    let split : answers M s g first ++ wires V (bytes_of others) (answers_in f.others) ≡ replies marks ++ later =
+    sym (wires_first M s g first others (answers_in f.some) (answers_in f.others) (same_answers f.some ∙ f.says))
+    ∙ ap (wires V (bytes_of (first ++ others))) (sym (map-append (λ (d : Done). d.answer) f.some f.others) ∙ sym (ap answers_in f.parts))
+    ∙ ap (λ (l : List Timed). wires V (bytes_of l) (answers_in dones)) (sym parts) ∙ whole in
+    let r = answers_begin (answers M s g first) (wires V (bytes_of others) (answers_in f.others)) marks later split in
+    (r.0, r.1 ∙ ap (λ n. replies (take n marks) ++ r.0) (length-map first (answered M s g)))
+
+-- where nothing was answered
+take_none : (n : ℕ) → take {A = Mark} n [] ≡ []
+take_none zero = refl
+take_none (suc n) = refl
+
+pub first_unsent : (M : Model) → (holds : KeeperState M) (c : Bool) (pending : List ℕ) (ts : List Timed) → FirstAnswered holds pending (exchanged c ts [])
+first_unsent M holds c pending ts first others parts s h t so within again = (
+  answers M s (grown h (kept_in M.serves first)) first,
+  ap (λ (l : List Mark). replies l ++ answers M s (grown h (kept_in M.serves first)) first) (sym (take_none (length first))),
+)
