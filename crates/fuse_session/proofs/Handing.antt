@@ -123,7 +123,7 @@ hands_same M before holds pending all within h = record {
 }
 
 pub holds_under : (M : Model) → (before : Kept) (holds : KeeperState M) (pending : List ℕ) → HandsOn before holds pending → HoldsUnder before holds
-holds_under M before holds pending h = record { rows = h.rows; records = h.records; held = h.held; under = h.under }
+holds_under M before holds pending h = record { rows = h.rows; records = h.records; held = h.held; rowed = h.rowed; so = h.under }
 
 -- a fault keeps the records, and their lots
 pub under_kept : (M : Model) → (before : Kept) (holds holds' : KeeperState M) (pending : List ℕ) → KeepsHeld holds holds'
@@ -135,7 +135,8 @@ under_kept M before holds holds' pending keeps lots h =
       rows = h.rows;
       records = h.records;
       held = keeps h.rows h.records h.held;
-      under = record {
+      rowed = h.rowed;
+      so = record {
         more = u.more;
         few = u.few;
         some = u.some;

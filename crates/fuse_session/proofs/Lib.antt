@@ -22,3 +22,4 @@ pub mod Growing
 pub mod Sessions
 pub mod Prompting
 pub mod Starting
+pub mod KeeperStarts

@@ -1,12 +1,12 @@
 -- A whole session: all that `serve` promises, over the keeper and the port before and after it (own profile).
 use Rattle.std.specs.Prelude.{◌≡◌, ◌↔◌, ◌<◌, ◌≤◌, ◌+◌, ℕ, true, false}
 use Rattle.fuse_keeper.specs.Model.{Model}
-use Rattle.fuse_keeper.specs.KeeperState.{OfHeld, AnswersNoMore}
+use Rattle.fuse_keeper.specs.KeeperState.{AnswersNoMore}
 use Rattle.fuse_session.specs.declared.ended.Ended.TheVariants.{PortFailed}
 use Rattle.fuse_session.specs.declared.ended.Served.{Served}
 use Rattle.fuse_session.specs.Passage.{Passage}
 use Rattle.fuse_session.specs.Ended.{ended_store, IsIntact}
-use Rattle.fuse_session.specs.Starts.{HoldsUnder}
+use Rattle.fuse_session.specs.Starts.{AddsFew}
 use Rattle.fuse_session.specs.Serving.{nothing_waits, Run, KeepsFirm}
 use Rattle.fuse_session.specs.Prompt.{Prompt}
 use Rattle.fuse_session.specs.Ends.{SessionEnds}
@@ -25,7 +25,7 @@ pub record Session {M : Model} (p : Passage M) (turns : ℕ) (served : Served) :
   pub prompt : Prompt p
   -- on a port that confirms, the records are some of those of before and at most 16 more, which are under one lot
   pub lots : p.port.confirms ≡ true → IsIntact p.keeper' served.ended
-      → OfHeld p.keeper (λ rows records. HoldsUnder (record { records = records; lots = p.keeper.lots }) p.keeper')
+      → AddsFew p.keeper p.keeper'
   -- it received no more often than it may, and ended by the port and by the store exactly where they failed
   pub receives : p.port'.receives ≤ p.port.receives + turns
   pub failed : (served.ended ≡ PortFailed) ↔ (p.port.failures < p.port'.failures)

@@ -3,9 +3,9 @@ use Rattle.std.specs.Prelude.{◌≡◌, ◌⊎◌, ◌≤◌, ℕ, true, List, 
 use Rattle.std.specs.List.{AllByRecursion}
 use Rattle.fuse_keeper.specs.History.{is_in}
 use Rattle.fuse_keeper.specs.Lots.{Lots, TakesLot, AreGone, AreReopened}
-use Rattle.fuse_keeper.specs.Model.{Model}
-use Rattle.fuse_keeper.specs.Stands.{Records}
-use Rattle.fuse_keeper.specs.KeeperState.{KeeperState}
+use Rattle.fuse_keeper.specs.Model.{Model, IsRowed}
+use Rattle.fuse_keeper.specs.Stands.{Records, Standing}
+use Rattle.fuse_keeper.specs.KeeperState.{KeeperState, OfHeld, StandsFor, Reopened, BeginsMount, DropsLots}
 use Rattle.fuse_session.specs.Settling.{SomeAndMore}
 
 -- records, and the lots that they are in
@@ -32,12 +32,24 @@ pub record UnderAtMostMore (old new : Kept) : Type 0 where
   pub each : (i : ℕ) → is_some (new.records i) ≡ true
       → WasThere old new i ⊎ ((is_in more i ≡ true) × (new.lots.under i ≡ new.lots.current))
 
--- so it is of the records that are held
-pub record HoldsUnder {M : Model} (before : Kept) (k : KeeperState M) : Type 0 where
+-- records under the lots of a keeper
+abbrev pub kept_by : {M : Model} → KeeperState M → Records → Kept
+kept_by k records = record { records = records; lots = k.lots }
+
+-- it holds something of a good state, of whose records and lots this is so
+pub record HoldsKept {M : Model} (k : KeeperState M) (P : Kept → Type 0) : Type 0 where
   pub rows : M.Rows
   pub records : Records
   pub held : k.holds rows records
-  pub under : UnderAtMostMore before (record { records = records; lots = k.lots })
+  pub rowed : IsRowed M rows
+  pub so : P (kept_by k records)
+
+abbrev pub HoldsUnder : {M : Model} → Kept → KeeperState M → Type 0
+HoldsUnder before k = HoldsKept k (UnderAtMostMore before)
+
+-- a session on a port that confirms: so it is of what was held before
+abbrev pub AddsFew : {M : Model} → KeeperState M → KeeperState M → Type 0
+AddsFew old new = OfHeld old (λ rows records. HoldsUnder (kept_by old records) new)
 
 -- the store was opened again: the records are the same, or some of them, under their lots
 pub record OpenedAgain (old new : Kept) : Type 0 where
@@ -72,3 +84,29 @@ pub record HasFewEach (kept : Kept) : Type 0 where
 -- if it is so at first, it is so after each start
 abbrev pub LotsOverStarts : Type 0
 LotsOverStarts = (kept : Kept) (starts : List Start) → HasFewEach kept → AreStarts kept starts → AllByRecursion (λ (x : Start). HasFewEach x.left) starts
+
+-- ---- the starts of a keeper
+
+-- a mount began on a keeper that stood for a history
+pub record BeganOn {M : Model} {K : Type 0} (told : K → KeeperState M) (begun : K) : Type 0 where
+  pub old : K
+  pub at : Standing M
+  pub stood : StandsFor (told old) at.state at.history at.settled
+  pub begins : BeginsMount (told old) (told begun)
+  pub drops : DropsLots (told old) (told begun)
+
+-- a keeper was opened again, or a mount began, and then one session was served on a port that confirms
+pub record StartsOnce {M : Model} {K : Type 0} (told : K → KeeperState M) (old left : K) : Type 0 where
+  pub begun : K
+  pub begins : Reopened (told old) (told begun) ⊎ BeganOn told begun
+  pub honest : (told begun).is_honest
+  pub served : AddsFew (told begun) (told left)
+
+-- so it was again and again: these were left, one after the other
+abbrev pub StartsOften : {M : Model} {K : Type 0} → (K → KeeperState M) → K → List K → Type 0
+StartsOften told old [] = Unit {0}
+StartsOften told old (left ∷ more) = StartsOnce told old left × StartsOften told left more
+
+-- what one start makes of records and lots
+abbrev pub IsStart : Kept → Kept → Type 0
+IsStart old left = (begun : Kept) × Starts old begun × UnderAtMostMore begun left

@@ -31,9 +31,9 @@ pub fn lives<K: Keeper>()
     histories_grow::<K>();
 }
 
-/// Each run of `serve` is such a life: `run` is the part `life` of its promise, of a keeper that was `k` and is
-/// `k'`, at whatever end; its port was `p` and is `p'`, its clock was `c` and is `c'`. The premise is that no kept message comes
-/// again whose answer was settled before or by the run.
+/// Each run of `serve` is such a life. `run` is the part `life` of its promise, at whatever end, of a
+/// keeper that was `k` and is `k'`; the port was `p` and is `p'`, the clock was `c` and is `c'`. The
+/// premise is that no kept message comes again whose answer was settled before or by the run.
 pub fn runs_are_lives<K: Keeper, P: Port, C: Clock>()
     // The rows and records that the keeper holds stand for the history that the life leaves, where
     // its store gave back what was written and, after a fault of the store, is clean,
