@@ -12,15 +12,17 @@ use Rattle.fuse_request.specs.Classes.{class_for}
 use Rattle.fuse_request.specs.Stream.{cut, joined}
 use Rattle.fuse_keeper.specs.Model.{Model}
 use Rattle.fuse_keeper.specs.History.{Entry, entry_id, History, has, Distinct, add, said, grown, HistoriesGrow}
-use Rattle.fuse_keeper.specs.Stands.{Standing}
+use Rattle.fuse_keeper.specs.Stands.{Standing, StandsAt}
 use Rattle.fuse_session.specs.Deeds.{Deeds, Hears}
 use Rattle.fuse_session.specs.Batches.{TimedFirst}
 use Rattle.fuse_session.specs.Passage.{Passage}
-use Rattle.fuse_session.specs.Exchange.{Lived}
+use Rattle.fuse_session.specs.declared.ended.Ended.{Ended}
+use Rattle.fuse_session.specs.Exchange.{Lived, HoldsAt}
+use Rattle.fuse_session.specs.Serving.{Run, nothing_waits}
 use Rattle.fuse_session.specs.Settling.{Mark, replies, settled_in, Replied}
 use Rattle.fuse_session.specs.Processed.{Timed, bytes_of, kept_in, entries_at, entry_if, timed_entry, message_id, unique_of, answered, answers, answer_by, out}
 use Rattle.fuse_session.specs.Processed.{moment_if, moments_in}
-use Rattle.fuse_sim.specs.Lives.{Lifetime, AreLives, after_lives, all_processed, AllSend, RanAsLife}
+use Rattle.fuse_sim.specs.Lives.{Lifetime, AreLives, after_lives, all_processed, AllSend, RanAsLife, IsLived}
 
 tested : (b : Bool) → (b ≡ true) ⊎ (b ≡ false)
 tested true = inl refl
@@ -181,4 +183,19 @@ run_lived M Stood p s h t received timed others marks part deeds came prefix don
       done = done;
       moments = timed_prefix M.serves deeds.moments l.worked l.unprocessed (subst (TimedFirst M.serves deeds.moments) l.parts moments);
       stands = l.stands;
+    }
+
+pub run_is_lived : (M : Model) (p : Passage M) (ended : Ended) (run : Run p nothing_waits ended) → IsLived p ended run
+run_is_lived M p ended run =
+    let b = run.broken in
+    let w = b.work in
+    record {
+      ends = λ intact s h t stands within none. run_lived M (HoldsAt p.keeper') p s h t run.received w.timed b.others w.marks b.part w.deeds run.came b.prefix
+          w.done b.moments b.replied (b.life intact s h t stands within none);
+      crashes = λ honest firm s h t stands within none.
+          let left = b.crash honest firm s h t stands within none in (
+            left.0,
+            λ x r may. run_lived M (StandsAt M (record { rows = x; records = r })) p s h t run.received w.timed b.others w.marks b.part w.deeds run.came b.prefix
+                w.done b.moments b.replied (left.1 x r may),
+          );
     }

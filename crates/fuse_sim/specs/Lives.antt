@@ -5,12 +5,15 @@ use Rattle.fuse_request.specs.Opcodes.{OpcodeSet}
 use Rattle.fuse_request.specs.Stream.{cut, joined}
 use Rattle.fuse_keeper.specs.History.{History, grown}
 use Rattle.fuse_keeper.specs.Model.{Model}
-use Rattle.fuse_keeper.specs.Stands.{Standing}
+use Rattle.fuse_keeper.specs.Stands.{Standing, StandsAt}
+use Rattle.fuse_keeper.specs.KeeperState.{Leaves, IsFirm}
 use Rattle.fuse_session.specs.declared.ended.Ended.{Ended}
 use Rattle.fuse_session.specs.Passage.{Passage}
 use Rattle.fuse_session.specs.Deeds.{Deeds, Hears}
 use Rattle.fuse_session.specs.Batches.{TimedFirst}
-use Rattle.fuse_session.specs.Serving.{nothing_waits, Run}
+use Rattle.fuse_session.specs.Ended.{IsIntact}
+use Rattle.fuse_session.specs.Exchange.{HoldsAt, IfNoneComesAgain}
+use Rattle.fuse_session.specs.Serving.{nothing_waits, Run, exchange}
 use Rattle.fuse_session.specs.Settling.{Mark, replies, settled_in, Replied}
 use Rattle.fuse_session.specs.Processed.{Timed, bytes_of, kept_in, out, Works}
 
@@ -50,10 +53,6 @@ abbrev pub AllSend : (M : Model) → M.State → History → List Lifetime → T
 AllSend M s last [] = Unit {0}
 AllSend M s last (life ∷ lives) = ((unsent : List ℕ) × (out M s last life.worked ≡ life.sent ++ unsent)) × AllSend M s last lives
 
--- the part `life` of what `serve` promises of a run, at whatever end
-abbrev pub RunOfServe : {M : Model} → Passage M → Ended → Type 0
-RunOfServe p ended = Run p nothing_waits ended
-
 -- a run of a server was a life: the bytes that came to its port, the answers that it sent whole and the part of another
 -- one, the ids that these settle, what was done, with the moments of the messages, and what is left
 pub record RanAsLife {M : Model} (p : Passage M) (at : Standing M) (Stood : Standing M → Type 0) : Type 0 where
@@ -69,3 +68,17 @@ pub record RanAsLife {M : Model} (p : Passage M) (at : Standing M) (Stood : Stan
   pub done : Hears p.did life.received deeds
   pub moments : TimedFirst M.serves deeds.moments life.worked
   pub stands : Stood (record { state = at.state; history = grown at.history (kept_in M.serves life.worked); settled = at.settled ++ life.settled })
+
+-- a run of `serve`, as the part `life` of its promise says, was such a life, whatever the keeper stood for and whatever was settled,
+-- where no kept message comes again whose answer was settled before or by the run
+pub record IsLived {M : Model} (p : Passage M) (ended : Ended) (run : Run p nothing_waits ended) : Type 0 where
+  -- what the keeper holds stands for the history that the life leaves, where its store gave back what was written and, after a fault
+  -- of the store, has no write open
+  pub ends : IsIntact p.keeper' ended → IfNoneComesAgain p.keeper [] (exchange run.broken.work) (λ at. RanAsLife p at (HoldsAt p.keeper'))
+  -- and so does whatever a crash then leaves, where the keeper was firm
+  pub crashes : p.keeper'.is_honest → IsFirm p.keeper → IfNoneComesAgain p.keeper [] (exchange run.broken.work)
+      (λ at. Leaves p.keeper' (λ x r. RanAsLife p at (StandsAt M (record { rows = x; records = r }))))
+
+-- so it is of each run, at whatever end
+abbrev pub RunsAreLives : {M : Model} → Passage M → Type 0
+RunsAreLives p = (ended : Ended) (run : Run p nothing_waits ended) → IsLived p ended run

@@ -1,17 +1,11 @@
 // Several lives of a server in one mount.
-ghost use Rattle.std.specs.Prelude.{◌≡◌, ℕ, List, []};
-ghost use Rattle.fuse_keeper.specs.History.{History, Distinct, grown};
-ghost use Rattle.fuse_keeper.specs.Stands.{StandsAt};
-ghost use Rattle.fuse_keeper.specs.KeeperState.{StandsFor, Leaves, IsFirm};
-ghost use Rattle.fuse_session.specs.declared.ended.Ended.{Ended as EndedValue};
+ghost use Rattle.std.specs.Prelude.{◌≡◌, List, []};
+ghost use Rattle.fuse_keeper.specs.History.{Distinct, grown};
 ghost use Rattle.fuse_session.specs.Deeds.{Did};
-ghost use Rattle.fuse_session.specs.Ended.{IsIntact};
-ghost use Rattle.fuse_session.specs.Exchange.{HoldsAt};
 ghost use Rattle.fuse_session.specs.Passage.{passage};
-ghost use Rattle.fuse_session.specs.Settling.{NoneComesAgain};
-ghost use Rattle.fuse_session.specs.Processed.{bytes_of, kept_in};
+ghost use Rattle.fuse_session.specs.Processed.{kept_in};
 ghost use Rattle.fuse_sim.specs.Lives.{Lifetime, AreLives, after_lives, all_processed, AllSend};
-ghost use Rattle.fuse_sim.specs.Lives.{RunOfServe, RanAsLife};
+ghost use Rattle.fuse_sim.specs.Lives.{RunsAreLives};
 
 use fuse_keeper::{Keeper, histories_grow};
 use fuse_session::{Clock, Port};
@@ -31,31 +25,10 @@ pub fn lives<K: Keeper>()
     histories_grow::<K>();
 }
 
-/// Each run of `serve` is such a life. `run` is the part `life` of its promise, at whatever end, of a
-/// keeper that was `k` and is `k'`; the port was `p` and is `p'`, the clock was `c` and is `c'`. The
-/// premise is that no kept message comes again whose answer was settled before or by the run.
+/// Each run of `serve` is such a life, of a keeper that was `k` and is `k'`, at whatever end. Its port
+/// was `p` and is `p'`, its clock was `c` and is `c'`.
 pub fn runs_are_lives<K: Keeper, P: Port, C: Clock>()
-    // The rows and records that the keeper holds stand for the history that the life leaves, where
-    // its store gave back what was written and, after a fault of the store, is clean,
-    ensures ends { (k k' : K) (p p' : P) (c c' : C) (ended : EndedValue)
-        (run : RunOfServe (passage (K.told k) (K.told k') (P.told p) (P.told p')
-        (Did (C.gave c c') (K.performed k k') (P.became p p'))) ended)
-        (s : K.model.State) (h : History) (t : List ℕ) → StandsFor (K.told k) s h t
-        → NoneComesAgain K.model.serves (P.told p).confirms t
-        (bytes_of run.broken.work.timed) run.broken.work.marks
-        → IsIntact (K.told k') ended → RanAsLife (passage (K.told k) (K.told k') (P.told p) (P.told p')
-        (Did (C.gave c c') (K.performed k k') (P.became p p')))
-        (record { state = s; history = h; settled = t }) (HoldsAt (K.told k')) }
-    // and so does whatever a crash then leaves, where the keeper was firm.
-    ensures crashes { (k k' : K) (p p' : P) (c c' : C) (ended : EndedValue)
-        (run : RunOfServe (passage (K.told k) (K.told k') (P.told p) (P.told p')
-        (Did (C.gave c c') (K.performed k k') (P.became p p'))) ended)
-        (s : K.model.State) (h : History) (t : List ℕ) → StandsFor (K.told k) s h t
-        → NoneComesAgain K.model.serves (P.told p).confirms t
-        (bytes_of run.broken.work.timed) run.broken.work.marks
-        → (K.told k').is_honest → IsFirm (K.told k)
-        → Leaves (K.told k') (λ x r. RanAsLife (passage (K.told k) (K.told k') (P.told p) (P.told p')
-        (Did (C.gave c c') (K.performed k k') (P.became p p')))
-        (record { state = s; history = h; settled = t })
-        (StandsAt K.model (record { rows = x; records = r }))) }
+    ensures { (k k' : K) (p p' : P) (c c' : C)
+        → RunsAreLives (passage (K.told k) (K.told k') (P.told p) (P.told p')
+        (Did (C.gave c c') (K.performed k k') (P.became p p'))) }
 {}
