@@ -11,7 +11,7 @@ use Rattle.fuse_request.specs.declared.request.ReadIn.{ReadIn}
 use Rattle.fuse_request.specs.declared.request.ReleaseIn.{ReleaseIn}
 use Rattle.fuse_request.specs.declared.request.Request.{Request}
 use Rattle.fuse_request.specs.declared.request.SetattrIn.{SetattrIn}
-use Rattle.fuse_request.specs.Opcodes.{OpcodeSet, in_profile, is_served, is_kept_for, no_others}
+use Rattle.fuse_request.specs.Opcodes.{OpcodeSet, is_served, is_kept_for}
 
 -- what a request asks for, its names and bodies as lists
 pub data Act : Type 0 where
@@ -94,10 +94,6 @@ pub record Asked : Type 0 where
 abbrev pub asked : Request → Asked
 asked r = record { header = r.header; act = act r.op; ext = r.ext.now }
 
--- its opcode is of the profile
-abbrev pub IsInProfile : Act → Type 0
-IsInProfile a = in_profile (opcode_of a) ≡ true
-
 -- its opcode is of the profile or in this set
 abbrev pub IsServedFor : OpcodeSet → Act → Type 0
 IsServedFor V a = is_served V (opcode_of a) ≡ true
@@ -105,7 +101,3 @@ IsServedFor V a = is_served V (opcode_of a) ≡ true
 -- its message is kept where these others are served
 abbrev pub IsKeptFor : OpcodeSet → Act → Type 0
 IsKeptFor V a = is_kept_for V (opcode_of a) ≡ true
-
--- its message is kept where no others are
-abbrev pub IsKept : Act → Type 0
-IsKept = IsKeptFor no_others

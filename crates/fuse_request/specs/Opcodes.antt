@@ -68,10 +68,6 @@ is_served V opcode = V opcode || in_profile opcode
 abbrev pub is_kept_for : OpcodeSet → ℕ → Bool
 is_kept_for V opcode = not (silent opcode) && is_served V opcode
 
--- the same where no others are
-abbrev pub is_kept : ℕ → Bool
-is_kept = is_kept_for no_others
-
 abbrev pub fault_by : Option Opcode → List ℕ → Option Malformed
 fault_by None b = None
 fault_by (Some o) b = o.fault b

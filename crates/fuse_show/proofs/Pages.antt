@@ -15,7 +15,8 @@ use Rattle.fuse_tree.specs.Rows.{Rows, IsRowed, is_after, entries_after}
 use Rattle.fuse_tree.specs.RowsOfTrees.{RowsOfTrees}
 use Rattle.fuse_show.specs.declared.fault.ShowFault.{ShowFault}
 use Rattle.fuse_show.specs.declared.fault.ShowFault.TheVariants.{Look, NotATree, NoSuchPath, NotDirectory, NotFile, Output}
-use Rattle.fuse_show.specs.Looks.{WritesOut, look_fault}
+use Rattle.fuse_show.specs.Looks.{look_fault}
+use Rattle.fuse_show.specs.inner.Writing.{WritesOut}
 use Rattle.fuse_show.specs.Listing.{line_of, listing}
 use Rattle.fuse_show.specs.inner.Pages.{entries_following, lines_after, lines_left, cookie_at, is_higher, WritesPrefix, WritesPage}
 use Rattle.fuse_show.proofs.Trees.{filtered}

@@ -4,7 +4,8 @@ use Rattle.std.specs.Prelude.{Err}
 use Rattle.fuse_tree.specs.Rows.{Rows}
 use Rattle.fuse_show.specs.declared.fault.ShowFault.{ShowFault}
 use Rattle.fuse_show.specs.declared.fault.ShowFault.TheVariants.{Look, NotATree, NoSuchPath, NotDirectory, NotFile, Output}
-use Rattle.fuse_show.specs.Looks.{WritesOut, look_fault}
+use Rattle.fuse_show.specs.Looks.{look_fault}
+use Rattle.fuse_show.specs.inner.Writing.{WritesOut}
 use Rattle.fuse_show.specs.Lookup.{Finds}
 use Rattle.fuse_tree.specs.State.{is_dir, is_file}
 use Rattle.fuse_show.specs.Shown.{ShowsListing, ShowsContent, LeadsToOne}

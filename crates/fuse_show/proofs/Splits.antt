@@ -3,7 +3,8 @@ use Rattle.std.proofs.Common.{◌≡◌, ◌≢◌, ◌==◌, ℕ, Bool, true, f
 use Rattle.std.specs.Prelude.{filter}
 use Rattle.std.specs.List.{slice_split}
 use Rattle.std.proofs.lemmas.List.Splits.{slice_split_at, slice_split_none}
-use Rattle.fuse_show.specs.Paths.{names_of, Lacks}
+use Rattle.fuse_show.specs.Paths.{names_of}
+use Rattle.fuse_show.specs.inner.Finding.{Lacks}
 
 apart : (n : ℕ) → n ≢ 47 → (n == 47) ≡ false
 apart n isnt = grind arith

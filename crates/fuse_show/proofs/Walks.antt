@@ -8,7 +8,8 @@ use Rattle.fuse_show.specs.declared.fault.ShowFault.{ShowFault}
 use Rattle.fuse_show.specs.declared.fault.ShowFault.TheVariants.{Look, NotATree, NoSuchPath, NotDirectory, NotFile, Output}
 use Rattle.fuse_show.specs.Looks.{ReadOff, look_fault}
 use Rattle.fuse_show.specs.Paths.{names_of}
-use Rattle.fuse_show.specs.Lookup.{LeadsBy, Lead, LeadTo, Steps, Finds, IsRoot}
+use Rattle.fuse_show.specs.Lookup.{LeadsBy, Lead, LeadTo, Finds}
+use Rattle.fuse_show.specs.inner.Finding.{Steps, IsRoot}
 use Rattle.fuse_show.proofs.Trees.{row_numbered}
 
 lead_more : (rows : Rows) (from : NodeRow) (names : List (List ℕ)) (to : NodeRow) (name : List ℕ) (next : NodeRow) → Lead rows from names to

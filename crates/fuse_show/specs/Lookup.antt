@@ -44,26 +44,6 @@ HasNone rows last name = (is_dir last.mode ≡ true) × (entry_at rows.entries l
 abbrev pub IsNoDirectory : NodeRow → List ℕ → Type 0
 IsNoDirectory last name = is_dir last.mode ≡ false
 
--- the result of following one name from a node
-abbrev pub Steps : Rows → NodeRow → List ℕ → Result NodeRow ShowFault → Type 0
-Steps rows from name (Ok to) = LeadsBy rows from name to
-Steps rows from name (Err (Look f)) = Unit {0}
-Steps rows from name (Err NotATree) = ⊥
-Steps rows from name (Err NoSuchPath) = HasNone rows from name
-Steps rows from name (Err NotDirectory) = IsNoDirectory from name
-Steps rows from name (Err NotFile) = ⊥
-Steps rows from name (Err Output) = ⊥
-
--- the result of looking up the root
-abbrev pub IsRoot : Rows → Result NodeRow ShowFault → Type 0
-IsRoot rows (Ok row) = row_at rows fuse_root_id ≡ Some row
-IsRoot rows (Err (Look f)) = Unit {0}
-IsRoot rows (Err NotATree) = ⊥
-IsRoot rows (Err NoSuchPath) = ⊥
-IsRoot rows (Err NotDirectory) = ⊥
-IsRoot rows (Err NotFile) = ⊥
-IsRoot rows (Err Output) = ⊥
-
 -- the result of following names: the node, or why there is none
 abbrev pub Finds : Rows → List (List ℕ) → Result NodeRow ShowFault → Type 0
 Finds rows names (Ok row) = LeadTo rows names row

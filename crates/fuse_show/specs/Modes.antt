@@ -24,10 +24,6 @@ letter_text is_set letter = if is_set then letter else codes "-"
 abbrev pub run_text : Bool → Bool → List ℕ → List ℕ → List ℕ
 run_text runs is_special both alone = if is_special then (if runs then both else alone) else letter_text runs (codes "x")
 
--- the permissions of a class of users
-abbrev pub class_text : List ℕ → List ℕ → List ℕ → List ℕ
-class_text read write run = read ++ (write ++ run)
-
 abbrev pub owner_text : ℕ → List ℕ
 owner_text mode =
     letter_text (has_bit mode 0o400) (codes "r")

@@ -2,7 +2,8 @@ ghost use Rattle.std.specs.Prelude.{◌≡◌, ◌<◌, ◌≤◌, true, false, 
 ghost use Rattle.fuse_tree.specs.Rows.{row_at};
 ghost use Rattle.fuse_tree.specs.Bounds.{file_limit, read_limit};
 ghost use Rattle.fuse_show.specs.declared.fault.ShowFault.TheVariants.{NotATree};
-ghost use Rattle.fuse_show.specs.Looks.{ReadOff, OnlyLooked, WritesOut, is_of_path};
+ghost use Rattle.fuse_show.specs.Looks.{ReadOff, OnlyLooked, is_of_path};
+ghost use Rattle.fuse_show.specs.inner.Writing.{WritesOut};
 ghost use Rattle.fuse_show.specs.Content.{content_at};
 ghost use Rattle.fuse_show.specs.Paths.{names_of};
 ghost use Rattle.fuse_show.specs.Shown.{ShowsContent};

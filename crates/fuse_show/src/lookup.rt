@@ -1,7 +1,8 @@
 ghost use Rattle.std.specs.Prelude.{◌≡◌, true, None, IfErr};
-ghost use Rattle.fuse_show.specs.Looks.{ReadOff, OnlyLooked, is_of_finding};
+ghost use Rattle.fuse_show.specs.Looks.{ReadOff, OnlyLooked};
+ghost use Rattle.fuse_show.specs.inner.Finding.{is_of_finding, IsRoot, Steps};
 ghost use Rattle.fuse_show.specs.Paths.{names_of};
-ghost use Rattle.fuse_show.specs.Lookup.{IsRoot, Steps, Finds};
+ghost use Rattle.fuse_show.specs.Lookup.{Finds};
 
 use crate::fault::ShowFault;
 use crate::modes::is_directory;

@@ -1,6 +1,7 @@
 ghost use Rattle.std.specs.Prelude.{◌≡◌, ◌<◌, if◌then◌else◌, codes};
 ghost use Rattle.fuse_tree.specs.State.{is_dir, is_file};
-ghost use Rattle.fuse_show.specs.Modes.{has_bit, kind_text, run_text, class_text};
+ghost use Rattle.fuse_show.specs.Modes.{has_bit, kind_text, run_text};
+ghost use Rattle.fuse_show.specs.inner.Writing.{class_text};
 ghost use Rattle.fuse_show.specs.Modes.{owner_text, group_text, others_text};
 
 use fuse_tree::{S_IFBLK, S_IFCHR, S_IFDIR, S_IFIFO, S_IFREG, S_IFSOCK, TYPE_UNIT, TYPES};
@@ -76,7 +77,7 @@ struct Class {
 
 impl fmt::Display for Class {
     ghost use Rattle.std.specs.Prelude.{Some};
-    ghost use Rattle.fuse_show.specs.Modes.{class_text};
+    ghost use Rattle.fuse_show.specs.inner.Writing.{class_text};
 
     ghost output = { λ c. Some (class_text c.read.now c.write.now c.run.now) };
 

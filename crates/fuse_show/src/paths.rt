@@ -1,5 +1,6 @@
 ghost use Rattle.std.specs.Prelude.{◌≡◌, ◌<◌, ◌++◌, ◌∷◌, [], None, length, IfSome};
-ghost use Rattle.fuse_show.specs.Paths.{names_of, Lacks};
+ghost use Rattle.fuse_show.specs.Paths.{names_of};
+ghost use Rattle.fuse_show.specs.inner.Finding.{Lacks};
 
 // The parts of a path before and after its first slash.
 fn split_at_slash(path: &[u8]) -> Option<(&[u8], &[u8])>

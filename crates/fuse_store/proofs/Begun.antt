@@ -8,7 +8,7 @@ use Rattle.fuse_keeper.specs.declared.fault.StoreFault.{StoreFault}
 use Rattle.fuse_keeper.specs.declared.fault.StoreFault.TheVariants.{Memory, Sql, NotAStore, Version, Damaged}
 use Rattle.fuse_store_tables.specs.Content.{LeftAs}
 use Rattle.fuse_store_tables.specs.Faults.{IsOutside, IsPlain}
-use Rattle.fuse_store_tables.specs.Following.{earlier}
+use Rattle.fuse_store_tables.specs.inner.Following.{earlier}
 use Rattle.fuse_store_tables.specs.Moves.{RestsAs, ServesAs, IsSafe}
 use Rattle.fuse_store_tables.specs.Saying.{Says}
 use Rattle.fuse_store_tree.specs.Holding.{HeldFor}

@@ -6,7 +6,8 @@ use Rattle.fuse_tree.specs.Rows.{rowed}
 use Rattle.fuse_store_tables.specs.Content.{Content, Answer, value_at}
 use Rattle.fuse_store_tables.specs.Opening.{IsMetaFrom, IsOld, under, marked, migrated}
 use Rattle.fuse_store_tree.specs.Fits.{KeepsRecord}
-use Rattle.fuse_store_tree.specs.Store.{Describes, FitsSettings}
+use Rattle.fuse_store_tree.specs.Store.{FitsSettings}
+use Rattle.fuse_store_tree.specs.inner.Reading.{Describes}
 use Rattle.fuse_store_tree.specs.Holding.{TreesAreInOrder, store_of}
 use Rattle.fuse_store.specs.Opening.{DescribesFirst, first_counters, First, opened_for}
 use Rattle.fuse_store.proofs.Fitting.{nodes_length, settings_low, all_less}

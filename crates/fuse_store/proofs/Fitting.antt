@@ -9,7 +9,8 @@ use Rattle.fuse_tree.specs.Rows.{rowed, full_of}
 use Rattle.fuse_store_tables.specs.Content.{Content, Kept, value_at, node_key}
 use Rattle.fuse_store_tables.specs.Opening.{IsMetaFrom, IsFit, IsSecond}
 use Rattle.fuse_store_tree.specs.Fits.{KeepsRecord}
-use Rattle.fuse_store_tree.specs.Store.{Describes, FitsSettings, counters_of, in_order, is_there, minor_of, readahead_of, flags_of}
+use Rattle.fuse_store_tree.specs.Store.{FitsSettings, counters_of, in_order, is_there, minor_of, readahead_of, flags_of}
+use Rattle.fuse_store_tree.specs.inner.Reading.{Describes}
 use Rattle.fuse_store_tree.specs.Holding.{Holding, HeldFor, TreesAreInOrder, store_of}
 
 -- ---- lists

@@ -10,7 +10,8 @@ use Rattle.fuse_tree.specs.Clearing as trees
 use Rattle.fuse_store_tables.specs.Content.{Content, Holds, node_key, is_unnamed, set_counter}
 use Rattle.fuse_store_tables.specs.Clearing.{cleared, named, has_unnamed, counted_to, without_settings}
 use Rattle.fuse_store_tree.specs.Fits.{KeepsNode, IsWhole}
-use Rattle.fuse_store_tree.specs.Store.{Describes, counters_of, in_order, byte_at, bytes_of}
+use Rattle.fuse_store_tree.specs.Store.{counters_of, in_order, byte_at, bytes_of}
+use Rattle.fuse_store_tree.specs.inner.Reading.{Describes}
 use Rattle.fuse_store_tree.specs.Holding.{Holding, HeldFor, TreesAreInOrder, store_of}
 use Rattle.fuse_store.specs.Mounting.{cleared_for}
 use Rattle.fuse_store.proofs.Fitting.{filter_length, all_filter}

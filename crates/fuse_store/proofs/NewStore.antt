@@ -13,7 +13,8 @@ use Rattle.fuse_tree.specs.Plan.{NewStoreIsTree}
 use Rattle.fuse_store_tables.specs.Layout.{no_schema}
 use Rattle.fuse_store_tables.specs.Making.{IsBare, IsNew, new_store}
 use Rattle.fuse_store_tables.specs.Moves.{RestsAs, ServesAs}
-use Rattle.fuse_store_tree.specs.Store.{Describes, byte_at}
+use Rattle.fuse_store_tree.specs.Store.{byte_at}
+use Rattle.fuse_store_tree.specs.inner.Reading.{Describes}
 use Rattle.fuse_store_tree.specs.Holding.{HeldFor, store_of}
 use Rattle.fuse_store.specs.Creating.{IsBlank, new_holding}
 use Rattle.fuse_store.proofs.Retelling.{Retold}

@@ -12,7 +12,7 @@ use Rattle.fuse_keeper.specs.declared.fault.StoreFault.{StoreFault}
 use Rattle.fuse_store_tables.specs.Content.{LeftAs}
 use Rattle.fuse_keeper.specs.declared.fault.StoreFault.TheVariants.{Memory, Sql, NotAStore, Version, Damaged}
 use Rattle.fuse_store_tables.specs.Faults.{IsPlain, IsOutside}
-use Rattle.fuse_store_tables.specs.Following.{earlier}
+use Rattle.fuse_store_tables.specs.inner.Following.{earlier}
 use Rattle.fuse_store_tables.specs.Moves.{RestsAs, ServesAs, StaysOpen}
 use Rattle.fuse_store_tree.specs.Holding.{Holding, HeldFor, lots_of}
 use Rattle.fuse_store_tree.specs.Lots.{lots_in, LotsAreSame}

@@ -13,7 +13,7 @@ use Rattle.fuse_store_tree.specs.Performing.{OneHolding}
 use Rattle.fuse_store.specs.Opening.{Stored, WasFor, opened_for}
 use Rattle.fuse_store.specs.Opening.Stored.{Second}
 use Rattle.fuse_store.specs.TableState.{IsOf, HoldsIn, LeavesSome, table_told}
-use Rattle.fuse_store.specs.Laws.{one_held}
+use Rattle.fuse_store.specs.inner.Laws.{one_held}
 use Rattle.fuse_store.proofs.Serving.{Settled, firm}
 
 was_for : (s : State) (y : Holding) → RestsAs (HeldFor y) s → WasFor (Second y) s

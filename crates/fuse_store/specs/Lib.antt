@@ -3,6 +3,6 @@ pub mod Mounting
 pub mod Opening
 pub mod TableState
 pub mod TableKeeper
-pub mod Laws
 pub mod Starting
 pub mod Storing
+pub mod inner

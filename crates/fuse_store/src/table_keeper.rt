@@ -250,7 +250,7 @@ impl<S: Alter + Drop> Keeper for TableKeeper<S> {
     ghost use Rattle.fuse_store_tables.specs.Faults.{IsPlain};
     ghost use Rattle.fuse_store.specs.TableKeeper.{keeper_told};
     ghost use Rattle.fuse_store.specs.TableKeeper.{FaultsOutside, FaultsOutsideWithLot};
-    ghost use Rattle.fuse_store.specs.Laws.{one_held};
+    ghost use Rattle.fuse_store.specs.inner.Laws.{one_held};
 
     ghost model = { the_tree };
 

@@ -12,10 +12,10 @@ use Rattle.sqlite_value.specs.Keys.{plain, first_key}
 use Rattle.sqlite_sql.specs.Ops.{binary, is_true, from_truth}
 use Rattle.sqlite_schema.specs.declared.schema.Constraint.TheVariants.{Unique}
 use Rattle.sqlite_schema.specs.Rules.{Keeps, agree, differ, clashes, passes}
-use Rattle.sqlite_trees.specs.Tree.{IsTable, rowid}
+use Rattle.sqlite_trees.specs.Tree.{IsTable, IsAscending, rowid}
 use Rattle.sqlite.specs.Effect.{Database}
 use Rattle.fuse_store_tables.specs.Layout.{blocks, store_schema}
-use Rattle.fuse_store_tables.specs.Blocks.{Block, block_row, is_at, AreApart}
+use Rattle.fuse_store_tables.specs.Blocks.{Block, block_row, is_at}
 use Rattle.fuse_store_tables.specs.Content.{Content, Holds}
 use Rattle.fuse_store_tables.proofs.Keyed.{row_cmp_nat}
 
@@ -70,6 +70,10 @@ each a (b ∷ bs) above none =
 fewer : (x : Block) (bs all : List Block) → AllByRecursion (NoneHits (x ∷ bs)) all → AllByRecursion (NoneHits bs) all
 fewer x bs [] none = tt
 fewer x bs (a ∷ all) none = ((neither _ _ none.0).1, fewer x bs all none.1)
+
+-- no two blocks have the same place
+abbrev pub AreApart : List Block → Type 0
+AreApart = IsAscending (λ a b. is_at a.node a.block b ≡ false)
 
 apart : (bs : List Block) → IsTable (map block_row bs) → AllByRecursion (NoneHits bs) bs → AreApart bs
 apart [] rise none = tt

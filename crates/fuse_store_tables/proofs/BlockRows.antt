@@ -29,15 +29,16 @@ use Rattle.sqlite.specs.Listing.{understood, reads_listing}
 use Rattle.sqlite.specs.State.{State, HasCleanDisk, Survives, CommitsBy, Writes, Shown, FailsToQuery, CommitsShowing}
 use Rattle.sqlite.proofs.Callers.{IsPlain, command_of, statement_of}
 use Rattle.fuse_store_tables.specs.Layout.{blocks, store_schema}
-use Rattle.fuse_store_tables.specs.Blocks.{Block, block_row, is_at, is_from, block_at, AreApart, new_block, shown_block}
+use Rattle.fuse_store_tables.specs.Blocks.{Block, block_row, is_at, is_from, block_at, new_block, shown_block}
 use Rattle.fuse_store_tables.specs.Content.{Content, Holds, stored, put_by, with_block, without_block, without_blocks_from}
-use Rattle.fuse_store_tables.specs.Moves.{Inside, Makes, Ran}
+use Rattle.fuse_store_tables.specs.Moves.{Inside, Makes}
+use Rattle.fuse_store_tables.specs.inner.Performing.{Ran}
 use Rattle.fuse_store_tables.proofs.Writing.{makes}
 use Rattle.fuse_store_tables.proofs.Tables.{wrote, quiet, only_blocks}
 use Rattle.fuse_store_tables.proofs.Keyed.{put_rows, row_cmp_nat}
 use Rattle.fuse_store_tables.proofs.Reading.{plain_query, answered, looks, read, only, both_true}
 use Rattle.fuse_store_tables.proofs.RowLemmas.{cast_int, cast_null, inserted}
-use Rattle.fuse_store_tables.proofs.Apart.{blocks_apart}
+use Rattle.fuse_store_tables.proofs.Apart.{AreApart, blocks_apart}
 use Rattle.fuse_store_tables.proofs.Deletes.{picking, picks}
 
 -- ---- a new block

@@ -7,7 +7,9 @@ use Rattle.std.proofs.lemmas.Bool.Decides.{nat_tests}
 use Rattle.sqlite.specs.Order.{Row}
 use Rattle.fuse_store_tables.specs.Blocks.{Block, is_from}
 use Rattle.fuse_store_tables.specs.Content.{Content, without_blocks_from}
-use Rattle.fuse_store_tables.specs.Clearing.{shown_number, number_of, unnamed_numbers, without_blocks_of, without_unnamed_blocks}
+use Rattle.fuse_store_tables.specs.Clearing.{unnamed_numbers}
+use Rattle.fuse_store_tables.specs.inner.Columns.{shown_number, number_of}
+use Rattle.fuse_store_tables.specs.inner.Steps.{without_blocks_of, without_unnamed_blocks}
 use Rattle.fuse_store_tables.proofs.Removing.{every, not_either}
 
 pub numbers_back : (ns : List ℕ) → map number_of (map shown_number ns) ≡ ns

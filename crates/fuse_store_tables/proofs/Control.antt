@@ -18,7 +18,8 @@ use Rattle.sqlite_resolve.specs.declared.error.CompileError.{CompileError}
 use Rattle.sqlite_schema.specs.declared.command.Returning.{Returning}
 use Rattle.sqlite.proofs.StateLemmas.{survives_weaker}
 use Rattle.sqlite.proofs.Callers.{IsPlain, command_of, runs_as}
-use Rattle.fuse_store_tables.specs.Moves.{Begins, Ends, Undoes, Ran}
+use Rattle.fuse_store_tables.specs.Moves.{Begins, Ends, Undoes}
+use Rattle.fuse_store_tables.specs.inner.Performing.{Ran}
 
 abbrev pub begin_text : List ℕ
 begin_text = codes "BEGIN"

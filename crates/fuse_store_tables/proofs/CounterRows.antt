@@ -22,7 +22,8 @@ use Rattle.sqlite.proofs.Callers.{IsPlain, command_of, statement_of}
 use Rattle.fuse_store_tables.specs.Layout.{meta, store_schema}
 use Rattle.fuse_store_tables.specs.Content.{Content, Counter, Holds, stored, has_by, counter_key, counter_row, shown_counter, valued}
 use Rattle.fuse_store_tables.specs.Content.{set_counter}
-use Rattle.fuse_store_tables.specs.Moves.{Inside, Rests, Makes, Serves, Ran}
+use Rattle.fuse_store_tables.specs.Moves.{Inside, Rests, Makes, Serves}
+use Rattle.fuse_store_tables.specs.inner.Performing.{Ran}
 use Rattle.fuse_store_tables.proofs.Writing.{makes}
 use Rattle.fuse_store_tables.proofs.Tables.{wrote, only_counters}
 use Rattle.fuse_store_tables.proofs.Keyed.{row_cmp_nat}

@@ -15,7 +15,7 @@ use Rattle.sqlite_rules.specs.Calls.{ids_of}
 use Rattle.sqlite_rules.specs.Edit.{without_all}
 use Rattle.sqlite.specs.State.{State, Writes}
 use Rattle.fuse_store_tables.specs.Layout.{store_schema}
-use Rattle.fuse_store_tables.specs.Rows.{Spares}
+use Rattle.fuse_store_tables.specs.inner.Rows.{Spares}
 use Rattle.fuse_store_tables.proofs.Tables.{quiet}
 use Rattle.fuse_store_tables.proofs.Reading.{plain_query, answered}
 use Rattle.fuse_store_tables.proofs.RowLemmas.{uncounted, deleted}

@@ -5,8 +5,9 @@ use Rattle.sqlite.specs.Tree.{Trees}
 use Rattle.sqlite.specs.State.{State, HasCleanDisk, Survives}
 use Rattle.sqlite.proofs.StateLemmas.{survives_weaker}
 use Rattle.fuse_keeper.specs.declared.fault.StoreFault.{StoreFault}
-use Rattle.fuse_store_tables.specs.Following.{earlier}
-use Rattle.fuse_store_tables.specs.Moves.{InsideAs, IsReady, StaysIn, Takes, IsSure}
+use Rattle.fuse_store_tables.specs.inner.Following.{earlier}
+use Rattle.fuse_store_tables.specs.Moves.{InsideAs, IsReady, StaysIn, Takes}
+use Rattle.fuse_store_tables.specs.inner.Performing.{IsSure}
 
 module _ {C : Type 0} (P R : C → Database → Type 0) where
   abbrev pub Both : C → Database → Type 0

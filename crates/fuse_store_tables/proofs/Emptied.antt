@@ -7,9 +7,10 @@ use Rattle.sqlite.specs.Listing.{understood}
 use Rattle.sqlite.specs.State.{State, HasCleanDisk, Survives, CommitsBy, Writes}
 use Rattle.sqlite.proofs.Callers.{IsPlain, command_of, statement_of}
 use Rattle.fuse_store_tables.specs.Layout.{handles, answers, lots, kept, store_schema}
-use Rattle.fuse_store_tables.specs.Content.{Content, Answer, Holds, stored, fh_of, handle_row, answer_row, lot_row, kept_row, without_handles}
-use Rattle.fuse_store_tables.specs.Content.{without_answers, without_lots, without_all_kept}
-use Rattle.fuse_store_tables.specs.Moves.{Makes, Ran}
+use Rattle.fuse_store_tables.specs.Content.{Content, Answer, Holds, stored, fh_of, handle_row, answer_row, lot_row, kept_row}
+use Rattle.fuse_store_tables.specs.inner.Steps.{without_handles, without_answers, without_lots, without_all_kept}
+use Rattle.fuse_store_tables.specs.Moves.{Makes}
+use Rattle.fuse_store_tables.specs.inner.Performing.{Ran}
 use Rattle.fuse_store_tables.proofs.Writing.{makes}
 use Rattle.fuse_store_tables.proofs.Tables.{wrote, only_handles, only_answers, only_lots, only_kept}
 use Rattle.fuse_store_tables.proofs.Deletes.{picking, picks}

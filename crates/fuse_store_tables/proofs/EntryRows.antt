@@ -25,7 +25,8 @@ use Rattle.sqlite.proofs.Callers.{IsPlain, command_of, statement_of}
 use Rattle.fuse_store_tables.specs.Layout.{entries, store_schema}
 use Rattle.fuse_store_tables.specs.Content.{Content, Holds, stored, put_by, has_by, cookie_of, entry_row, with_entry, with_entry_gone, has_name}
 use Rattle.fuse_store_tables.specs.Content.{stands_after, shown_entry, shown_place}
-use Rattle.fuse_store_tables.specs.Moves.{Inside, Makes, Ran}
+use Rattle.fuse_store_tables.specs.Moves.{Inside, Makes}
+use Rattle.fuse_store_tables.specs.inner.Performing.{Ran}
 use Rattle.fuse_store_tables.proofs.Writing.{makes}
 use Rattle.fuse_store_tables.proofs.Tables.{wrote, quiet, only_entries}
 use Rattle.fuse_store_tables.proofs.Keyed.{put_rows, row_cmp_nat}

@@ -26,7 +26,8 @@ use Rattle.sqlite.proofs.Callers.{IsPlain, command_of, statement_of}
 use Rattle.fuse_store_tables.specs.Layout.{handles, store_schema}
 use Rattle.fuse_store_tables.specs.Content.{Content, Holds, stored, put_by, has_by, at_by, fh_of, access_code, handle_row, shown_handle, with_handle}
 use Rattle.fuse_store_tables.specs.Content.{without_handle}
-use Rattle.fuse_store_tables.specs.Moves.{Inside, Makes, Ran}
+use Rattle.fuse_store_tables.specs.Moves.{Inside, Makes}
+use Rattle.fuse_store_tables.specs.inner.Performing.{Ran}
 use Rattle.fuse_store_tables.proofs.Writing.{makes}
 use Rattle.fuse_store_tables.proofs.Tables.{wrote, quiet, only_handles}
 use Rattle.fuse_store_tables.proofs.Keyed.{put_rows, row_cmp_nat, found_rows}

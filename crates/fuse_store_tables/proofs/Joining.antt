@@ -4,15 +4,16 @@ use Rattle.std.specs.Result.{IsErr}
 use Rattle.sqlite.specs.Effect.{Database}
 use Rattle.sqlite.specs.State.{State, HasCleanDisk, Survives}
 use Rattle.fuse_store_tables.specs.Content.{Content, Holds}
-pub use Rattle.fuse_store_tables.specs.Following.{earlier, stays_then, then_as, taken_from, makes_then}
-pub use Rattle.fuse_store_tables.specs.Transaction.{failed_first, failed_inside, failed_commit, committed, served, undone}
+pub use Rattle.fuse_store_tables.specs.inner.Following.{earlier, stays_then, then_as, taken_from, makes_then}
+pub use Rattle.fuse_store_tables.specs.inner.Transaction.{failed_first, failed_inside, failed_commit, committed, served, undone}
 use Rattle.sqlite.specs.declared.error.Error.{Error}
 use Rattle.sqlite.specs.Tree.{Trees}
 use Rattle.fuse_keeper.specs.declared.fault.StoreFault.{StoreFault}
 use Rattle.fuse_keeper.specs.declared.fault.StoreFault.TheVariants.{Memory, Sql}
 use Rattle.fuse_store_tables.specs.Faults.{IsOutside}
 use Rattle.fuse_keeper.specs.Faults.{fault_of, is_memory}
-use Rattle.fuse_store_tables.specs.Moves.{InsideAs, Takes, Makes, IsSure}
+use Rattle.fuse_store_tables.specs.Moves.{InsideAs, Takes, Makes}
+use Rattle.fuse_store_tables.specs.inner.Performing.{IsSure}
 
 -- a call that failed makes nothing, so it may stand for any
 pub fails_as : {C X Y E F : Type 0} (P Q R : C → Database → Type 0) (a b : State) (e : E) (d : F) → Takes {X = X} P Q a b (Err e)

@@ -25,7 +25,8 @@ use Rattle.sqlite.specs.State.{State, HasCleanDisk, Survives, CommitsBy, Writes,
 use Rattle.sqlite.proofs.Callers.{IsPlain, command_of, statement_of}
 use Rattle.fuse_store_tables.specs.Layout.{kept, store_schema}
 use Rattle.fuse_store_tables.specs.Content.{Content, Kept, Holds, stored, put_by, has_by, at_by, kept_key, kept_row, shown_kept, with_kept, without_kept}
-use Rattle.fuse_store_tables.specs.Moves.{Inside, Rests, Makes, Serves, Ran}
+use Rattle.fuse_store_tables.specs.Moves.{Inside, Rests, Makes, Serves}
+use Rattle.fuse_store_tables.specs.inner.Performing.{Ran}
 use Rattle.fuse_store_tables.proofs.Writing.{makes}
 use Rattle.fuse_store_tables.proofs.Tables.{wrote, quiet, only_kept}
 use Rattle.fuse_store_tables.proofs.Keyed.{put_rows, row_cmp_nat, found_rows}

@@ -16,7 +16,8 @@ use Rattle.sqlite.specs.State.{State, HasCleanDisk, Survives, CommitsBy, Writes}
 use Rattle.sqlite.proofs.Callers.{IsPlain, command_of, statement_of}
 use Rattle.fuse_store_tables.specs.Layout.{lots, store_schema}
 use Rattle.fuse_store_tables.specs.Content.{Content, Holds, stored, put_by, lot_row, with_lot}
-use Rattle.fuse_store_tables.specs.Moves.{Makes, Ran}
+use Rattle.fuse_store_tables.specs.Moves.{Makes}
+use Rattle.fuse_store_tables.specs.inner.Performing.{Ran}
 use Rattle.fuse_store_tables.proofs.Writing.{makes}
 use Rattle.fuse_store_tables.proofs.Tables.{wrote, quiet, only_lots}
 use Rattle.fuse_store_tables.proofs.Keyed.{put_rows}

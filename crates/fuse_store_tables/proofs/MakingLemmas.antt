@@ -17,8 +17,10 @@ use Rattle.sqlite.specs.State.{State, HasCleanDisk, Survives, CommitsBy, Writes}
 use Rattle.sqlite.proofs.Callers.{IsPlain, command_of, statement_of}
 use Rattle.fuse_store_tables.specs.Layout.{meta, store_schema}
 use Rattle.fuse_store_tables.specs.Content.{Counter, stored, counter_row}
-use Rattle.fuse_store_tables.specs.Making.{IsBare, HasCounters, first_counters, counters_alone}
-use Rattle.fuse_store_tables.specs.Moves.{Takes, Ran}
+use Rattle.fuse_store_tables.specs.Making.{IsBare, first_counters, counters_alone}
+use Rattle.fuse_store_tables.specs.inner.Steps.{HasCounters}
+use Rattle.fuse_store_tables.specs.Moves.{Takes}
+use Rattle.fuse_store_tables.specs.inner.Performing.{Ran}
 use Rattle.fuse_store_tables.proofs.Writing.{makes}
 use Rattle.fuse_store_tables.proofs.Tables.{wrote, quiet}
 use Rattle.fuse_store_tables.proofs.Keyed.{put_all_rows, numbered_rows, IsTable-put_all}

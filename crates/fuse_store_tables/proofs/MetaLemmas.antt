@@ -8,7 +8,8 @@ use Rattle.std.proofs.lemmas.Bool.{cases_Bool}
 use Rattle.std.proofs.lemmas.Bool.Decides.{nat_tests}
 use Rattle.sqlite.specs.Order.{Row}
 use Rattle.fuse_store_tables.specs.Content.{Content, Counter, counter_key, has_by, valued, value_at, put_by, with_counter}
-use Rattle.fuse_store_tables.specs.Opening.{IsMetaFrom, most, shown_meta, marked}
+use Rattle.fuse_store_tables.specs.Opening.{IsMetaFrom, most, marked}
+use Rattle.fuse_store_tables.specs.inner.Columns.{shown_meta}
 
 pub meta_length : (k n : ℕ) (cs : List Counter) → IsMetaFrom k n cs → length cs ≡ n
 meta_length k zero [] meta = refl

@@ -13,8 +13,10 @@ use Rattle.sqlite.specs.State.{State, HasCleanDisk, Survives, CommitsBy, Writes}
 use Rattle.sqlite.proofs.Callers.{statement_of}
 use Rattle.fuse_store_tables.specs.Layout.{with_answers, with_lots, with_kept, lots, kept, entries, entries_in_order}
 use Rattle.fuse_store_tables.specs.Content.{Content, Answer, Kept, Holds, stored, lot_row, kept_row, answer_row, kept_key, value_at, put_by}
-use Rattle.fuse_store_tables.specs.Opening.{IsOld, IsFit, IsFirst, IsSecond, IsStored, HasLots, HasKept, HasTables, IsOpened, under, moved, marked, migrated, opened}
-use Rattle.fuse_store_tables.specs.Moves.{InsideAs, Takes, Ran}
+use Rattle.fuse_store_tables.specs.Opening.{IsOld, IsFit, IsFirst, IsSecond, IsStored, IsOpened, under, marked, migrated, opened}
+use Rattle.fuse_store_tables.specs.inner.Steps.{HasLots, HasKept, HasTables, moved}
+use Rattle.fuse_store_tables.specs.Moves.{InsideAs, Takes}
+use Rattle.fuse_store_tables.specs.inner.Performing.{Ran}
 use Rattle.fuse_store_tables.proofs.Writing.{makes}
 use Rattle.fuse_store_tables.proofs.Sorting.{Rises}
 use Rattle.fuse_store_tables.proofs.Ordered.{rises_from}

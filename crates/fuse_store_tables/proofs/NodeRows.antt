@@ -24,9 +24,11 @@ use Rattle.sqlite.specs.Listing.{understood, reads_listing}
 use Rattle.sqlite.specs.State.{State, HasCleanDisk, Survives, CommitsBy, Writes, Shown, FailsToQuery, CommitsShowing}
 use Rattle.sqlite.proofs.Callers.{IsPlain, command_of, statement_of}
 use Rattle.fuse_store_tables.specs.Layout.{nodes, store_schema}
-use Rattle.fuse_store_tables.specs.Content.{Content, Holds, stored, put_by, has_by, at_by, node_key, node_row, given_node, node_columns, renumbered}
+use Rattle.fuse_store_tables.specs.Content.{Content, Holds, stored, put_by, has_by, at_by, node_key, node_row, node_columns, renumbered}
+use Rattle.fuse_store_tables.specs.inner.Columns.{given_node}
 use Rattle.fuse_store_tables.specs.Content.{with_node, set_node}
-use Rattle.fuse_store_tables.specs.Moves.{Inside, Makes, Ran}
+use Rattle.fuse_store_tables.specs.Moves.{Inside, Makes}
+use Rattle.fuse_store_tables.specs.inner.Performing.{Ran}
 use Rattle.fuse_store_tables.proofs.Writing.{makes}
 use Rattle.fuse_store_tables.proofs.Tables.{wrote, quiet, only_nodes}
 use Rattle.fuse_store_tables.proofs.Keyed.{put_rows, row_cmp_nat, found_rows}

@@ -11,7 +11,7 @@ use Rattle.sqlite.specs.Effect.{Database, Answers}
 use Rattle.sqlite.specs.Tree.{Trees}
 use Rattle.sqlite_trees.specs.Tree.{IsTable}
 use Rattle.fuse_keeper.specs.declared.fault.StoreFault.{StoreFault}
-use Rattle.fuse_store_tables.specs.Following.{earlier}
+use Rattle.fuse_store_tables.specs.inner.Following.{earlier}
 use Rattle.sqlite_value.specs.declared.keys.Collation.TheVariants.{Binary}
 use Rattle.sqlite_sql.specs.declared.ops.BinaryOp.TheVariants.{Compare}
 use Rattle.sqlite_sql.specs.declared.ops.CompareOp.TheVariants.{Eq}
@@ -28,7 +28,9 @@ use Rattle.sqlite.specs.State.{State, HasCleanDisk, Survives, Shown, FailsToQuer
 use Rattle.sqlite.proofs.Callers.{IsPlain, command_of}
 use Rattle.fuse_store_tables.specs.Layout.{with_answers, store_schema}
 use Rattle.fuse_store_tables.specs.Content.{Content, Counter, Holds, HoldsAs, stored, counter_row, counter_key, has_by, at_by, value_at, shown_counter}
-use Rattle.fuse_store_tables.specs.Opening.{IsFirst, IsSecond, IsLaid, IsMeta, HasMeta, Tests, shown_meta}
+use Rattle.fuse_store_tables.specs.Opening.{IsFirst, IsSecond, IsLaid, IsMeta, HasMeta}
+use Rattle.fuse_store_tables.specs.inner.Steps.{Tests}
+use Rattle.fuse_store_tables.specs.inner.Columns.{shown_meta}
 use Rattle.fuse_store_tables.specs.Moves.{InsideAs, Takes}
 use Rattle.fuse_store_tables.proofs.Keyed.{row_cmp_nat, found_rows}
 use Rattle.fuse_store_tables.proofs.Reading.{looks, read, plain_query, answered, only, truth_of}

@@ -14,7 +14,8 @@ use Rattle.fuse_store_tables.specs.Layout.{store_schema}
 use Rattle.fuse_store_tables.specs.Content.{Content, Holds, kept_row, lot_row}
 use Rattle.fuse_keeper.specs.declared.fault.StoreFault.{StoreFault}
 use Rattle.fuse_store_tables.specs.Faults.{IsOutside}
-use Rattle.fuse_store_tables.specs.Clearing.{shown_number, reached, counted_to}
+use Rattle.fuse_store_tables.specs.Clearing.{reached, counted_to}
+use Rattle.fuse_store_tables.specs.inner.Columns.{shown_number}
 use Rattle.fuse_store_tables.specs.Moves.{Rests, Serves}
 use Rattle.fuse_store_tables.proofs.Reading.{read_held}
 use Rattle.fuse_store_tables.proofs.Resting.{peeks}

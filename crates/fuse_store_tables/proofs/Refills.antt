@@ -21,8 +21,10 @@ use Rattle.sqlite.specs.State.{State, HasCleanDisk, Survives, CommitsBy, Writes}
 use Rattle.sqlite.proofs.Callers.{IsPlain, command_of, statement_of}
 use Rattle.fuse_store_tables.specs.Layout.{meta, kept, store_schema}
 use Rattle.fuse_store_tables.specs.Content.{Content, Counter, Answer, Holds, stored, counter_row, answer_row, kept_row, kept_key, put_by, with_counter}
-use Rattle.fuse_store_tables.specs.Opening.{under, with_copies}
-use Rattle.fuse_store_tables.specs.Moves.{Makes, Ran}
+use Rattle.fuse_store_tables.specs.Opening.{under}
+use Rattle.fuse_store_tables.specs.inner.Steps.{with_copies}
+use Rattle.fuse_store_tables.specs.Moves.{Makes}
+use Rattle.fuse_store_tables.specs.inner.Performing.{Ran}
 use Rattle.fuse_store_tables.proofs.Writing.{makes}
 use Rattle.fuse_store_tables.proofs.Tables.{wrote, quiet, only_counters, only_kept}
 use Rattle.fuse_store_tables.proofs.Keyed.{put_rows, put_all_rows, numbered_rows, IsTable-put_all}

@@ -28,7 +28,7 @@ use Rattle.sqlite.specs.Rows.{Written, stamped, Task}
 use Rattle.sqlite.specs.Effect.{Database, Answers, value_rows}
 use Rattle.sqlite.specs.State.{State, Writes, mode_of}
 use Rattle.sqlite.proofs.Callers.{one_step}
-use Rattle.fuse_store_tables.specs.Rows.{Puts, PutsAll, Edits, Removes}
+use Rattle.fuse_store_tables.specs.inner.Rows.{Puts, PutsAll, Edits, Removes}
 
 either : (b : Bool) (x : Value) → cond b x x ≡ x
 either true x = refl

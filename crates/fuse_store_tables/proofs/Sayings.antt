@@ -10,7 +10,8 @@ use Rattle.sqlite.specs.State.{State, HasCleanDisk, Shown, ShowsRows}
 use Rattle.sqlite_schema.specs.declared.command.Returning.{Returning}
 use Rattle.fuse_keeper.specs.declared.fault.StoreFault.TheVariants.{Memory, Sql, Damaged}
 use Rattle.fuse_keeper.specs.Faults.{fault_of, is_memory}
-use Rattle.fuse_store_tables.specs.Faults.{misread_as, IsPlain}
+use Rattle.fuse_store_tables.specs.Faults.{IsPlain}
+use Rattle.fuse_store_tables.specs.inner.Columns.{misread_as}
 use Rattle.fuse_store_tables.specs.Saying.{version_text, ShowsVersion}
 
 pub plain_fault : (e : Error) → IsPlain (fault_of e)

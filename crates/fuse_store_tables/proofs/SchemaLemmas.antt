@@ -22,7 +22,8 @@ use Rattle.sqlite.specs.declared.error.Error.{Error}
 use Rattle.sqlite.specs.Tree.{Trees}
 use Rattle.fuse_store_tables.specs.Content.{HasRows, HoldsAs}
 use Rattle.fuse_store_tables.specs.Making.{IsBare}
-use Rattle.fuse_store_tables.specs.Moves.{Takes, Ran}
+use Rattle.fuse_store_tables.specs.Moves.{Takes}
+use Rattle.fuse_store_tables.specs.inner.Performing.{Ran}
 use Rattle.fuse_store_tables.proofs.RowLemmas.{went, same_value}
 use Rattle.fuse_store_tables.proofs.Writing.{makes}
 

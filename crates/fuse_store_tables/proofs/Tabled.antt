@@ -7,7 +7,7 @@ use Rattle.sqlite.specs.State.{State, HasCleanDisk, Survives}
 use Rattle.sqlite_tied.specs.Compute.{everything}
 use Rattle.fuse_keeper.specs.declared.fault.StoreFault.TheVariants.{Damaged}
 use Rattle.fuse_store_tables.specs.Content.{Content, value_at}
-use Rattle.fuse_store_tables.specs.Following.{earlier}
+use Rattle.fuse_store_tables.specs.inner.Following.{earlier}
 use Rattle.fuse_store_tables.specs.Faults.{IsOutside}
 use Rattle.fuse_store_tables.specs.Opening.{IsStored, IsSecond}
 use Rattle.fuse_store_tables.specs.Moves.{InsideAs, IsReady}

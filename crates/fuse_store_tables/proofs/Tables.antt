@@ -21,7 +21,7 @@ use Rattle.fuse_tree.specs.declared.rows.EntryRow.{EntryRow}
 use Rattle.fuse_tree.specs.declared.rows.HandleRow.{HandleRow}
 use Rattle.fuse_store_tables.specs.Content.{Content, Counter, Answer, Kept, HasRows, HoldsAs, stored}
 use Rattle.fuse_store_tables.specs.Blocks.{Block}
-use Rattle.fuse_store_tables.specs.Rows.{Spares}
+use Rattle.fuse_store_tables.specs.inner.Rows.{Spares}
 
 -- ---- the other tables
 

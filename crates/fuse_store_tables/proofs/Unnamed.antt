@@ -21,9 +21,12 @@ use Rattle.sqlite.specs.State.{State, HasCleanDisk, Survives, CommitsBy, Writes,
 use Rattle.sqlite.proofs.Callers.{IsPlain, command_of, statement_of}
 use Rattle.fuse_tree.specs.declared.rows.NodeRow.{NodeRow}
 use Rattle.fuse_store_tables.specs.Layout.{nodes, store_schema}
-use Rattle.fuse_store_tables.specs.Content.{Content, Holds, stored, node_row, node_columns, is_unnamed, without_unnamed}
-use Rattle.fuse_store_tables.specs.Clearing.{shown_number, counted_to, unnamed_numbers}
-use Rattle.fuse_store_tables.specs.Moves.{Inside, Makes, Ran}
+use Rattle.fuse_store_tables.specs.Content.{Content, Holds, stored, node_row, node_columns, is_unnamed}
+use Rattle.fuse_store_tables.specs.inner.Steps.{without_unnamed}
+use Rattle.fuse_store_tables.specs.Clearing.{counted_to, unnamed_numbers}
+use Rattle.fuse_store_tables.specs.inner.Columns.{shown_number}
+use Rattle.fuse_store_tables.specs.Moves.{Inside, Makes}
+use Rattle.fuse_store_tables.specs.inner.Performing.{Ran}
 use Rattle.fuse_store_tables.proofs.Writing.{makes}
 use Rattle.fuse_store_tables.proofs.Tables.{wrote, only_nodes}
 use Rattle.fuse_store_tables.proofs.Keyed.{row_cmp_nat}

@@ -25,7 +25,7 @@ use Rattle.sqlite.specs.Effect.{Answers}
 use Rattle.sqlite.specs.State.{State, Writes}
 use Rattle.fuse_store_tables.specs.Layout.{store_schema}
 use Rattle.fuse_store_tables.specs.Content.{has_by, at_by, set_by}
-use Rattle.fuse_store_tables.specs.Rows.{Spares}
+use Rattle.fuse_store_tables.specs.inner.Rows.{Spares}
 use Rattle.fuse_store_tables.proofs.Tables.{quiet}
 use Rattle.fuse_store_tables.proofs.RowLemmas.{uncounted, updated}
 use Rattle.fuse_store_tables.proofs.Reading.{plain_query, answered, only}

@@ -13,7 +13,8 @@ use Rattle.sqlite.specs.State.{State, HasCleanDisk, Survives, KeepsCommit, Execu
 use Rattle.sqlite.specs.Clock.{timed}
 use Rattle.sqlite.proofs.StateLemmas.{survives_weaker}
 use Rattle.sqlite.proofs.Callers.{IsPlain, command_of, statement_of, runs_as}
-use Rattle.fuse_store_tables.specs.Moves.{IsReady, StaysIn, Takes, Ran}
+use Rattle.fuse_store_tables.specs.Moves.{IsReady, StaysIn, Takes}
+use Rattle.fuse_store_tables.specs.inner.Performing.{Ran}
 use Rattle.fuse_store_tables.proofs.Control.{keeps_failed}
 
 abbrev pub writes : Command → Bool

@@ -1,23 +1,9 @@
 -- The content of the tables after the begin of a mount (own profile).
-use Rattle.std.specs.Prelude.{ℕ, pos, Bool, not, List, [], ◌∷◌, map, filter, length, min}
+use Rattle.std.specs.Prelude.{ℕ, Bool, not, List, [], map, filter, length, min}
 use Rattle.std.specs.List.{list_any}
 use Rattle.std.specs.Ordering.{is_eq, nat_cmp}
-use Rattle.sqlite.specs.declared.types.Value.{Value}
-use Rattle.sqlite.specs.declared.types.Value.TheVariants.{Int}
-use Rattle.sqlite.specs.Order.{Row, column}
 use Rattle.fuse_tree.specs.declared.rows.NodeRow.{NodeRow}
-use Rattle.fuse_store_tables.specs.Content.{Content, is_unnamed, set_counter, without_blocks_from, without_handles, without_lots, without_all_kept, without_unnamed}
-
-abbrev pub shown_number : ℕ → Row
-shown_number n = Int (pos n) ∷ []
-
-abbrev pub number_in : Value → ℕ
-number_in (Int (pos n)) = n
-number_in _ = 0
-
--- the number in the first column
-abbrev pub number_of : Row → ℕ
-number_of row = number_in (column row 0)
+use Rattle.fuse_store_tables.specs.Content.{Content, is_unnamed, set_counter}
 
 abbrev pub unnamed_numbers : List NodeRow → List ℕ
 unnamed_numbers nodes = map (λ n. n.node) (filter is_unnamed nodes)
@@ -31,13 +17,6 @@ has_unnamed nodes node = list_any (λ n. is_eq (nat_cmp node n)) (unnamed_number
 
 -- ---- the steps
 
-abbrev pub without_blocks_of : List ℕ → Content → Content
-without_blocks_of [] c = c
-without_blocks_of (node ∷ more) c = without_blocks_of more (without_blocks_from node 0 c)
-
-abbrev pub without_unnamed_blocks : Content → Content
-without_unnamed_blocks c = record c { blocks = filter (λ b. not (has_unnamed c.nodes b.node)) c.blocks }
-
 abbrev pub without_settings : Content → Content
 without_settings c = set_counter 10 0 (set_counter 9 0 (set_counter 8 0 (set_counter 7 0 c)))
 
@@ -47,18 +26,6 @@ reached n = min n 9223372036854775807
 
 abbrev pub counted_to : {X : Type 0} → List X → ℕ
 counted_to xs = reached (length xs)
-
-abbrev pub with_nodes_counted : Content → Content
-with_nodes_counted c = set_counter 5 (counted_to c.nodes) c
-
-abbrev pub without_records : Content → Content
-without_records c = without_lots (without_all_kept c)
-
-abbrev pub without_all_handles : Content → Content
-without_all_handles c = set_counter 6 0 (without_handles c)
-
-abbrev pub without_unnamed_nodes : Content → Content
-without_unnamed_nodes c = with_nodes_counted (without_unnamed (without_unnamed_blocks c))
 
 -- ---- all of them
 

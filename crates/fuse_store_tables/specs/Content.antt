@@ -61,9 +61,6 @@ node_columns n =
 abbrev pub node_row : NodeRow → Row
 node_row n = Int (pos n.node) ∷ Null ∷ node_columns n
 
-abbrev pub given_node : NodeRow → Row
-given_node n = Int (pos n.node) ∷ node_columns n
-
 -- the seconds of its times are of 64 bits
 pub record HasSeconds (n : NodeRow) : Type 0 where
   pub atime : n.atime.secs < 2 ^ 64
@@ -164,9 +161,6 @@ set_node n c = record c { nodes = set_by node_key n.node (renumbered n) c.nodes 
 abbrev pub is_unnamed : NodeRow → Bool
 is_unnamed n = is_eq (nat_cmp n.up 0) && is_gt (nat_cmp n.node 1)
 
-abbrev pub without_unnamed : Content → Content
-without_unnamed c = record c { nodes = filter (λ n. not (is_unnamed n)) c.nodes }
-
 abbrev pub with_entry : EntryRow → Content → Content
 with_entry e c = record c { entries = put_by cookie_of e c.entries }
 
@@ -179,26 +173,14 @@ with_handle h c = record c { handles = put_by fh_of h c.handles }
 abbrev pub without_handle : ℕ → Content → Content
 without_handle fh c = record c { handles = without_by fh_of fh c.handles }
 
-abbrev pub without_handles : Content → Content
-without_handles c = record c { handles = [] }
-
-abbrev pub without_answers : Content → Content
-without_answers c = record c { answers = [] }
-
 abbrev pub with_lot : ℕ → Content → Content
 with_lot lot c = record c { lots = put_by (λ n. n) lot c.lots }
-
-abbrev pub without_lots : Content → Content
-without_lots c = record c { lots = [] }
 
 abbrev pub with_kept : Kept → Content → Content
 with_kept k c = record c { kept = put_by kept_key k c.kept }
 
 abbrev pub without_kept : ℕ → Content → Content
 without_kept id c = record c { kept = without_by kept_key id c.kept }
-
-abbrev pub without_all_kept : Content → Content
-without_all_kept c = record c { kept = [] }
 
 abbrev pub with_counter : ℕ → ℕ → Content → Content
 with_counter key value c = record c { counters = put_by counter_key (record { key = key; value = value }) c.counters }

@@ -1,13 +1,7 @@
 -- The faults of a store, by what they say of its tables (own profile).
-use Rattle.std.specs.Prelude.{⊤, if◌then◌else◌}
-use Rattle.sqlite.specs.declared.error.Error.{Error}
+use Rattle.std.specs.Prelude.{⊤}
 use Rattle.fuse_keeper.specs.declared.fault.StoreFault.{StoreFault}
-use Rattle.fuse_keeper.specs.declared.fault.StoreFault.TheVariants.{Memory, Sql, NotAStore, Version, Damaged}
-use Rattle.fuse_keeper.specs.Faults.{is_memory}
-
--- the fault of a column that could not be read: damage, unless memory ran out
-abbrev pub misread_as : Error → StoreFault
-misread_as e = if is_memory e then Memory else Damaged
+use Rattle.fuse_keeper.specs.declared.fault.StoreFault.TheVariants.{Memory, Sql, NotAStore, Version}
 
 -- a fault that says nothing of the store: out of memory, or of SQL
 abbrev pub IsOutside : StoreFault → Type 0

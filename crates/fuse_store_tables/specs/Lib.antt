@@ -1,12 +1,10 @@
 pub mod Layout
 pub mod Blocks
 pub mod Content
-pub mod Rows
 pub mod Moves
-pub mod Following
-pub mod Transaction
 pub mod Faults
 pub mod Making
 pub mod Clearing
 pub mod Opening
 pub mod Saying
+pub mod inner

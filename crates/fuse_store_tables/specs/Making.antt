@@ -5,7 +5,7 @@ use Rattle.sqlite.specs.Effect.{Database}
 use Rattle.sqlite.specs.Schema.{Schema}
 use Rattle.fuse_wire.specs.declared.moment.Moment.{Moment}
 use Rattle.fuse_tree.specs.declared.rows.NodeRow.{NodeRow}
-use Rattle.fuse_store_tables.specs.Content.{Content, Counter, Holds, HoldsAs, with_node}
+use Rattle.fuse_store_tables.specs.Content.{Content, Counter, HoldsAs, with_node}
 use Rattle.fuse_store_tables.specs.Opening.{IsSecond}
 
 -- the tables of this schema, all empty
@@ -40,9 +40,6 @@ root now = record {
 
 abbrev pub new_store : Moment → Content
 new_store now = with_node (root now) counters_alone
-
-abbrev pub HasCounters : ⊤ → Database → Type 0
-HasCounters _ = Holds counters_alone
 
 abbrev pub IsNew : Moment → ⊤ → Database → Type 0
 IsNew now _ = IsSecond (new_store now)

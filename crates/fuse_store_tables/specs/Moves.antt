@@ -1,17 +1,10 @@
 -- The effect of a call on a store, by the state of the connection before and after it (own profile).
-use Rattle.std.specs.Prelude.{◌≡◌, ℕ, List, true, false, IsTrue, Result, Ok, Err, OnOk, OnErr, IfErr}
-use Rattle.sqlite.specs.Order.{Row}
+use Rattle.std.specs.Prelude.{◌≡◌, true, false, IsTrue, Result, OnOk, OnErr, IfErr}
 use Rattle.sqlite.specs.Effect.{Database}
-use Rattle.sqlite.specs.declared.error.Error.{Error}
-use Rattle.sqlite.specs.State.{State, HasCleanDisk, Survives, KeepsCommit, Executes}
+use Rattle.sqlite.specs.State.{State, HasCleanDisk, Survives, KeepsCommit}
 use Rattle.fuse_store_tables.specs.Content.{Content, Holds, LeftAs}
 use Rattle.fuse_keeper.specs.declared.fault.StoreFault.{StoreFault}
 use Rattle.fuse_store_tables.specs.Faults.{IsOutside}
-
--- the statement was run with these values
-abbrev pub Ran : List ℕ → Row → State → State → Result (Unit {0}) Error → Type 0
-Ran sql values old new (Ok _) = (changed : ℕ) × Executes sql values old new (Ok changed)
-Ran sql values old new (Err e) = Executes sql values old new (Err e)
 
 -- no transaction is open
 pub record RestsAs (P : Database → Type 0) (s : State) : Type 0 where
@@ -68,15 +61,6 @@ pub record Ends {X E : Type 0} (old new : State) (result : Result X E) : Type 0 
   pub kept : OnErr result (HasCleanDisk new → KeepsCommit old new)
   pub ended : OnOk result (HasCleanDisk new → IsTrue new.is_open × (new.in_transaction ≡ false) × (new.now ≡ old.now) × (new.committed ≡ new.now))
 
--- a call that is a whole transaction
-pub record PerformsAs {C X E : Type 0} (P Q : C → Database → Type 0) (old new : State) (result : Result X E) : Type 0 where
-  pub survives : Survives old new (λ db. (c : C) → RestsAs (P c) old → LeftAs (Q c) db)
-  pub kept : OnErr result (HasCleanDisk new → (c : C) → RestsAs (P c) old → KeepsCommit old new)
-  pub done : OnOk result (HasCleanDisk new → (c : C) → RestsAs (P c) old → RestsAs (Q c) new)
-
-abbrev pub Performs : {X E : Type 0} → (Content → Content) → State → State → Result X E → Type 0
-Performs f = PerformsAs Holds (λ c. Holds (f c))
-
 -- the transaction, if one is open, is rolled back
 pub record Undoes (old new : State) : Type 0 where
   pub survives : Survives old new (λ _. ⊥)
@@ -101,10 +85,6 @@ pub record Looked (old new : State) : Type 0 where
 pub record StaysOpen {X E : Type 0} (old new : State) (result : Result X E) : Type 0 where
   pub was : HasCleanDisk new → IsTrue new.is_open → IsTrue old.is_open
   pub still : OnOk result (HasCleanDisk new → IsTrue old.is_open → IsTrue new.is_open)
-
--- of a call that began with one of these databases, a fault says nothing of the store
-abbrev pub IsSure : {C X : Type 0} → (C → Database → Type 0) → State → State → Result X StoreFault → Type 0
-IsSure P old new r = HasCleanDisk new → IfErr r (λ f. IsReady P old → IsOutside f)
 
 -- the same of a whole transaction
 abbrev pub IsSafe : {C X : Type 0} → (C → Database → Type 0) → State → State → Result X StoreFault → Type 0

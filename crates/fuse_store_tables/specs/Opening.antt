@@ -1,16 +1,11 @@
 -- A store before and after its opening (own profile).
-use Rattle.std.specs.Prelude.{◌≡◌, ◌≤◌, ◌⊎◌, ◌<◌, ◌^◌, ◌+◌, ℕ, zero, suc, pos, List, [], ◌∷◌, map, fold, length, if◌then◌else◌}
-use Rattle.std.specs.Prelude.{nat_lt, ⊤, Result, OnOk}
+use Rattle.std.specs.Prelude.{◌≡◌, ◌≤◌, ◌⊎◌, ◌<◌, ◌^◌, ◌+◌, ℕ, zero, suc, List, [], ◌∷◌, map, length, if◌then◌else◌}
+use Rattle.std.specs.Prelude.{nat_lt, ⊤}
 use Rattle.std.specs.List.{AllByRecursion}
 use Rattle.std.specs.Ordering.{is_eq, nat_cmp}
-use Rattle.sqlite.specs.declared.types.Value.TheVariants.{Int}
-use Rattle.sqlite.specs.Order.{Row}
 use Rattle.sqlite.specs.Effect.{Database}
-use Rattle.fuse_store_tables.specs.Layout.{with_answers, with_lots, with_kept}
-use Rattle.sqlite.specs.State.{State, HasCleanDisk}
-use Rattle.fuse_store_tables.specs.Content.{Content, Counter, Answer, Kept, HoldsAs, Holds, stored, put_by, kept_key, value_at, set_counter, with_counter}
-use Rattle.fuse_store_tables.specs.Content.{with_lot, without_answers}
-use Rattle.fuse_store_tables.specs.Moves.{InsideAs}
+use Rattle.fuse_store_tables.specs.Layout.{with_answers}
+use Rattle.fuse_store_tables.specs.Content.{Content, Counter, Answer, Kept, HoldsAs, Holds, stored, value_at, set_counter, with_counter}
 
 -- ---- the rows of `meta`
 
@@ -32,9 +27,6 @@ IsMetaFrom key (suc n) (c ∷ cs) = (c.key ≡ key) × (c.value ≤ most c.key) 
 
 abbrev pub IsMeta : ℕ → Content → Type 0
 IsMeta n c = IsMetaFrom 1 n c.counters
-
-abbrev pub shown_meta : Counter → Row
-shown_meta c = Int (pos c.key) ∷ Int (pos c.value) ∷ []
 
 -- ---- the two versions
 
@@ -75,37 +67,14 @@ IsLaid c d = HoldsAs with_answers (stored c) d ⊎ Holds c d
 abbrev pub HasMeta : Content → Type 0
 HasMeta c = ((value_at 1 c ≡ 1) × IsMeta 10 c) ⊎ ((value_at 1 c ≡ 2) × IsMeta 11 c)
 
--- where the opening succeeds, the rows of `meta` are those of one of the versions
-abbrev pub Tests : {X E : Type 0} → (Content → Type 0) → State → State → Result X E → Type 0
-Tests P old new r = HasCleanDisk new → OnOk r ((c : Content) → InsideAs (IsLaid c) old → P c)
-
 -- ---- the migration
 
 -- a record of version 1, under a lot
 abbrev pub under : ℕ → Answer → Kept
 under lot a = record { id = a.id; lot = lot; said = a.said }
 
-abbrev pub with_copies : Content → Content
-with_copies c = record c { kept = fold (λ all k. put_by kept_key k all) c.kept (map (under 0) c.answers) }
-
-abbrev pub moved : Content → Content
-moved c = without_answers (with_copies (with_lot 0 c))
-
 abbrev pub marked : Content → Content
 marked c = set_counter 1 2 (with_counter 11 1 c)
-
--- the tables of version 1, and then those of version 2 one after the other, before they are refilled
-pub record HasLots (c : Content) (d : Database) : Type 0 where
-  pub holds : HoldsAs with_lots (stored c) d
-  pub old : IsOld c
-
-pub record HasKept (c : Content) (d : Database) : Type 0 where
-  pub holds : HoldsAs with_kept (stored c) d
-  pub old : IsOld c
-
-pub record HasTables (c : Content) (d : Database) : Type 0 where
-  pub holds : Holds c d
-  pub old : IsOld c
 
 -- the records are under lot 0, and the next lot is 1
 abbrev pub migrated : Content → Content

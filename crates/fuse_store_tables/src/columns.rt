@@ -6,9 +6,10 @@ ghost use Rattle.sqlite.specs.Order.{column};
 ghost use Rattle.fuse_wire.specs.declared.moment.Moment.{Moment as Time};
 ghost use Rattle.fuse_tree.specs.declared.rows.NodeRow.{NodeRow as Node};
 ghost use Rattle.fuse_keeper.specs.Faults.{is_memory};
-ghost use Rattle.fuse_store_tables.specs.Faults.{misread_as, IsOutside, IsPlain};
+ghost use Rattle.fuse_store_tables.specs.Faults.{IsOutside, IsPlain};
+ghost use Rattle.fuse_store_tables.specs.inner.Columns.{misread_as, shown_number};
 ghost use Rattle.fuse_store_tables.specs.Content.{node_columns, HasSeconds};
-ghost use Rattle.fuse_store_tables.specs.Clearing.{shown_number, reached};
+ghost use Rattle.fuse_store_tables.specs.Clearing.{reached};
 
 use fuse_keeper::StoreFault;
 use fuse_tree::NodeRow;

@@ -6,8 +6,10 @@ ghost use Rattle.fuse_store_tables.specs.Faults.{IsPlain};
 ghost use Rattle.fuse_store_tables.specs.Layout.{no_schema, with_meta, with_nodes, with_entries};
 ghost use Rattle.fuse_store_tables.specs.Layout.{with_blocks, with_handles, with_answers, with_lots};
 ghost use Rattle.fuse_store_tables.specs.Layout.{with_kept, store_schema};
-ghost use Rattle.fuse_store_tables.specs.Making.{IsBare, HasCounters, IsNew};
-ghost use Rattle.fuse_store_tables.specs.Moves.{Takes, PerformsAs, ServesAs, IsSafe};
+ghost use Rattle.fuse_store_tables.specs.Making.{IsBare, IsNew};
+ghost use Rattle.fuse_store_tables.specs.inner.Steps.{HasCounters};
+ghost use Rattle.fuse_store_tables.specs.Moves.{Takes, ServesAs, IsSafe};
+ghost use Rattle.fuse_store_tables.specs.inner.Performing.{PerformsAs};
 
 use crate::nodes::insert_node;
 use crate::statements::{begin, commit, run, undo};

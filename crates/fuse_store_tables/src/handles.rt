@@ -8,7 +8,8 @@ ghost use Rattle.sqlite.specs.Values.{bound};
 ghost use Rattle.fuse_tree.specs.Columns.{FitsHandle};
 ghost use Rattle.fuse_store_tables.specs.Moves.{Inside, Makes, Looked, Stays};
 ghost use Rattle.fuse_store_tables.specs.Content.{Content, access_code, fh_of, at_by, with_handle};
-ghost use Rattle.fuse_store_tables.specs.Content.{without_handle, without_handles, shown_handle};
+ghost use Rattle.fuse_store_tables.specs.Content.{without_handle, shown_handle};
+ghost use Rattle.fuse_store_tables.specs.inner.Steps.{without_handles};
 
 use crate::statements::run;
 use crate::values::number;

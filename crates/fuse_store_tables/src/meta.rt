@@ -8,9 +8,11 @@ ghost use Rattle.fuse_store_tables.specs.Content.{Content, Counter, shown_counte
 ghost use Rattle.fuse_store_tables.specs.Content.{value_at};
 ghost use Rattle.fuse_store_tables.specs.Faults.{IsOutside, IsPlain};
 ghost use Rattle.fuse_store_tables.specs.Saying.{ShowsVersion, HasFirst, ReportsVersion, Says};
-ghost use Rattle.fuse_store_tables.specs.Moves.{InsideAs, Takes, IsSure};
-ghost use Rattle.fuse_store_tables.specs.Opening.{IsStored, IsLaid, IsMetaFrom, IsMeta, Tests, most};
-ghost use Rattle.fuse_store_tables.specs.Opening.{shown_meta};
+ghost use Rattle.fuse_store_tables.specs.Moves.{InsideAs, Takes};
+ghost use Rattle.fuse_store_tables.specs.inner.Performing.{IsSure};
+ghost use Rattle.fuse_store_tables.specs.Opening.{IsStored, IsLaid, IsMetaFrom, IsMeta, most};
+ghost use Rattle.fuse_store_tables.specs.inner.Steps.{Tests};
+ghost use Rattle.fuse_store_tables.specs.inner.Columns.{shown_meta};
 
 use crate::columns::number_at;
 use fuse_keeper::StoreFault;

@@ -1,7 +1,8 @@
 // The migration of a store from version 1 to version 2.
 ghost use Rattle.sqlite.specs.Held.{state};
 ghost use Rattle.fuse_store_tables.specs.Moves.{Takes, Makes};
-ghost use Rattle.fuse_store_tables.specs.Opening.{IsFirst, HasLots, HasKept, HasTables, IsOpened, moved};
+ghost use Rattle.fuse_store_tables.specs.Opening.{IsFirst, IsOpened};
+ghost use Rattle.fuse_store_tables.specs.inner.Steps.{HasLots, HasKept, HasTables, moved};
 ghost use Rattle.fuse_store_tables.specs.Opening.{marked};
 
 use crate::counters::{NEXT_LOT, VERSION, insert_counter, update_counter};

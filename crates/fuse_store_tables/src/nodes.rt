@@ -5,10 +5,13 @@ ghost use Rattle.sqlite.specs.State.{HasCleanDisk};
 ghost use Rattle.sqlite.specs.Held.{state};
 ghost use Rattle.sqlite.specs.Values.{bound};
 ghost use Rattle.fuse_tree.specs.Columns.{FitsNode};
-ghost use Rattle.fuse_store_tables.specs.Moves.{Inside, Makes, Looked, Stays, IsSure};
-ghost use Rattle.fuse_store_tables.specs.Content.{Content, Holds, given_node, node_columns, node_key};
-ghost use Rattle.fuse_store_tables.specs.Content.{at_by, with_node, set_node, without_unnamed};
-ghost use Rattle.fuse_store_tables.specs.Clearing.{shown_number, counted_to, unnamed_numbers};
+ghost use Rattle.fuse_store_tables.specs.Moves.{Inside, Makes, Looked, Stays};
+ghost use Rattle.fuse_store_tables.specs.inner.Performing.{IsSure};
+ghost use Rattle.fuse_store_tables.specs.Content.{Content, Holds, node_columns, node_key};
+ghost use Rattle.fuse_store_tables.specs.inner.Columns.{given_node, shown_number};
+ghost use Rattle.fuse_store_tables.specs.Content.{at_by, with_node, set_node};
+ghost use Rattle.fuse_store_tables.specs.inner.Steps.{without_unnamed};
+ghost use Rattle.fuse_store_tables.specs.Clearing.{counted_to, unnamed_numbers};
 ghost use Rattle.fuse_store_tables.specs.Faults.{IsPlain};
 
 use crate::columns::the_number;

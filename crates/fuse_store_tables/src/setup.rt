@@ -5,9 +5,11 @@ ghost use Rattle.sqlite.specs.Held.{state};
 ghost use Rattle.fuse_store_tables.specs.Faults.{IsPlain};
 ghost use Rattle.fuse_store_tables.specs.Saying.{Says, IsTabled};
 ghost use Rattle.fuse_store_tables.specs.Content.{Content};
-ghost use Rattle.fuse_store_tables.specs.Moves.{RestsAs, Takes, PerformsAs, ServesAs, IsSure, IsSafe};
+ghost use Rattle.fuse_store_tables.specs.Moves.{RestsAs, Takes, ServesAs, IsSafe};
+ghost use Rattle.fuse_store_tables.specs.inner.Performing.{PerformsAs, IsSure};
 ghost use Rattle.fuse_store_tables.specs.Opening.{IsStored, IsFirst, IsSecond, IsOpened, IsLaid};
-ghost use Rattle.fuse_store_tables.specs.Opening.{IsMeta, HasMeta, Tests};
+ghost use Rattle.fuse_store_tables.specs.Opening.{IsMeta, HasMeta};
+ghost use Rattle.fuse_store_tables.specs.inner.Steps.{Tests};
 
 use crate::meta::{check_meta, find_version};
 use crate::migration::migrate;

@@ -2,7 +2,8 @@
 ghost use Rattle.sqlite.specs.State.{HasCleanDisk, Survives, CommitsBy};
 ghost use Rattle.sqlite.specs.Held.{state};
 ghost use Rattle.sqlite.specs.Values.{bound};
-ghost use Rattle.fuse_store_tables.specs.Moves.{Begins, Ends, Ran, Undoes};
+ghost use Rattle.fuse_store_tables.specs.Moves.{Begins, Ends, Undoes};
+ghost use Rattle.fuse_store_tables.specs.inner.Performing.{Ran};
 
 use sqlite::types::ValueRef;
 use sqlite::{Alter, Connection, Error};

@@ -11,7 +11,8 @@ use Rattle.fuse_store_tree.specs.Store.{byte_at, bytes_of, byte_in}
 use Rattle.std.proofs.lemmas.List.{get_or-take, get_or-drop}
 use Rattle.std.proofs.Math.ListN.{get_or-append}
 use Rattle.std.proofs.Math.Seq.{get_or-append_right}
-use Rattle.fuse_store_tree.specs.Store.{whole_of, overlay, spliced}
+use Rattle.fuse_store_tree.specs.inner.Reading.{whole_of}
+use Rattle.fuse_store_tree.specs.inner.Writing.{overlay, spliced}
 use Rattle.fuse_store_tree.proofs.Ranges.{whole_byte}
 use Rattle.fuse_store_tree.proofs.Described.{Rises, put_last, same_test, grouped}
 

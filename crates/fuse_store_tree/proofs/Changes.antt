@@ -5,15 +5,16 @@ use Rattle.fuse_tree.specs.Rows.{rowed, apply, apply_one, Rows}
 use Rattle.fuse_tree.specs.Done.{Done}
 use Rattle.fuse_tree.specs.Plan.{Meets}
 use Rattle.fuse_tree.specs.declared.rows.Planned.{Planned}
-use Rattle.fuse_store_tree.specs.Acting.{ActsInside}
+use Rattle.fuse_store_tree.specs.inner.Acting.{ActsInside}
 use Rattle.fuse_store_tree.specs.Looking.{sees_in}
-use Rattle.fuse_store_tree.specs.Store.{with_changes, Store, Held, with_change}
+use Rattle.fuse_store_tree.specs.Store.{Store, Held}
+use Rattle.fuse_store_tree.specs.inner.Writing.{with_changes, with_change}
 use Rattle.fuse_tree.specs.declared.rows.Change.{Change}
-use Rattle.fuse_store_tree.specs.Laws.{looked_still}
+use Rattle.fuse_store_tree.specs.inner.Laws.{looked_still}
 use Rattle.sqlite.specs.State.{State, HasCleanDisk}
 use Rattle.fuse_store_tables.specs.Moves.{InsideAs, Looked}
-use Rattle.fuse_store_tree.specs.Changing.{Changed, Keeps}
-use Rattle.fuse_store_tables.specs.Following.{earlier}
+use Rattle.fuse_store_tree.specs.inner.Changing.{Changed, Keeps}
+use Rattle.fuse_store_tables.specs.inner.Following.{earlier}
 use Rattle.fuse_store_tree.proofs.Described.{inside_of}
 use Rattle.fuse_store_tree.proofs.Steps.{keeps_of, keeps_then}
 

@@ -14,10 +14,12 @@ use Rattle.fuse_tree.specs.declared.rows.Change.TheVariants as changes
 use Rattle.fuse_store_tables.specs.Blocks.{Block, block_at, is_at, is_from}
 use Rattle.fuse_store_tables.specs.Content.{Content, without_blocks_from, node_key}
 use Rattle.fuse_store_tables.specs.Moves.{Makes}
-use Rattle.fuse_store_tables.specs.Following.{earlier}
+use Rattle.fuse_store_tables.specs.inner.Following.{earlier}
 use Rattle.fuse_store_tree.specs.Fits.{IsWhole}
-use Rattle.fuse_store_tree.specs.Store.{Store, Describes, DescribesAs, byte_at, bytes_of, byte_in, cut, overlay, rows_bytes, in_order, with_change}
-use Rattle.fuse_store_tree.specs.Changing.{Changed, Cut, Overlaid, KeepsBytes}
+use Rattle.fuse_store_tree.specs.Store.{Store, DescribesAs, byte_at, bytes_of, byte_in, rows_bytes, in_order}
+use Rattle.fuse_store_tree.specs.inner.Reading.{Describes}
+use Rattle.fuse_store_tree.specs.inner.Writing.{cut, overlay, with_change}
+use Rattle.fuse_store_tree.specs.inner.Changing.{Changed, Cut, Overlaid, KeepsBytes}
 use Rattle.fuse_store_tree.proofs.Orders.{all_filter}
 use Rattle.fuse_store_tree.proofs.BlockBytes.{lower, upper, others_left}
 use Rattle.fuse_store_tree.proofs.Overlays.{byte_sized, sized_length, zero_at, beyond, low_test, high_test}

@@ -13,13 +13,14 @@ use Rattle.fuse_tree.specs.declared.rows.HandleRow.{HandleRow}
 use Rattle.fuse_tree.specs.State.{State, Node, IsNode, Apart, AreApart, is_entry}
 use Rattle.std.proofs.Common.{◌≤◌, ◌+◌, ◌-◌, inl, inr, length, min, drop, IfSome}
 use Rattle.fuse_tree.specs.Bounds.{file_limit}
-use Rattle.fuse_store_tree.specs.Store.{byte_at, byte_in, range_of, bytes_told}
+use Rattle.fuse_store_tree.specs.Store.{byte_at, byte_in}
+use Rattle.fuse_store_tree.specs.inner.Reading.{range_of, bytes_told, Describes}
 use Rattle.fuse_store_tree.proofs.Ranges.{range_same, part_is, take_least, none_behind}
 use Rattle.fuse_tree.specs.Rows.{full_at, content_of, bytes_at, Rows, IsRowed, rowed, full_of, row_at, entry_at, entries_after, handle_at, is_after}
 use Rattle.fuse_store_tables.specs.Content.{Content, put_by, at_by, node_key, cookie_of, fh_of, has_name, stands_after}
 use Rattle.sqlite.specs.State.{State as Connected}
 use Rattle.fuse_store_tables.specs.Moves.{Inside, InsideAs}
-use Rattle.fuse_store_tree.specs.Store.{Store, Describes, Held, in_order}
+use Rattle.fuse_store_tree.specs.Store.{Store, Held, in_order}
 
 -- ---- lists that rise
 

@@ -7,8 +7,9 @@ use Rattle.fuse_request.specs.declared.request.Request.{Request}
 use Rattle.fuse_keeper.specs.History.{Entry}
 use Rattle.fuse_keeper.specs.Group.{entry_of, entries_of}
 use Rattle.fuse_keeper.specs.declared.keeper.Done.{Done}
-use Rattle.fuse_store_tables.specs.Following.{earlier}
-use Rattle.fuse_store_tree.specs.Holding.{Holding, InsideFor, KeepsFor, Turned}
+use Rattle.fuse_store_tables.specs.inner.Following.{earlier}
+use Rattle.fuse_store_tree.specs.Holding.{Holding}
+use Rattle.fuse_store_tree.specs.inner.Changing.{InsideFor, KeepsFor, Turned}
 use Rattle.fuse_store_tree.specs.Group.{without_record, without_settled, lot_for, taken, with_group, dones_of, prepared, performed, all_dones, HasLotLeft}
 use Rattle.fuse_store_tree.proofs.Turning.{turned_then, turned_same, turned_known}
 

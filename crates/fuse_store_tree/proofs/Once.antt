@@ -13,7 +13,8 @@ use Rattle.fuse_tree.specs.Bounds.{file_limit}
 use Rattle.fuse_tree.specs.Rows.{Rows, IsRowed, rowed, content_of}
 use Rattle.fuse_tree.specs.Plan.{RowsTellState}
 use Rattle.fuse_store_tables.specs.Content.{Content, node_key, cookie_of, fh_of}
-use Rattle.fuse_store_tree.specs.Store.{counters_of, counted_in, agreed_in, value_of, byte_at, byte_in}
+use Rattle.fuse_store_tree.specs.Store.{counters_of, byte_at, byte_in}
+use Rattle.fuse_store_tree.specs.inner.Reading.{counted_in, agreed_in, value_of}
 use Rattle.fuse_store_tree.proofs.Described.{Rises, order_kept, rows_rise, rows_full}
 use Rattle.fuse_store_tree.specs.Holding.{Holding, HeldFor, TreesAreInOrder}
 use Rattle.fuse_store_tree.proofs.Decoding.{same_counters, same_nodes, same_entries, same_handles, same_blocks, same_lots, same_kept}

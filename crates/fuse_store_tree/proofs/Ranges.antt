@@ -7,7 +7,8 @@ use Rattle.std.proofs.Common.{map, min}
 use Rattle.std.proofs.lemmas.Bool.Decides.{leb_tells}
 use Rattle.sqlite.specs.Order.{Row}
 use Rattle.fuse_store_tables.specs.Blocks.{Block, block_at, shown_block}
-use Rattle.fuse_store_tree.specs.Store.{byte_at, bytes_of, byte_in, range_of, whole_of}
+use Rattle.fuse_store_tree.specs.Store.{byte_at, bytes_of, byte_in}
+use Rattle.fuse_store_tree.specs.inner.Reading.{range_of, whole_of}
 
 pub range_same : (f g : ℕ → ℕ) (a b n : ℕ) → ((j : ℕ) → j < n → f (a + j) ≡ g (b + j)) → range_of f a n ≡ range_of g b n
 range_same f g a b zero same = refl

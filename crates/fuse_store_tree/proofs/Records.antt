@@ -13,16 +13,17 @@ use Rattle.fuse_keeper.specs.Group.{ids_of}
 use Rattle.fuse_keeper.specs.declared.keeper.Done.{Done}
 use Rattle.fuse_store_tables.specs.Content.{Content, Kept, kept_key, put_by, without_by, with_kept, without_kept, with_lot, set_counter}
 use Rattle.fuse_store_tables.specs.Moves.{Makes, Inside, Looked}
-use Rattle.fuse_store_tables.specs.Following.{earlier}
+use Rattle.fuse_store_tables.specs.inner.Following.{earlier}
 use Rattle.fuse_store_tree.specs.Fits.{Fits, KeepsRecord}
-use Rattle.fuse_store_tree.specs.Store.{Store, Describes, records_of, counters_of, value_of}
-use Rattle.fuse_store_tree.specs.Acting.{ActsInside}
-use Rattle.fuse_store_tree.specs.Changing.{Keeps}
-use Rattle.fuse_store_tree.specs.Laws.{looked_still}
+use Rattle.fuse_store_tree.specs.Store.{Store, records_of, counters_of}
+use Rattle.fuse_store_tree.specs.inner.Reading.{Describes, value_of}
+use Rattle.fuse_store_tree.specs.inner.Acting.{ActsInside}
+use Rattle.fuse_store_tree.specs.inner.Changing.{Keeps, InsideFor, Turned}
+use Rattle.fuse_store_tree.specs.inner.Laws.{looked_still}
 use Rattle.fuse_store_tree.proofs.Steps.{made, made_known}
 use Rattle.fuse_store_tree.proofs.Looks.{key_differs, all_map}
 use Rattle.fuse_store_tree.proofs.Orders.{all_put, all_filter}
-use Rattle.fuse_store_tree.specs.Holding.{Holding, InsideFor, Turned, AreBelow, store_of}
+use Rattle.fuse_store_tree.specs.Holding.{Holding, AreBelow, store_of}
 use Rattle.fuse_store_tree.specs.Group.{without_record, without_settled, with_record, with_new_lot, with_act, said_of, acted_on, taken, taken_by, answered}
 use Rattle.fuse_store_tree.specs.Group.{repeats}
 use Rattle.fuse_store_tree.proofs.Turning.{lifted, looked_for, turned_known, turned_then, turned_same, keeps_for, told_in, content_in}

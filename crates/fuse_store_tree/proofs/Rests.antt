@@ -9,7 +9,7 @@ use Rattle.fuse_keeper.specs.declared.fault.StoreFault.{StoreFault}
 use Rattle.fuse_tree.specs.Rows.{rowed}
 use Rattle.fuse_store_tables.specs.Content.{Content, Kept, Counter, Holds, kept_key, at_by, shown_counter}
 use Rattle.fuse_store_tables.specs.Moves.{Rests, RestsAs, Serves, ServesAs, IsSafe}
-use Rattle.fuse_store_tables.specs.Following.{rests_less, rests_also, rests_told, rests_failed, safe_also}
+use Rattle.fuse_store_tables.specs.inner.Following.{rests_less, rests_also, rests_told, rests_failed, safe_also}
 use Rattle.fuse_store_tree.specs.Fits.{KeepsRecord}
 use Rattle.fuse_store_tree.specs.Store.{records_of, counters_of}
 use Rattle.fuse_store_tree.specs.Holding.{Holding, HeldFor, ReportsAfter}

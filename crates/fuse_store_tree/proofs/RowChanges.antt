@@ -16,7 +16,9 @@ use Rattle.fuse_store_tables.specs.Content.{at_by, node_key, with_node, set_node
 use Rattle.fuse_store_tables.specs.Content.{without_by, cookie_of, fh_of, with_entry, with_entry_gone, with_handle, without_handle, set_counter}
 use Rattle.fuse_store_tree.specs.Fits.{KeepsNode}
 use Rattle.fuse_tree.specs.Columns.{FitsEntry, FitsHandle}
-use Rattle.fuse_store_tree.specs.Store.{Store, Describes, with_change, in_order, byte_at, FitsSettings}
+use Rattle.fuse_store_tree.specs.Store.{Store, in_order, byte_at, FitsSettings}
+use Rattle.fuse_store_tree.specs.inner.Reading.{Describes}
+use Rattle.fuse_store_tree.specs.inner.Writing.{with_change}
 use Rattle.fuse_store_tree.proofs.Described.{Rises, same_test, filter_same}
 use Rattle.fuse_store_tree.proofs.Orders.{all_put, all_filter, one_more, one_gone, one_replaced, repl, rises_in_order, set_is_put}
 

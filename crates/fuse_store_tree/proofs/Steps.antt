@@ -1,13 +1,14 @@
 -- A statement, or several, as a step on a store.
 use Rattle.std.proofs.Common.{ℕ, Ok, Err, Result, OnOk, OnErr}
-use Rattle.fuse_store_tree.specs.Store.{HeldAs, rows_bytes, Store, Describes, Held}
+use Rattle.fuse_store_tree.specs.Store.{HeldAs, rows_bytes, Store, Held}
+use Rattle.fuse_store_tree.specs.inner.Reading.{Describes}
 use Rattle.sqlite.specs.State.{State, HasCleanDisk}
 use Rattle.sqlite.specs.declared.error.Error.{Error}
 use Rattle.fuse_store_tables.specs.Content.{Content, Holds}
 use Rattle.fuse_store_tables.specs.Moves.{Inside, InsideAs, IsReady, Makes, Looked, Stays}
-use Rattle.fuse_store_tree.specs.Changing.{Changed, Keeps, KeepsBytes}
+use Rattle.fuse_store_tree.specs.inner.Changing.{Changed, Keeps, KeepsBytes}
 use Rattle.sqlite.proofs.StateLemmas.{survives_weaker}
-use Rattle.fuse_store_tables.specs.Following.{earlier, stays_then}
+use Rattle.fuse_store_tables.specs.inner.Following.{earlier, stays_then}
 use Rattle.fuse_store_tree.proofs.Described.{inside_of}
 
 ready_of : (a : State) → IsReady HeldAs a → IsReady Holds a

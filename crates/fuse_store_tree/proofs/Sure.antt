@@ -13,13 +13,16 @@ use Rattle.fuse_tree.specs.declared.planning.fault.PlanFault.{PlanFault}
 use Rattle.fuse_tree.specs.declared.planning.fault.PlanFault.TheVariants as plans
 use Rattle.fuse_store_tables.specs.Faults.{IsOutside, IsPlain}
 use Rattle.fuse_store_tables.specs.Content.{Content}
-use Rattle.fuse_store_tables.specs.Moves.{Inside, IsReady, IsSure, Stays, StaysIn}
-use Rattle.fuse_store_tables.specs.Following.{earlier}
+use Rattle.fuse_store_tables.specs.Moves.{Inside, IsReady, Stays, StaysIn}
+use Rattle.fuse_store_tables.specs.inner.Performing.{IsSure}
+use Rattle.fuse_store_tables.specs.inner.Following.{earlier}
 use Rattle.fuse_store_tree.specs.Fits.{Fits}
 use Rattle.fuse_store_tree.specs.Store.{Held, HeldAs, rows_bytes}
-use Rattle.fuse_store_tree.specs.Looking.{look_fault, sees_in, why_no_plan, MayFail}
-use Rattle.fuse_store_tree.specs.Holding.{Holding, HeldFor, InsideFor, KeepsFor, Turned, store_of}
-use Rattle.fuse_store_tree.specs.Group.{HasLotLeft, IsSureFor}
+use Rattle.fuse_store_tree.specs.Looking.{look_fault, sees_in, MayFail}
+use Rattle.fuse_store_tree.specs.inner.Acting.{why_no_plan}
+use Rattle.fuse_store_tree.specs.Holding.{Holding, HeldFor, store_of}
+use Rattle.fuse_store_tree.specs.inner.Changing.{InsideFor, KeepsFor, Turned, IsSureFor}
+use Rattle.fuse_store_tree.specs.Group.{HasLotLeft}
 use Rattle.fuse_store_tree.proofs.Turning.{told_in}
 
 -- a fault after a step: it begins with what the step makes

@@ -4,11 +4,11 @@ use Rattle.sqlite.specs.State.{State, HasCleanDisk}
 use Rattle.sqlite.proofs.StateLemmas.{survives_weaker}
 use Rattle.fuse_tree.specs.State.{Tree}
 use Rattle.fuse_store_tables.specs.Moves.{Inside, InsideAs, IsReady, Looked, Stays}
-use Rattle.fuse_store_tables.specs.Following.{earlier, stays_then}
+use Rattle.fuse_store_tables.specs.inner.Following.{earlier, stays_then}
 use Rattle.fuse_store_tree.specs.Store.{Store, Held}
-use Rattle.fuse_store_tree.specs.Changing.{Changed, Keeps}
+use Rattle.fuse_store_tree.specs.inner.Changing.{Changed, Keeps, InsideFor, KeepsFor, Turned}
 use Rattle.fuse_store_tree.proofs.Steps.{keeps_of}
-use Rattle.fuse_store_tree.specs.Holding.{Holding, HeldFor, InsideFor, KeepsFor, Turned, AreBelow, store_of}
+use Rattle.fuse_store_tree.specs.Holding.{Holding, HeldFor, AreBelow, store_of}
 
 pub told_in : (y : Holding) (a : State) → InsideFor y a → InsideAs (Held (store_of y)) a
 told_in y a at = record { is_open = at.is_open; in_transaction = at.in_transaction; holds = at.holds.held }

@@ -4,8 +4,9 @@ use Rattle.sqlite.specs.State.{State, HasCleanDisk}
 use Rattle.sqlite.specs.declared.error.Error.{Error}
 use Rattle.fuse_keeper.specs.declared.fault.StoreFault.{StoreFault}
 use Rattle.fuse_store_tables.specs.Moves.{RestsAs, Begins, Ends, Takes}
-use Rattle.fuse_store_tables.specs.Following.{earlier}
-use Rattle.fuse_store_tree.specs.Holding.{Holding, HeldFor, InsideFor, KeepsFor, Turned, ReportsAfter}
+use Rattle.fuse_store_tables.specs.inner.Following.{earlier}
+use Rattle.fuse_store_tree.specs.Holding.{Holding, HeldFor, ReportsAfter}
+use Rattle.fuse_store_tree.specs.inner.Changing.{InsideFor, KeepsFor, Turned}
 
 -- what was held before the transaction, when it has begun
 pub begun_for : {X : Type 0} (a b : State) (x : X) → Begins {E = Error} a b (Ok x) → HasCleanDisk b → (y : Holding) → RestsAs (HeldFor y) a → InsideFor y b

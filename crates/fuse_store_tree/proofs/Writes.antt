@@ -8,16 +8,18 @@ use Rattle.fuse_tree.specs.Bounds.{block_bytes}
 use Rattle.fuse_store_tables.specs.Blocks.{Block, block_at, is_at, new_block}
 use Rattle.fuse_store_tree.specs.Fits.{IsWhole, Fits}
 use Rattle.fuse_store_tables.specs.Content.{put_block, node_key, has_by, Content, Holds}
-use Rattle.fuse_store_tree.specs.Store.{overlay, spliced, whole_of, byte_in, bytes_of, rows_bytes}
-use Rattle.fuse_store_tree.specs.Store.{Store, Describes, DescribesAs, with_change, in_order, byte_at}
-use Rattle.fuse_store_tree.specs.Changing.{Overlaid, Changed, KeepsBytes}
+use Rattle.fuse_store_tree.specs.Store.{byte_in, bytes_of, rows_bytes}
+use Rattle.fuse_store_tree.specs.inner.Writing.{overlay, spliced, with_change}
+use Rattle.fuse_store_tree.specs.inner.Reading.{whole_of, Describes}
+use Rattle.fuse_store_tree.specs.Store.{Store, DescribesAs, in_order, byte_at}
+use Rattle.fuse_store_tree.specs.inner.Changing.{Overlaid, Changed, KeepsBytes}
 use Rattle.fuse_store_tree.proofs.Keys.{slots_rise}
 use Rattle.fuse_store_tree.proofs.BlockBytes.{part_put}
 use Rattle.fuse_store_tree.proofs.Overlays.{overlay_none, overlay_more, byte_written}
 use Rattle.fuse_store_tree.proofs.Looks.{key_is, both_are}
 use Rattle.fuse_store_tree.proofs.Parents.{blocks_owned}
 use Rattle.fuse_tree.specs.Rows.{at_node, written, content_of, full_at}
-use Rattle.fuse_store_tree.specs.Laws.{looked_still}
+use Rattle.fuse_store_tree.specs.inner.Laws.{looked_still}
 use Rattle.fuse_store_tree.proofs.Ranges.{drop_length}
 use Rattle.sqlite.specs.Effect.{Database}
 use Rattle.std.proofs.lemmas.Bool.{cases_Bool}
@@ -28,7 +30,7 @@ use Rattle.sqlite.specs.State.{State, HasCleanDisk}
 use Rattle.sqlite.specs.declared.error.Error.{Error}
 use Rattle.fuse_tree.specs.declared.rows.Change.TheVariants as changes
 use Rattle.fuse_store_tables.specs.Moves.{Inside, Makes, Looked}
-use Rattle.fuse_store_tables.specs.Following.{earlier}
+use Rattle.fuse_store_tables.specs.inner.Following.{earlier}
 use Rattle.fuse_store_tree.proofs.Described.{Rises, same_test}
 use Rattle.fuse_store_tree.proofs.Orders.{all_put, all_in_order, all_filter}
 use Rattle.fuse_store_tree.proofs.Steps.{bytes_keep, held_of, bytes_then, looked_bytes}

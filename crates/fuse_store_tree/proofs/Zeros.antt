@@ -10,11 +10,12 @@ use Rattle.fuse_tree.specs.Bounds.{block_bytes}
 use Rattle.fuse_store_tables.specs.Blocks.{Block, block_at, shown_block}
 use Rattle.fuse_store_tables.specs.Content.{Content}
 use Rattle.fuse_store_tables.specs.Faults.{IsOutside}
-use Rattle.fuse_store_tables.specs.Following.{earlier}
+use Rattle.fuse_store_tables.specs.inner.Following.{earlier}
 use Rattle.fuse_store_tables.specs.Moves.{Inside, Looked}
-use Rattle.fuse_store_tree.specs.Changing.{KeepsBytes, Overlaid}
+use Rattle.fuse_store_tree.specs.inner.Changing.{KeepsBytes, Overlaid}
 use Rattle.fuse_store_tree.specs.Fits.{Fits}
-use Rattle.fuse_store_tree.specs.Store.{byte_at, bytes_of, byte_in, overlay}
+use Rattle.fuse_store_tree.specs.Store.{byte_at, bytes_of, byte_in}
+use Rattle.fuse_store_tree.specs.inner.Writing.{overlay}
 use Rattle.fuse_store_tree.proofs.BlockBytes.{lower, upper}
 use Rattle.fuse_store_tree.proofs.Overlays.{zero_at}
 use Rattle.fuse_store_tree.proofs.RowChanges.{same_number}

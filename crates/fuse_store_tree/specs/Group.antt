@@ -10,7 +10,7 @@ use Rattle.fuse_store_tables.specs.Content.{kept_key, put_by, without_by}
 use Rattle.fuse_store_tables.specs.Faults.{IsOutside}
 use Rattle.fuse_store_tables.specs.Moves.{RestsAs}
 use Rattle.fuse_store_tree.specs.Store.{records_of}
-use Rattle.fuse_store_tree.specs.Holding.{Holding, HeldFor, InsideFor}
+use Rattle.fuse_store_tree.specs.Holding.{Holding, HeldFor}
 
 -- ---- settled ids
 
@@ -38,10 +38,6 @@ lot_for (Some lot) y = lot
 -- this opening has a lot, or a lot number is left for it
 abbrev pub HasLotLeft : Option ℕ → Holding → Type 0
 HasLotLeft lot y = lot ≡ None → y.next_lot < 2 ^ 62
-
--- within a transaction: a fault says nothing of the store, unless no lot number is left
-abbrev pub IsSureFor : {X : Type 0} → Option ℕ → State → State → Result X StoreFault → Type 0
-IsSureFor lot old new r = HasCleanDisk new → IfErr r (λ f. (y : Holding) → InsideFor y old → HasLotLeft lot y → IsOutside f)
 
 -- the same of a whole transaction
 abbrev pub IsSafeFor : {X : Type 0} → Option ℕ → State → State → Result X StoreFault → Type 0

@@ -7,7 +7,7 @@ use Rattle.fuse_tree.specs.State.{State as TreeState, Tree}
 use Rattle.fuse_tree.specs.Rows.{Rows, rowed}
 use Rattle.fuse_keeper.specs.Lots.{Lots}
 use Rattle.fuse_store_tables.specs.Content.{Kept, kept_key, node_key, cookie_of, fh_of, at_by}
-use Rattle.fuse_store_tables.specs.Moves.{RestsAs, InsideAs, StaysIn, TurnsTo}
+use Rattle.fuse_store_tables.specs.Moves.{RestsAs}
 use Rattle.fuse_store_tree.specs.Store.{Store, Held, in_order}
 
 -- a tree, the records in rising order of their ids, the lots in rising order, and the number of the next lot
@@ -39,19 +39,6 @@ pub record HeldFor (y : Holding) (d : Database) : Type 0 where
   pub below : AreBelow y.next_lot y.lots
   pub next : y.next_lot ≤ 2 ^ 62
   pub held : Held (store_of y) d
-
--- a transaction is open, whose tables hold this
-abbrev pub InsideFor : Holding → State → Type 0
-InsideFor y = InsideAs (HeldFor y)
-
--- nothing is committed of a transaction whose tables hold something, whether the step succeeds or not
-abbrev pub KeepsFor : State → State → Type 0
-KeepsFor = StaysIn HeldFor
-
--- within a transaction, the holding was changed so
-pub record Turned (f : Holding → Holding) (old new : State) : Type 0 where
-  pub stays : KeepsFor old new
-  pub turns : TurnsTo HeldFor (λ y. HeldFor (f y)) old new
 
 -- of the holding before a whole transaction, if the disk returned what was written
 abbrev pub ReportsAfter : State → State → (Holding → Type 0) → Type 0

@@ -1,10 +1,8 @@
 pub mod Fits
 pub mod Store
 pub mod Looking
-pub mod Changing
-pub mod Acting
-pub mod Laws
 pub mod Holding
 pub mod Group
 pub mod Lots
 pub mod Performing
+pub mod inner

@@ -2,12 +2,10 @@
 use Rattle.std.specs.Prelude.{◌≡◌, Option, Some, None, IfSome}
 use Rattle.sqlite.specs.State.{State, HasCleanDisk}
 use Rattle.fuse_keeper.specs.declared.fault.StoreFault.{StoreFault}
-use Rattle.fuse_keeper.specs.declared.fault.StoreFault.TheVariants.{Memory as OutOfMemory, Damaged}
+use Rattle.fuse_keeper.specs.declared.fault.StoreFault.TheVariants.{Memory as OutOfMemory}
 use Rattle.fuse_tree.specs.declared.look.LookFault.{LookFault}
 use Rattle.fuse_tree.specs.declared.look.LookFault.TheVariants.{Memory, Failed}
 use Rattle.fuse_tree.specs.Rows.{Rows}
-use Rattle.fuse_tree.specs.declared.planning.fault.PlanFault.{PlanFault}
-use Rattle.fuse_tree.specs.declared.planning.fault.PlanFault.TheVariants as plans
 use Rattle.fuse_store_tables.specs.Faults.{IsOutside, IsPlain}
 use Rattle.fuse_store_tables.specs.Moves.{InsideAs, IsReady, Looked, Stays}
 use Rattle.fuse_store_tree.specs.Store.{Store, Held}
@@ -36,14 +34,3 @@ pub record MayFail (old new : State) (was is : Option StoreFault) : Type 0 where
   pub stays : Stays old new
   pub plain : was ≡ None → IfSome is IsPlain
   pub sure : was ≡ None → HasCleanDisk new → IsReady HeldFor old → IfSome is IsOutside
-
--- the fault that was the cause of one of a read
-abbrev pub cause_of : Option StoreFault → StoreFault
-cause_of None = Damaged
-cause_of (Some f) = f
-
--- the fault of a request without a plan
-abbrev pub why_no_plan : PlanFault → Option StoreFault → StoreFault
-why_no_plan plans.Memory looked = OutOfMemory
-why_no_plan plans.NotATree looked = Damaged
-why_no_plan (plans.Look f) looked = cause_of looked

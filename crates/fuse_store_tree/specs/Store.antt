@@ -1,13 +1,11 @@
 -- A store as the tables describe it (own profile): the rows of a tree, and the records in their lots.
-use Rattle.std.specs.Prelude.{◌≡◌, ◌<◌, ◌^◌, ◌/◌, ◌%◌, ◌==◌, if◌then◌else◌, ◌+◌, replicate, ◌++◌, ◌&&◌, take, drop, length, not, zero, suc, nat_lt, min, ◌-◌, ℕ}
+use Rattle.std.specs.Prelude.{◌≡◌, ◌<◌, ◌^◌, ◌/◌, ◌%◌, ℕ}
 use Rattle.std.specs.Prelude.{List, [], ◌∷◌, map, fold, option_map, Option, Some, None, slice_index_or}
 use Rattle.sqlite.specs.Effect.{Database}
 use Rattle.fuse_init.specs.declared.settings.Settings.{Settings}
 use Rattle.fuse_tree.specs.Bounds.{block_bytes}
-use Rattle.fuse_tree.specs.declared.rows.NodeRow.{NodeRow}
 use Rattle.fuse_tree.specs.declared.rows.Counters.{Counters as CountersRow}
-use Rattle.fuse_tree.specs.declared.rows.Change.{Change}
-use Rattle.fuse_tree.specs.Rows.{Rows, full_at, content_of, apply_one, apply}
+use Rattle.fuse_tree.specs.Rows.{Rows, full_at, content_of}
 use Rattle.fuse_keeper.specs.Stands.{Records}
 use Rattle.fuse_store_tables.specs.Blocks.{Block, block_at}
 use Rattle.fuse_store_tables.specs.Content.{Content, Counter, Kept, Holds, put_by, at_by, node_key, cookie_of, fh_of, kept_key}
@@ -59,16 +57,6 @@ pub record FitsSettings (s : Option Settings) : Type 0 where
   pub readahead : readahead_of s < 2 ^ 32
   pub flags : flags_of s < 2 ^ 63
 
--- the other way: the value at this place, and the counters and the settings of these values
-abbrev pub value_of : List Counter → ℕ → ℕ
-value_of cs at = (slice_index_or cs at (counter 0 0)).value
-
-abbrev pub counted_in : List Counter → CountersRow
-counted_in cs = record { next_node = value_of cs 1; next_fh = value_of cs 2; next_cookie = value_of cs 3; nodes = value_of cs 4; handles = value_of cs 5 }
-
-abbrev pub agreed_in : List Counter → Option Settings
-agreed_in cs = if value_of cs 6 == 0 then None else Some (record { minor = value_of cs 7; max_readahead = value_of cs 8; flags = record { 0 = value_of cs 9 } })
-
 -- the byte at this place, 0 after the end
 abbrev pub byte_at : List ℕ → ℕ → ℕ
 byte_at bytes i = slice_index_or bytes i 0
@@ -80,33 +68,6 @@ bytes_of (Some b) = b.bytes
 -- the byte at this place of a node's blocks, 0 where there is no block
 abbrev pub byte_in : List Block → ℕ → ℕ → ℕ
 byte_in blocks node i = byte_at (bytes_of (block_at node (i / block_bytes) blocks)) (i % block_bytes)
-
--- so many values of a function from a place on
-abbrev pub range_of : (ℕ → ℕ) → ℕ → ℕ → List ℕ
-range_of f at zero = []
-range_of f at (suc n) = f at ∷ range_of f (at + 1) n
-
--- the bytes of a block, zeros where there is none
-abbrev pub whole_of : Option Block → List ℕ
-whole_of None = replicate block_bytes 0
-whole_of (Some b) = b.bytes
-
--- bytes of a node with this row, as far as its size goes
-abbrev pub bytes_told : Option NodeRow → List Block → ℕ → ℕ → ℕ → List ℕ
-bytes_told None blocks node offset len = []
-bytes_told (Some n) blocks node offset len = if nat_lt offset n.size then range_of (byte_in blocks node) offset (min len (n.size - offset)) else []
-
--- a list with a part written over it
-abbrev pub spliced : List ℕ → ℕ → List ℕ → List ℕ
-spliced old start part = take start old ++ part ++ drop (start + length part) old
-
--- the bytes of nodes with some of one node's written over
-abbrev pub overlay : ℕ → ℕ → List ℕ → (ℕ → ℕ → ℕ) → ℕ → ℕ → ℕ
-overlay node at part g n i = if (n == node) && (not (nat_lt i at) && nat_lt i (at + length part)) then byte_at part (i - at) else g n i
-
--- the bytes of nodes with those of one node from a place on set to 0
-abbrev pub cut : ℕ → ℕ → (ℕ → ℕ → ℕ) → ℕ → ℕ → ℕ
-cut node at g n i = if (n == node) && not (nat_lt i at) then 0 else g n i
 
 -- the bytes of each node, and zeros after them
 abbrev pub rows_bytes : Rows → ℕ → ℕ → ℕ
@@ -125,24 +86,9 @@ pub record DescribesAs (x : Store) (bytes_are : ℕ → ℕ → ℕ) (c : Conten
   pub settings : FitsSettings x.rows.settings
   pub fits : Fits c
 
--- the blocks describe the bytes of each node, and zeros after them; the size is in the row
-abbrev pub Describes : Store → Content → Type 0
-Describes x = DescribesAs x (rows_bytes x.rows)
-
 -- a database whose tables describe this
 abbrev pub HeldAs : Store × (ℕ → ℕ → ℕ) → Database → Type 0
 HeldAs p d = (c : Content) × Holds c d × DescribesAs p.0 p.1 c
 
 abbrev pub Held : Store → Database → Type 0
 Held x = HeldAs (x, rows_bytes x.rows)
-
-abbrev pub with_rows : Rows → Store → Store
-with_rows rows x = record x { rows = rows }
-
--- a change of the rows
-abbrev pub with_change : Change → Store → Store
-with_change change x = with_rows (apply_one x.rows change) x
-
--- changes, one after the other
-abbrev pub with_changes : List Change → Store → Store
-with_changes changes x = with_rows (apply x.rows changes) x

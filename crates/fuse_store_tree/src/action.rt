@@ -5,11 +5,11 @@ ghost use Rattle.fuse_request.specs.Act.{asked};
 ghost use Rattle.fuse_tree.specs.Do.{done};
 ghost use Rattle.fuse_tree.specs.State.{State, Tree};
 ghost use Rattle.fuse_store_tables.specs.Faults.{IsPlain};
-ghost use Rattle.fuse_store_tables.specs.Moves.{IsSure};
-ghost use Rattle.fuse_store_tree.specs.Acting.{ActsInside};
-ghost use Rattle.fuse_store_tree.specs.Changing.{Keeps};
+ghost use Rattle.fuse_store_tables.specs.inner.Performing.{IsSure};
+ghost use Rattle.fuse_store_tree.specs.inner.Acting.{ActsInside, why_no_plan};
+ghost use Rattle.fuse_store_tree.specs.inner.Changing.{Keeps};
 ghost use Rattle.fuse_store_tree.specs.Holding.{HeldFor};
-ghost use Rattle.fuse_store_tree.specs.Looking.{look_fault, why_no_plan};
+ghost use Rattle.fuse_store_tree.specs.Looking.{look_fault};
 
 use crate::look::TableLook;
 use crate::plan_changes::make_all;

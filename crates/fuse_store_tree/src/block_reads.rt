@@ -11,7 +11,8 @@ ghost use Rattle.fuse_store_tables.specs.Content.{Content, node_key, at_by};
 ghost use Rattle.fuse_store_tree.specs.Fits.{Fits, IsWhole};
 ghost use Rattle.fuse_store_tables.specs.Faults.{IsOutside, IsPlain};
 ghost use Rattle.fuse_store_tables.specs.Moves.{Inside, Looked, Stays};
-ghost use Rattle.fuse_store_tree.specs.Store.{byte_in, range_of, whole_of, bytes_told};
+ghost use Rattle.fuse_store_tree.specs.Store.{byte_in};
+ghost use Rattle.fuse_store_tree.specs.inner.Reading.{range_of, whole_of, bytes_told};
 
 use crate::bounds::END;
 use crate::rows::find_node;

@@ -5,13 +5,14 @@ ghost use Rattle.sqlite.specs.State.{HasCleanDisk};
 ghost use Rattle.sqlite.specs.Held.{state};
 ghost use Rattle.fuse_tree.specs.Bounds.{block_bytes};
 ghost use Rattle.fuse_store_tables.specs.Faults.{IsOutside, IsPlain};
-ghost use Rattle.fuse_store_tree.specs.Changing.{Changed, Keeps, KeepsBytes, Overlaid};
+ghost use Rattle.fuse_store_tree.specs.inner.Changing.{Changed, Keeps, KeepsBytes, Overlaid};
 ghost use Rattle.fuse_tree.specs.declared.rows.Change.TheVariants as changes;
 ghost use Rattle.fuse_store_tables.specs.Content.{Content};
 ghost use Rattle.fuse_store_tree.specs.Fits.{Fits};
-ghost use Rattle.fuse_store_tables.specs.Moves.{Inside, IsSure};
-ghost use Rattle.fuse_store_tree.specs.Store.{Held, HeldAs, byte_at, spliced};
-ghost use Rattle.fuse_store_tree.specs.Store.{with_change};
+ghost use Rattle.fuse_store_tables.specs.Moves.{Inside};
+ghost use Rattle.fuse_store_tables.specs.inner.Performing.{IsSure};
+ghost use Rattle.fuse_store_tree.specs.Store.{Held, HeldAs, byte_at};
+ghost use Rattle.fuse_store_tree.specs.inner.Writing.{spliced, with_change};
 
 use crate::block_reads::{find_block, first_count, has_block};
 use fuse_keeper::StoreFault;

@@ -6,7 +6,7 @@ ghost use Rattle.sqlite.specs.Held.{state};
 ghost use Rattle.fuse_store_tables.specs.Content.{Content, Counter, shown_counter};
 ghost use Rattle.fuse_store_tables.specs.Faults.{IsOutside, IsPlain};
 ghost use Rattle.fuse_store_tables.specs.Moves.{Inside, Looked, Stays};
-ghost use Rattle.fuse_store_tree.specs.Store.{value_of, counted_in, agreed_in};
+ghost use Rattle.fuse_store_tree.specs.inner.Reading.{value_of, counted_in, agreed_in};
 
 use fuse_init::Settings;
 use fuse_keeper::StoreFault;

@@ -4,13 +4,13 @@ ghost use Rattle.std.specs.Prelude.{IfSome};
 ghost use Rattle.sqlite.specs.State.{HasCleanDisk};
 ghost use Rattle.sqlite.specs.Held.{state};
 ghost use Rattle.fuse_keeper.specs.Group.{entries_of, ids_of};
-ghost use Rattle.fuse_store_tables.specs.Moves.{IsSure};
+ghost use Rattle.fuse_store_tables.specs.inner.Performing.{IsSure};
 ghost use Rattle.fuse_store_tables.specs.Faults.{IsPlain};
 ghost use Rattle.fuse_store_tree.specs.Looking.{look_fault};
-ghost use Rattle.fuse_store_tree.specs.Holding.{Holding, HeldFor, InsideFor, KeepsFor};
-ghost use Rattle.fuse_store_tree.specs.Holding.{Turned};
+ghost use Rattle.fuse_store_tree.specs.Holding.{Holding, HeldFor};
+ghost use Rattle.fuse_store_tree.specs.inner.Changing.{InsideFor, KeepsFor, Turned, IsSureFor};
 ghost use Rattle.fuse_store_tree.specs.Group.{with_group, dones_of, prepared, lot_for};
-ghost use Rattle.fuse_store_tree.specs.Group.{performed, all_dones, IsSureFor};
+ghost use Rattle.fuse_store_tree.specs.Group.{performed, all_dones};
 
 use crate::look::TableLook;
 use crate::lots::take_lot;

@@ -74,8 +74,8 @@ impl<S: Alter> TableLook<S> {
 
 impl<S: Alter> Look for TableLook<S> {
     ghost use Rattle.fuse_store_tree.specs.Looking.{sees_in, WentWell, MayFail};
-    ghost use Rattle.fuse_store_tree.specs.Laws.{well_still, well_then, well_fails, well_less};
-    ghost use Rattle.fuse_store_tree.specs.Laws.{looked_clean, looked_kept};
+    ghost use Rattle.fuse_store_tree.specs.inner.Laws.{well_still, well_then, well_fails};
+    ghost use Rattle.fuse_store_tree.specs.inner.Laws.{well_less, looked_clean, looked_kept};
 
     ghost sees = { λ k rows. sees_in (state S.Store k.conn) rows };
 

@@ -6,9 +6,10 @@ ghost use Rattle.sqlite.specs.Held.{state};
 ghost use Rattle.fuse_store_tables.specs.Content.{Counter, shown_counter, set_counter, with_lot};
 ghost use Rattle.fuse_store_tables.specs.Faults.{IsOutside, IsPlain};
 ghost use Rattle.fuse_store_tables.specs.Moves.{Makes};
-ghost use Rattle.fuse_store_tree.specs.Store.{value_of};
-ghost use Rattle.fuse_store_tree.specs.Holding.{Holding, InsideFor, KeepsFor, Turned};
-ghost use Rattle.fuse_store_tree.specs.Group.{with_new_lot, with_lot_for, lot_for, IsSureFor};
+ghost use Rattle.fuse_store_tree.specs.inner.Reading.{value_of};
+ghost use Rattle.fuse_store_tree.specs.Holding.{Holding};
+ghost use Rattle.fuse_store_tree.specs.inner.Changing.{InsideFor, KeepsFor, Turned, IsSureFor};
+ghost use Rattle.fuse_store_tree.specs.Group.{with_new_lot, with_lot_for, lot_for};
 
 use fuse_keeper::StoreFault;
 use fuse_store_tables::{NEXT_LOT, insert_lot, number_at, select_counters, update_counter};

@@ -2,10 +2,11 @@
 ghost use Rattle.std.specs.Prelude.{IfErr, OnOk, OnErr};
 ghost use Rattle.sqlite.specs.Held.{state};
 ghost use Rattle.fuse_tree.specs.Columns.{FitsChange, FitColumns};
-ghost use Rattle.fuse_store_tables.specs.Moves.{IsSure};
+ghost use Rattle.fuse_store_tables.specs.inner.Performing.{IsSure};
 ghost use Rattle.fuse_store_tables.specs.Faults.{IsPlain};
-ghost use Rattle.fuse_store_tree.specs.Changing.{Changed, Keeps};
-ghost use Rattle.fuse_store_tree.specs.Store.{Held, with_change, with_changes};
+ghost use Rattle.fuse_store_tree.specs.inner.Changing.{Changed, Keeps};
+ghost use Rattle.fuse_store_tree.specs.Store.{Held};
+ghost use Rattle.fuse_store_tree.specs.inner.Writing.{with_change, with_changes};
 
 use crate::block_writes::write_content;
 use crate::bounds::change_fits;

@@ -5,10 +5,10 @@ ghost use Rattle.sqlite.specs.Held.{state};
 ghost use Rattle.fuse_answer.specs.Said.{FitsAnswer};
 ghost use Rattle.fuse_keeper.specs.Group.{entry_of};
 ghost use Rattle.fuse_store_tables.specs.Faults.{IsOutside, IsPlain};
-ghost use Rattle.fuse_store_tables.specs.Moves.{IsSure};
+ghost use Rattle.fuse_store_tables.specs.inner.Performing.{IsSure};
 ghost use Rattle.fuse_store_tree.specs.Looking.{look_fault};
-ghost use Rattle.fuse_store_tree.specs.Holding.{Holding, HeldFor, InsideFor, KeepsFor};
-ghost use Rattle.fuse_store_tree.specs.Holding.{Turned};
+ghost use Rattle.fuse_store_tree.specs.Holding.{Holding, HeldFor};
+ghost use Rattle.fuse_store_tree.specs.inner.Changing.{InsideFor, KeepsFor, Turned};
 ghost use Rattle.fuse_store_tree.specs.Group.{acted_on, answered, taken, with_record};
 ghost use Rattle.fuse_store_tree.specs.Group.{said_of};
 

@@ -3,7 +3,7 @@ ghost use Rattle.std.specs.Prelude.{IfErr, OnOk, OnErr};
 ghost use Rattle.sqlite.specs.Held.{state};
 ghost use Rattle.fuse_keeper.specs.Group.{ids_of};
 ghost use Rattle.fuse_store_tables.specs.Faults.{IsOutside, IsPlain};
-ghost use Rattle.fuse_store_tree.specs.Holding.{KeepsFor, Turned};
+ghost use Rattle.fuse_store_tree.specs.inner.Changing.{KeepsFor, Turned};
 ghost use Rattle.fuse_store_tree.specs.Group.{without_record, without_settled};
 
 use crate::bounds::END;

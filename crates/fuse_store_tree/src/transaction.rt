@@ -2,7 +2,8 @@
 ghost use Rattle.std.specs.Prelude.{◌≡◌, ◌<◌, ◌^◌, None, length, IfOk, IfErr, IfSome};
 ghost use Rattle.sqlite.specs.Held.{state};
 ghost use Rattle.fuse_keeper.specs.Group.{entries_of, ids_of};
-ghost use Rattle.fuse_store_tables.specs.Moves.{PerformsAs, ServesAs, StaysOpen};
+ghost use Rattle.fuse_store_tables.specs.Moves.{ServesAs, StaysOpen};
+ghost use Rattle.fuse_store_tables.specs.inner.Performing.{PerformsAs};
 ghost use Rattle.fuse_store_tables.specs.Faults.{IsPlain};
 ghost use Rattle.fuse_store_tree.specs.Looking.{look_fault};
 ghost use Rattle.fuse_store_tree.specs.Holding.{HeldFor, ReportsAfter};

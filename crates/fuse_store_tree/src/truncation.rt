@@ -5,9 +5,10 @@ ghost use Rattle.sqlite.specs.Held.{state};
 ghost use Rattle.fuse_tree.specs.Bounds.{block_bytes, file_limit};
 ghost use Rattle.fuse_tree.specs.declared.rows.Change.TheVariants as changes;
 ghost use Rattle.fuse_store_tables.specs.Faults.{IsOutside, IsPlain};
-ghost use Rattle.fuse_store_tables.specs.Moves.{IsSure};
-ghost use Rattle.fuse_store_tree.specs.Changing.{Changed, Cut, Keeps, KeepsBytes};
-ghost use Rattle.fuse_store_tree.specs.Store.{Held, HeldAs, with_change};
+ghost use Rattle.fuse_store_tables.specs.inner.Performing.{IsSure};
+ghost use Rattle.fuse_store_tree.specs.inner.Changing.{Changed, Cut, Keeps, KeepsBytes};
+ghost use Rattle.fuse_store_tree.specs.Store.{Held, HeldAs};
+ghost use Rattle.fuse_store_tree.specs.inner.Writing.{with_change};
 
 use crate::block_writes::write_zeros;
 use fuse_keeper::StoreFault;

@@ -5,11 +5,11 @@ ghost use Rattle.sqlite.specs.State.{HasCleanDisk};
 ghost use Rattle.sqlite.specs.Held.{state};
 ghost use Rattle.fuse_tree.specs.declared.rows.Change.TheVariants as changes;
 ghost use Rattle.fuse_store_tables.specs.Faults.{IsOutside, IsPlain};
-ghost use Rattle.fuse_store_tree.specs.Changing.{Changed, Keeps};
+ghost use Rattle.fuse_store_tree.specs.inner.Changing.{Changed, Keeps};
 ghost use Rattle.fuse_store_tables.specs.Content.{Content, HasSeconds, set_counter};
 ghost use Rattle.fuse_tree.specs.Columns.{FitsNode, FitsEntry, FitsHandle, FitsCounters};
 ghost use Rattle.fuse_store_tables.specs.Moves.{Inside, Makes};
-ghost use Rattle.fuse_store_tree.specs.Store.{with_change};
+ghost use Rattle.fuse_store_tree.specs.inner.Writing.{with_change};
 
 use crate::rows::find_node;
 use fuse_init::Settings;

@@ -1,14 +1,7 @@
--- The rows of a tree over lists, and the state of a keeper of one (own profile).
+-- The rows of a tree over lists (own profile).
 use Rattle.fuse_tree.specs.Rows.{Rows}
 use Rattle.fuse_tree.specs.PlainRows.{rows_of}
-use Rattle.fuse_keeper.specs.declared.plain.PlainKeeper.{PlainKeeper}
-use Rattle.fuse_keeper.specs.KeeperState.{KeeperState}
-use Rattle.fuse_keeper.specs.PlainKeeper.{plain_told}
 use Rattle.fuse_tree.specs.declared.plain_tree.PlainTree.{PlainTree}
-use Rattle.fuse_tree.specs.TheTree.{the_tree}
 
 abbrev pub tree_held : PlainTree → Rows
 tree_held t = rows_of t.rows
-
-abbrev pub tree_told : PlainKeeper PlainTree → KeeperState the_tree
-tree_told = plain_told the_tree tree_held

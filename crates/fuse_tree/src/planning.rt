@@ -5,7 +5,7 @@ ghost use Rattle.fuse_tree.specs.State.{State, Tree};
 ghost use Rattle.fuse_tree.specs.Rows.{rowed};
 ghost use Rattle.fuse_tree.specs.Do.{done};
 ghost use Rattle.fuse_tree.specs.Plan.{Meets, look_fault};
-ghost use Rattle.fuse_tree.specs.inner.Reading.{IsWithin, LooksUp};
+ghost use Rattle.fuse_tree.specs.inner.Reading.{IsWithin, LooksUp, view};
 ghost use Rattle.fuse_tree.specs.inner.Planning.{tells_name, plan_act, plan_agreed as planned_agreed};
 ghost use Rattle.fuse_tree.specs.inner.Planning.{plan_of};
 
@@ -94,7 +94,7 @@ fn plan_request<L: Look>(
     now: Moment,
 ) -> Result<Planned, PlanFault>
     requires { L.fault look.old ≡ None }
-    ensures { LooksUp L.is_clean L.sees L.fault L.looks L.fails look.old look.new result
+    ensures { LooksUp (view L.is_clean L.sees L.fault L.looks L.fails) look.old look.new result
         (plan_of (asked request.now) now) }
 {
     if let Op::Init(offer) = &request.op {
@@ -114,7 +114,7 @@ fn plan_agreed<L: Look>(
     now: Moment,
 ) -> Result<Planned, PlanFault>
     requires { L.fault look.old ≡ None }
-    ensures { LooksUp L.is_clean L.sees L.fault L.looks L.fails look.old look.new result
+    ensures { LooksUp (view L.is_clean L.sees L.fault L.looks L.fails) look.old look.new result
         (planned_agreed (asked request.now) now) }
 {
     if let Op::Destroy = request.op {
@@ -136,7 +136,7 @@ fn plan_op<L: Look>(
 ) -> Result<Planned, PlanFault>
     requires fault { L.fault look.old ≡ None }
     requires within { IsWithin row.now }
-    ensures { LooksUp L.is_clean L.sees L.fault L.looks L.fails look.old look.new result
+    ensures { LooksUp (view L.is_clean L.sees L.fault L.looks L.fails) look.old look.new result
         (plan_act request.now.header (act request.now.op) now row.now) }
 {
     match &request.op {
@@ -181,7 +181,7 @@ fn plan_named<L: Look>(
     requires fault { L.fault look.old ≡ None }
     requires within { IsWithin row.now }
     requires named { tells_name (act request.now.op) ≡ true }
-    ensures { LooksUp L.is_clean L.sees L.fault L.looks L.fails look.old look.new result
+    ensures { LooksUp (view L.is_clean L.sees L.fault L.looks L.fails) look.old look.new result
         (plan_act request.now.header (act request.now.op) now row.now) }
 {
     match &request.op {

@@ -5,7 +5,7 @@ ghost use Rattle.sqlite.specs.Held.{state};
 ghost use Rattle.fuse_store_tables.specs.Content.{Content, Counter, shown_counter};
 ghost use Rattle.fuse_store_tables.specs.Moves.{Rests};
 ghost use Rattle.fuse_store_tree.specs.Looking.{look_fault};
-ghost use Rattle.fuse_store_tree.specs.Store.{value_of};
+ghost use Rattle.fuse_store_tree.specs.inner.Reading.{value_of};
 
 use crate::snapshot::open_snapshot;
 use fuse_commands::Ending;

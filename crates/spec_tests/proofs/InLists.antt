@@ -9,7 +9,7 @@ use Rattle.fuse_keeper.specs.declared.fault.StoreFault.TheVariants.{Memory as No
 use Rattle.fuse_keeper.specs.declared.plain.PlainKeeper.{PlainKeeper}
 use Rattle.fuse_keeper.specs.Performance.{Performance}
 use Rattle.fuse_tree.specs.declared.plain_tree.PlainTree.{PlainTree}
-use Rattle.fuse_tree.specs.PlainTree.{tree_told}
+use Rattle.spec_tests.specs.inner.TreeInLists.{tree_told}
 use Rattle.fuse_tree.specs.TheTree.{the_tree}
 use Rattle.fuse_sim.specs.declared.event.Event.{Event}
 use Rattle.fuse_sim.specs.Driving.{StandsIn, told_in}

@@ -5,3 +5,4 @@ pub mod Vectors
 pub mod Hex
 pub mod Links
 pub mod WireCases
+pub mod TreeInLists

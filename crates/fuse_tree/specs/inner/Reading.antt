@@ -32,13 +32,23 @@ pub record Looked {S X : Type 0} (fault_of : S → Option LookFault) (looking fa
   pub looks : look_fault result ≡ None → looking old new
   pub fails : OnErr result (failing old new)
 
+-- the relations of a `Look`
+pub record View (S : Type 0) : Type 1 where
+  pub is_clean : S → Type 0
+  pub sees : S → Rows → Type 0
+  pub fault_of : S → Option LookFault
+  pub looking : S → S → Type 0
+  pub failing : S → S → Type 0
+
+abbrev pub view : {S : Type 0} → (S → Type 0) → (S → Rows → Type 0) → (S → Option LookFault) → (S → S → Type 0) → (S → S → Type 0) → View S
+view is_clean sees fault_of looking failing = record { is_clean = is_clean; sees = sees; fault_of = fault_of; looking = looking; failing = failing }
+
 -- the answer is read off the rows that the old one sees, and nothing but looks lie between the two
-pub record LooksUp {S X : Type 0} (clean : S → Type 0) (sees : S → Rows → Type 0) (fault_of : S → Option LookFault)
-    (looking failing : S → S → Type 0) (old new : S) (result : Result X PlanFault) (told : Rows → X) : Type 0 where
-  pub reads : Reads (clean new) (sees old) result told
-  pub fault : fault_of new ≡ look_fault result
-  pub looks : look_fault result ≡ None → looking old new
-  pub fails : OnErr result (failing old new)
+pub record LooksUp {S X : Type 0} (v : View S) (old new : S) (result : Result X PlanFault) (told : Rows → X) : Type 0 where
+  pub reads : Reads (v.is_clean new) (v.sees old) result told
+  pub fault : v.fault_of new ≡ look_fault result
+  pub looks : look_fault result ≡ None → v.looking old new
+  pub fails : OnErr result (v.failing old new)
 
 -- a row within the bounds of each tree
 pub record IsWithin (row : NodeRow) : Type 0 where

@@ -1,5 +1,5 @@
 ghost use Rattle.std.specs.Prelude.{◌≡◌, ◌||◌, None};
-ghost use Rattle.fuse_tree.specs.inner.Reading.{IsWithin, LooksUp};
+ghost use Rattle.fuse_tree.specs.inner.Reading.{IsWithin, LooksUp, view};
 ghost use Rattle.fuse_tree.specs.inner.PlanRenaming.{renaming_of, row_holds, plan_exchange_link};
 ghost use Rattle.fuse_tree.specs.inner.PlanRenaming.{plan_exchange_apart, plan_exchange_with_room};
 
@@ -27,7 +27,7 @@ pub(crate) fn exchange_links<L: Look>(
     requires fault { L.fault look.old ≡ None }
     requires from_within { IsWithin from.now }
     requires to_within { IsWithin to.now }
-    ensures { LooksUp L.is_clean L.sees L.fault L.looks L.fails look.old look.new result
+    ensures { LooksUp (view L.is_clean L.sees L.fault L.looks L.fails) look.old look.new result
         (plan_exchange_link (renaming_of asked.now) from.now to.now source.now other) }
 {
     let Some(other) = other else {
@@ -52,7 +52,7 @@ fn exchange_apart<L: Look>(
     requires fault { L.fault look.old ≡ None }
     requires from_within { IsWithin from.now }
     requires to_within { IsWithin to.now }
-    ensures { LooksUp L.is_clean L.sees L.fault L.looks L.fails look.old look.new result
+    ensures { LooksUp (view L.is_clean L.sees L.fault L.looks L.fails) look.old look.new result
         (plan_exchange_apart (renaming_of asked.now) from.now to.now source.now other.now) }
 {
     if is_either_held(look, &source.child, from.node, &other.child, asked.new_dir)? {
@@ -70,7 +70,7 @@ fn is_either_held<L: Look>(
     other_dir: u64,
 ) -> Result<bool, PlanFault>
     requires { L.fault look.old ≡ None }
-    ensures { LooksUp L.is_clean L.sees L.fault L.looks L.fails look.old look.new result
+    ensures { LooksUp (view L.is_clean L.sees L.fault L.looks L.fails) look.old look.new result
         (λ rows. row_holds rows child.now dir other_dir || row_holds rows other.now other_dir dir) }
 {
     if is_held(look, child, dir, other_dir)? {
@@ -92,7 +92,7 @@ fn exchange_with_room<L: Look>(
     requires fault { L.fault look.old ≡ None }
     requires from_within { IsWithin from.now }
     requires to_within { IsWithin to.now }
-    ensures { LooksUp L.is_clean L.sees L.fault L.looks L.fails look.old look.new result
+    ensures { LooksUp (view L.is_clean L.sees L.fault L.looks L.fails) look.old look.new result
         (plan_exchange_with_room (renaming_of asked.now) from.now to.now source.now other.now) }
 {
     let counters = find_counters(look)?;

@@ -1,7 +1,7 @@
 ghost use Rattle.std.specs.Prelude.{◌≡◌, None, is_some, IfOk, IfSome};
 ghost use Rattle.fuse_tree.specs.Rows.{row_at, entry_at, handle_at};
 ghost use Rattle.fuse_tree.specs.Handles.{access_at, is_open};
-ghost use Rattle.fuse_tree.specs.inner.Reading.{IsWithin, child_at, LooksUp};
+ghost use Rattle.fuse_tree.specs.inner.Reading.{IsWithin, child_at, LooksUp, view};
 ghost use Rattle.fuse_tree.specs.Removing as removing;
 ghost use Rattle.fuse_tree.specs.inner.PlanRemoving.{link_at};
 
@@ -22,7 +22,7 @@ pub struct Link {
 #[tactic(auto, using(crate::proofs::Bounds::row_within))]
 pub(crate) fn find_node<L: Look>(look: &mut L, number: u64) -> Result<Option<NodeRow>, PlanFault>
     requires { L.fault look.old ≡ None }
-    ensures row { LooksUp L.is_clean L.sees L.fault L.looks L.fails look.old look.new result
+    ensures row { LooksUp (view L.is_clean L.sees L.fault L.looks L.fails) look.old look.new result
         (λ rows. row_at rows number) }
     ensures within { IfOk result (λ row. IfSome row IsWithin) }
 {
@@ -37,7 +37,7 @@ pub(crate) fn find_node<L: Look>(look: &mut L, number: u64) -> Result<Option<Nod
 
 fn find_entry<L: Look>(look: &mut L, dir: u64, name: &[u8]) -> Result<Option<EntryRow>, PlanFault>
     requires { L.fault look.old ≡ None }
-    ensures { LooksUp L.is_clean L.sees L.fault L.looks L.fails look.old look.new result
+    ensures { LooksUp (view L.is_clean L.sees L.fault L.looks L.fails) look.old look.new result
         (λ rows. entry_at rows.entries dir name.now) }
 {
     Ok(look.entry(dir, name)?)
@@ -46,7 +46,7 @@ fn find_entry<L: Look>(look: &mut L, dir: u64, name: &[u8]) -> Result<Option<Ent
 // Whether the name stands in the directory.
 pub(crate) fn is_taken<L: Look>(look: &mut L, dir: u64, name: &[u8]) -> Result<bool, PlanFault>
     requires { L.fault look.old ≡ None }
-    ensures { LooksUp L.is_clean L.sees L.fault L.looks L.fails look.old look.new result
+    ensures { LooksUp (view L.is_clean L.sees L.fault L.looks L.fails) look.old look.new result
         (λ rows. is_some (entry_at rows.entries dir name.now)) }
 {
     Ok(find_entry(look, dir, name)?.is_some())
@@ -60,7 +60,7 @@ pub(crate) fn find_link<L: Look>(
     name: &[u8],
 ) -> Result<Option<Link>, PlanFault>
     requires { L.fault look.old ≡ None }
-    ensures row { LooksUp L.is_clean L.sees L.fault L.looks L.fails look.old look.new result
+    ensures row { LooksUp (view L.is_clean L.sees L.fault L.looks L.fails) look.old look.new result
         (λ rows. link_at rows dir name.now) }
     ensures within { IfOk result (λ link. IfSome link (λ l. IsWithin l.child)) }
 {
@@ -83,7 +83,7 @@ pub(crate) fn find_child<L: Look>(
     name: &[u8],
 ) -> Result<Option<NodeRow>, PlanFault>
     requires { L.fault look.old ≡ None }
-    ensures row { LooksUp L.is_clean L.sees L.fault L.looks L.fails look.old look.new result
+    ensures row { LooksUp (view L.is_clean L.sees L.fault L.looks L.fails) look.old look.new result
         (λ rows. child_at rows dir name.now) }
     ensures within { IfOk result (λ row. IfSome row IsWithin) }
 {
@@ -96,7 +96,7 @@ pub(crate) fn find_child<L: Look>(
 // Whether an entry stands in the directory.
 pub(crate) fn has_entries<L: Look>(look: &mut L, dir: u64) -> Result<bool, PlanFault>
     requires { L.fault look.old ≡ None }
-    ensures { LooksUp L.is_clean L.sees L.fault L.looks L.fails look.old look.new result
+    ensures { LooksUp (view L.is_clean L.sees L.fault L.looks L.fails) look.old look.new result
         (λ rows. removing.has_entries rows.entries dir) }
 {
     Ok(!look.entries_after(dir, 0, 1)?.is_empty())
@@ -104,7 +104,7 @@ pub(crate) fn has_entries<L: Look>(look: &mut L, dir: u64) -> Result<bool, PlanF
 
 pub(crate) fn find_counters<L: Look>(look: &mut L) -> Result<Counters, PlanFault>
     requires { L.fault look.old ≡ None }
-    ensures { LooksUp L.is_clean L.sees L.fault L.looks L.fails look.old look.new result
+    ensures { LooksUp (view L.is_clean L.sees L.fault L.looks L.fails) look.old look.new result
         (λ rows. rows.counters) }
 {
     Ok(look.counters()?)
@@ -112,7 +112,7 @@ pub(crate) fn find_counters<L: Look>(look: &mut L) -> Result<Counters, PlanFault
 
 pub(crate) fn find_handle<L: Look>(look: &mut L, fh: u64) -> Result<Option<HandleRow>, PlanFault>
     requires { L.fault look.old ≡ None }
-    ensures { LooksUp L.is_clean L.sees L.fault L.looks L.fails look.old look.new result
+    ensures { LooksUp (view L.is_clean L.sees L.fault L.looks L.fails) look.old look.new result
         (λ rows. handle_at rows.handles fh) }
 {
     Ok(look.handle(fh)?)
@@ -125,7 +125,7 @@ pub(crate) fn find_access<L: Look>(
     node: u64,
 ) -> Result<Option<AccessMode>, PlanFault>
     requires { L.fault look.old ≡ None }
-    ensures { LooksUp L.is_clean L.sees L.fault L.looks L.fails look.old look.new result
+    ensures { LooksUp (view L.is_clean L.sees L.fault L.looks L.fails) look.old look.new result
         (λ rows. access_at rows.handles fh node) }
 {
     match find_handle(look, fh)? {
@@ -137,7 +137,7 @@ pub(crate) fn find_access<L: Look>(
 // Whether the handle is open at this node.
 pub(crate) fn is_open_at<L: Look>(look: &mut L, fh: u64, node: u64) -> Result<bool, PlanFault>
     requires { L.fault look.old ≡ None }
-    ensures { LooksUp L.is_clean L.sees L.fault L.looks L.fails look.old look.new result
+    ensures { LooksUp (view L.is_clean L.sees L.fault L.looks L.fails) look.old look.new result
         (λ rows. is_open rows.handles fh node) }
 {
     Ok(find_access(look, fh, node)?.is_some())
@@ -146,7 +146,7 @@ pub(crate) fn is_open_at<L: Look>(look: &mut L, fh: u64, node: u64) -> Result<bo
 // Whether an INIT is agreed on.
 pub(crate) fn has_settings<L: Look>(look: &mut L) -> Result<bool, PlanFault>
     requires { L.fault look.old ≡ None }
-    ensures { LooksUp L.is_clean L.sees L.fault L.looks L.fails look.old look.new result
+    ensures { LooksUp (view L.is_clean L.sees L.fault L.looks L.fails) look.old look.new result
         (λ rows. is_some rows.settings) }
 {
     Ok(look.settings()?.is_some())

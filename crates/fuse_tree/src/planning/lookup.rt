@@ -1,6 +1,6 @@
 ghost use Rattle.std.specs.Prelude.{◌≡◌, None};
 ghost use Rattle.fuse_tree.specs.inner.Planning as planning;
-ghost use Rattle.fuse_tree.specs.inner.Reading.{LooksUp};
+ghost use Rattle.fuse_tree.specs.inner.Reading.{LooksUp, view};
 ghost use Rattle.fuse_tree.specs.inner.Planning.{plan_lookup_named};
 
 use super::answers::{entry_answer, refused, unchanged};
@@ -21,7 +21,7 @@ pub(crate) fn plan_lookup<L: Look>(
     row: &NodeRow,
 ) -> Result<Planned, PlanFault>
     requires { L.fault look.old ≡ None }
-    ensures { LooksUp L.is_clean L.sees L.fault L.looks L.fails look.old look.new result
+    ensures { LooksUp (view L.is_clean L.sees L.fault L.looks L.fails) look.old look.new result
         (planning.plan_lookup name.now row.now) }
 {
     if !is_directory(row.mode) {
@@ -41,7 +41,7 @@ fn lookup_named<L: Look>(
     row: &NodeRow,
 ) -> Result<Planned, PlanFault>
     requires { L.fault look.old ≡ None }
-    ensures { LooksUp L.is_clean L.sees L.fault L.looks L.fails look.old look.new result
+    ensures { LooksUp (view L.is_clean L.sees L.fault L.looks L.fails) look.old look.new result
         (plan_lookup_named name.now row.now) }
 {
     if !row.is_named() {

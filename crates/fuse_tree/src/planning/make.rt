@@ -1,7 +1,7 @@
 ghost use Rattle.std.specs.Prelude.{◌≡◌, None, false, IfOk};
 ghost use Rattle.fuse_tree.specs.Making.{is_full};
 ghost use Rattle.fuse_tree.specs.inner.PlanMaking as planning;
-ghost use Rattle.fuse_tree.specs.inner.Reading.{IsWithin, LooksUp};
+ghost use Rattle.fuse_tree.specs.inner.Reading.{IsWithin, LooksUp, view};
 ghost use Rattle.fuse_tree.specs.inner.PlanMaking.{dir_row, new_row, changes_of, plan_new};
 ghost use Rattle.fuse_tree.specs.inner.PlanMaking.{plan_make_with_room};
 
@@ -26,7 +26,7 @@ pub(crate) fn plan_make<L: Look>(
 ) -> Result<Planned, PlanFault>
     requires fault { L.fault look.old ≡ None }
     requires within { IsWithin row.now }
-    ensures { LooksUp L.is_clean L.sees L.fault L.looks L.fails look.old look.new result
+    ensures { LooksUp (view L.is_clean L.sees L.fault L.looks L.fails) look.old look.new result
         (planning.plan_make fresh.now name.now row.now) }
 {
     if !row.is_named() {
@@ -48,7 +48,7 @@ fn make_with_room<L: Look>(
 ) -> Result<Planned, PlanFault>
     requires fault { L.fault look.old ≡ None }
     requires within { IsWithin row.now }
-    ensures { LooksUp L.is_clean L.sees L.fault L.looks L.fails look.old look.new result
+    ensures { LooksUp (view L.is_clean L.sees L.fault L.looks L.fails) look.old look.new result
         (plan_make_with_room fresh.now name.now row.now) }
 {
     let counters = find_counters(look)?;

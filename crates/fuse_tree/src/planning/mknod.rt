@@ -2,7 +2,7 @@ ghost use Rattle.std.specs.Prelude.{◌≡◌, None};
 ghost use Rattle.fuse_tree.specs.State as state;
 ghost use Rattle.fuse_tree.specs.Making.{may_make, node_mode, node_rdev};
 ghost use Rattle.fuse_tree.specs.inner.PlanMaking as planning;
-ghost use Rattle.fuse_tree.specs.inner.Reading.{IsWithin, LooksUp};
+ghost use Rattle.fuse_tree.specs.inner.Reading.{IsWithin, LooksUp, view};
 
 use super::answers::refused;
 use super::attributes::is_directory;
@@ -36,7 +36,7 @@ pub(crate) fn plan_mknod<L: Look>(
 ) -> Result<Planned, PlanFault>
     requires fault { L.fault look.old ≡ None }
     requires within { IsWithin row.now }
-    ensures { LooksUp L.is_clean L.sees L.fault L.looks L.fails look.old look.new result
+    ensures { LooksUp (view L.is_clean L.sees L.fault L.looks L.fails) look.old look.new result
         (planning.plan_mknod header.now asked.now.mode asked.now.rdev asked.now.name.now now
         row.now) }
 {

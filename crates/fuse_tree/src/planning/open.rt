@@ -2,7 +2,7 @@ ghost use Rattle.std.specs.Prelude.{◌≡◌, None, IfOk};
 ghost use Rattle.fuse_tree.specs.Opening.{open_fault};
 ghost use Rattle.fuse_tree.specs.inner.PlanOpening as planning;
 ghost use Rattle.fuse_tree.specs.inner.PlanOpening.{opened_changes, plan_opened, plan_open_node};
-ghost use Rattle.fuse_tree.specs.inner.Reading.{LooksUp};
+ghost use Rattle.fuse_tree.specs.inner.Reading.{LooksUp, view};
 
 use super::answers::refused;
 use super::attributes::{is_directory, is_regular_file};
@@ -23,7 +23,7 @@ pub(crate) fn plan_open<L: Look>(
     row: &NodeRow,
 ) -> Result<Planned, PlanFault>
     requires { L.fault look.old ≡ None }
-    ensures { LooksUp L.is_clean L.sees L.fault L.looks L.fails look.old look.new result
+    ensures { LooksUp (view L.is_clean L.sees L.fault L.looks L.fails) look.old look.new result
         (planning.plan_open flags row.now) }
 {
     if is_directory(row.mode) {
@@ -45,7 +45,7 @@ pub(crate) fn plan_open_dir<L: Look>(
     row: &NodeRow,
 ) -> Result<Planned, PlanFault>
     requires { L.fault look.old ≡ None }
-    ensures { LooksUp L.is_clean L.sees L.fault L.looks L.fails look.old look.new result
+    ensures { LooksUp (view L.is_clean L.sees L.fault L.looks L.fails) look.old look.new result
         (planning.plan_open_dir row.now) }
 {
     if !is_directory(row.mode) {
@@ -62,7 +62,7 @@ fn open_node<L: Look>(
     node: u64,
 ) -> Result<Planned, PlanFault>
     requires { L.fault look.old ≡ None }
-    ensures { LooksUp L.is_clean L.sees L.fault L.looks L.fails look.old look.new result
+    ensures { LooksUp (view L.is_clean L.sees L.fault L.looks L.fails) look.old look.new result
         (plan_open_node access node) }
 {
     let counters = find_counters(look)?;

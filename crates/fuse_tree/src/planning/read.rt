@@ -3,7 +3,7 @@ ghost use Rattle.fuse_answer.specs.declared.answer.TheConstants.{MAX_BODY as max
 ghost use Rattle.fuse_tree.specs.Rows.{bytes_at};
 ghost use Rattle.fuse_tree.specs.Writing as writing;
 ghost use Rattle.fuse_tree.specs.inner.PlanWriting as planning;
-ghost use Rattle.fuse_tree.specs.inner.Reading.{LooksUp};
+ghost use Rattle.fuse_tree.specs.inner.Reading.{LooksUp, view};
 
 use super::answers::{refused, unchanged};
 use super::attributes::is_directory;
@@ -25,7 +25,7 @@ pub(crate) fn plan_read<L: Look>(
     row: &NodeRow,
 ) -> Result<Planned, PlanFault>
     requires { L.fault look.old ≡ None }
-    ensures { LooksUp L.is_clean L.sees L.fault L.looks L.fails look.old look.new result
+    ensures { LooksUp (view L.is_clean L.sees L.fault L.looks L.fails) look.old look.new result
         (planning.plan_read asked.now row.now) }
 {
     if !may_read(find_access(look, asked.fh, row.node)?) {
@@ -57,7 +57,7 @@ fn find_bytes<L: Look>(
 ) -> Result<ByteList, PlanFault>
     requires fault { L.fault look.old ≡ None }
     requires size { size ≤ max_body }
-    ensures bytes { LooksUp L.is_clean L.sees L.fault L.looks L.fails look.old look.new result
+    ensures bytes { LooksUp (view L.is_clean L.sees L.fault L.looks L.fails) look.old look.new result
         (λ rows. bytes_at rows number offset size) }
     ensures short { IfOk result (λ bytes. length bytes ≤ max_body) }
 {

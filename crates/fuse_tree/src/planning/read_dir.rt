@@ -10,7 +10,7 @@ ghost use Rattle.fuse_tree.specs.inner.PlanListing as planning;
 ghost use Rattle.fuse_tree.specs.inner.PlanListing.{dots_after, row_above, row_entry, row_len};
 ghost use Rattle.fuse_tree.specs.inner.PlanListing.{plan_prefix, plan_list, ReadsBy, IsCut, IsShown};
 ghost use Rattle.fuse_tree.specs.inner.Reading as planned;
-ghost use Rattle.fuse_tree.specs.inner.Reading.{Reports, told, LooksUp, Looked};
+ghost use Rattle.fuse_tree.specs.inner.Reading.{Reports, told, LooksUp, Looked, view};
 ghost use Rattle.fuse_tree.specs.declared.limits.TheConstants.{MAX_READ as max_read};
 ghost use Rattle.fuse_tree.specs.declared.mode.TheConstants.{S_IFDIR as s_ifdir};
 
@@ -35,7 +35,7 @@ pub(crate) fn plan_read_dir<L: Look>(
     row: &NodeRow,
 ) -> Result<Planned, PlanFault>
     requires { L.fault look.old ≡ None }
-    ensures { LooksUp L.is_clean L.sees L.fault L.looks L.fails look.old look.new result
+    ensures { LooksUp (view L.is_clean L.sees L.fault L.looks L.fails) look.old look.new result
         (planning.plan_read_dir asked.now row.now) }
 {
     if !is_open_at(look, asked.fh, row.node)? {
@@ -63,7 +63,7 @@ fn list<L: Look>(
 ) -> Result<Planned, PlanFault>
     requires fault { L.fault look.old ≡ None }
     requires size { size ≤ max_read }
-    ensures { LooksUp L.is_clean L.sees L.fault L.looks L.fails look.old look.new result
+    ensures { LooksUp (view L.is_clean L.sees L.fault L.looks L.fails) look.old look.new result
         (plan_list offset size row.now) }
 {
     let enough = size / LEAST_ENTRY + 1;

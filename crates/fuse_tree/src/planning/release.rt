@@ -1,7 +1,7 @@
 ghost use Rattle.std.specs.Prelude.{◌≡◌, ◌≢◌, None, IfOk};
 ghost use Rattle.fuse_tree.specs.inner.PlanOpening as planning;
 ghost use Rattle.fuse_tree.specs.inner.PlanOpening.{plan_closed, plan_close};
-ghost use Rattle.fuse_tree.specs.inner.Reading.{LooksUp};
+ghost use Rattle.fuse_tree.specs.inner.Reading.{LooksUp, view};
 
 use super::answers::refused;
 use super::attributes::is_directory;
@@ -21,7 +21,7 @@ pub(crate) fn plan_release<L: Look>(
     row: &NodeRow,
 ) -> Result<Planned, PlanFault>
     requires { L.fault look.old ≡ None }
-    ensures { LooksUp L.is_clean L.sees L.fault L.looks L.fails look.old look.new result
+    ensures { LooksUp (view L.is_clean L.sees L.fault L.looks L.fails) look.old look.new result
         (planning.plan_release fh row.now) }
 {
     let kind_fault = if is_directory(row.mode) {
@@ -40,7 +40,7 @@ pub(crate) fn plan_release_dir<L: Look>(
     row: &NodeRow,
 ) -> Result<Planned, PlanFault>
     requires { L.fault look.old ≡ None }
-    ensures { LooksUp L.is_clean L.sees L.fault L.looks L.fails look.old look.new result
+    ensures { LooksUp (view L.is_clean L.sees L.fault L.looks L.fails) look.old look.new result
         (planning.plan_release_dir fh row.now) }
 {
     let kind_fault = if is_directory(row.mode) {
@@ -61,7 +61,7 @@ fn close<L: Look>(
     node: u64,
 ) -> Result<Planned, PlanFault>
     requires { L.fault look.old ≡ None }
-    ensures { LooksUp L.is_clean L.sees L.fault L.looks L.fails look.old look.new result
+    ensures { LooksUp (view L.is_clean L.sees L.fault L.looks L.fails) look.old look.new result
         (plan_close fh kind_fault node) }
 {
     if !is_open_at(look, fh, node)? {

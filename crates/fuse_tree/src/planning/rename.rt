@@ -2,7 +2,7 @@ ghost use Rattle.std.specs.Prelude.{◌≡◌, ◌==◌, ◌&&◌, nat_eq, None,
 ghost use Rattle.std.specs.Cmp.Lexicographic.{pointwise};
 ghost use Rattle.fuse_tree.specs.State.{is_dir};
 ghost use Rattle.fuse_tree.specs.Rows.{row_is_named};
-ghost use Rattle.fuse_tree.specs.inner.Reading.{IsWithin, LooksUp};
+ghost use Rattle.fuse_tree.specs.inner.Reading.{IsWithin, LooksUp, view};
 ghost use Rattle.fuse_tree.specs.inner.PlanRemoving.{link_at};
 ghost use Rattle.fuse_tree.specs.Renaming as renaming;
 ghost use Rattle.fuse_tree.specs.Renaming.{asked_fault};
@@ -65,7 +65,7 @@ pub(crate) fn plan_rename<L: Look>(
 ) -> Result<Planned, PlanFault>
     requires fault { L.fault look.old ≡ None }
     requires within { IsWithin from.now }
-    ensures { LooksUp L.is_clean L.sees L.fault L.looks L.fails look.old look.new result
+    ensures { LooksUp (view L.is_clean L.sees L.fault L.looks L.fails) look.old look.new result
         (planning.plan_rename (renaming_of asked.now) from.now) }
 {
     let Some(to) = find_new_dir(look, asked.new_dir, from)? else {
@@ -85,7 +85,7 @@ fn find_new_dir<L: Look>(
 ) -> Result<Option<NodeRow>, PlanFault>
     requires fault { L.fault look.old ≡ None }
     requires within { IsWithin from.now }
-    ensures row { LooksUp L.is_clean L.sees L.fault L.looks L.fails look.old look.new result
+    ensures row { LooksUp (view L.is_clean L.sees L.fault L.looks L.fails) look.old look.new result
         (new_dir_at new_dir from.now) }
     ensures within { IfOk result (λ row. IfSome row IsWithin) }
 {
@@ -131,7 +131,7 @@ fn rename_from<L: Look>(
     requires fault { L.fault look.old ≡ None }
     requires from_within { IsWithin from.now }
     requires to_within { IsWithin to.now }
-    ensures { LooksUp L.is_clean L.sees L.fault L.looks L.fails look.old look.new result
+    ensures { LooksUp (view L.is_clean L.sees L.fault L.looks L.fails) look.old look.new result
         (λ rows. plan_rename_from (renaming_of asked.now) from.now to.now
         (link_at rows from.now.node asked.now.old_name.now) rows) }
 {
@@ -153,7 +153,7 @@ fn rename_to<L: Look>(
     requires fault { L.fault look.old ≡ None }
     requires from_within { IsWithin from.now }
     requires to_within { IsWithin to.now }
-    ensures { LooksUp L.is_clean L.sees L.fault L.looks L.fails look.old look.new result
+    ensures { LooksUp (view L.is_clean L.sees L.fault L.looks L.fails) look.old look.new result
         (λ rows. plan_rename_by (renaming_of asked.now) from.now to.now source.now
         (other_at (renaming_of asked.now) from.now.node source.now rows) rows) }
 {
@@ -169,7 +169,7 @@ fn find_other<L: Look>(
     source: &Link,
 ) -> Result<Option<Link>, PlanFault>
     requires { L.fault look.old ≡ None }
-    ensures { LooksUp L.is_clean L.sees L.fault L.looks L.fails look.old look.new result
+    ensures { LooksUp (view L.is_clean L.sees L.fault L.looks L.fails) look.old look.new result
         (λ rows. other_at (renaming_of asked.now) dir source.now rows) }
 {
     if is_one_place(asked, dir) {
@@ -199,7 +199,7 @@ fn rename_by<L: Look>(
     requires fault { L.fault look.old ≡ None }
     requires from_within { IsWithin from.now }
     requires to_within { IsWithin to.now }
-    ensures { LooksUp L.is_clean L.sees L.fault L.looks L.fails look.old look.new result
+    ensures { LooksUp (view L.is_clean L.sees L.fault L.looks L.fails) look.old look.new result
         (plan_rename_by (renaming_of asked.now) from.now to.now source.now other) }
 {
     match asked.mode {
@@ -222,7 +222,7 @@ fn rename_link<L: Look>(
     requires fault { L.fault look.old ≡ None }
     requires from_within { IsWithin from.now }
     requires to_within { IsWithin to.now }
-    ensures { LooksUp L.is_clean L.sees L.fault L.looks L.fails look.old look.new result
+    ensures { LooksUp (view L.is_clean L.sees L.fault L.looks L.fails) look.old look.new result
         (plan_rename_link (renaming_of asked.now) from.now to.now source.now other) }
 {
     if is_same(source, other) {
@@ -253,7 +253,7 @@ pub(crate) fn is_held<L: Look>(
     dir: u64,
 ) -> Result<bool, PlanFault>
     requires { L.fault look.old ≡ None }
-    ensures { LooksUp L.is_clean L.sees L.fault L.looks L.fails look.old look.new result
+    ensures { LooksUp (view L.is_clean L.sees L.fault L.looks L.fails) look.old look.new result
         (λ rows. row_holds rows child.now from dir) }
 {
     if !is_directory(child.mode) {
@@ -278,7 +278,7 @@ fn rename_fitting<L: Look>(
     requires fault { L.fault look.old ≡ None }
     requires from_within { IsWithin from.now }
     requires to_within { IsWithin to.now }
-    ensures { LooksUp L.is_clean L.sees L.fault L.looks L.fails look.old look.new result
+    ensures { LooksUp (view L.is_clean L.sees L.fault L.looks L.fails) look.old look.new result
         (plan_rename_fitting (renaming_of asked.now) from.now to.now source.now other) }
 {
     if let Some(errno) = fault_of_place(look, source, other)? {
@@ -294,7 +294,7 @@ fn fault_of_place<L: Look>(
     other: Option<Link>,
 ) -> Result<Option<Errno>, PlanFault>
     requires { L.fault look.old ≡ None }
-    ensures { LooksUp L.is_clean L.sees L.fault L.looks L.fails look.old look.new result
+    ensures { LooksUp (view L.is_clean L.sees L.fault L.looks L.fails) look.old look.new result
         (λ rows. link_fault rows source.now other) }
 {
     let Some(other) = other else {
@@ -317,7 +317,7 @@ fn fault_of_place<L: Look>(
 // A node in which an entry stands can't be replaced.
 fn fault_of_entries<L: Look>(look: &mut L, dir: u64) -> Result<Option<Errno>, PlanFault>
     requires { L.fault look.old ≡ None }
-    ensures { LooksUp L.is_clean L.sees L.fault L.looks L.fails look.old look.new result
+    ensures { LooksUp (view L.is_clean L.sees L.fault L.looks L.fails) look.old look.new result
         (λ rows. planning.entries_fault rows dir) }
 {
     if has_entries(look, dir)? {
@@ -340,7 +340,7 @@ fn rename_with_room<L: Look>(
     requires fault { L.fault look.old ≡ None }
     requires from_within { IsWithin from.now }
     requires to_within { IsWithin to.now }
-    ensures { LooksUp L.is_clean L.sees L.fault L.looks L.fails look.old look.new result
+    ensures { LooksUp (view L.is_clean L.sees L.fault L.looks L.fails) look.old look.new result
         (plan_rename_with_room (renaming_of asked.now) from.now to.now source.now other) }
 {
     let counters = find_counters(look)?;

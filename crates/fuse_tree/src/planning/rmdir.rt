@@ -1,7 +1,7 @@
 ghost use Rattle.std.specs.Prelude.{◌≡◌, None};
 ghost use Rattle.fuse_tree.specs.inner.PlanRemoving as planning;
 ghost use Rattle.fuse_tree.specs.inner.PlanRemoving.{plan_rmdir_named, plan_rmdir_empty};
-ghost use Rattle.fuse_tree.specs.inner.Reading.{LooksUp};
+ghost use Rattle.fuse_tree.specs.inner.Reading.{LooksUp, view};
 
 use super::answers::refused;
 use super::attributes::is_directory;
@@ -23,7 +23,7 @@ pub(crate) fn plan_rmdir<L: Look>(
     row: &NodeRow,
 ) -> Result<Planned, PlanFault>
     requires { L.fault look.old ≡ None }
-    ensures { LooksUp L.is_clean L.sees L.fault L.looks L.fails look.old look.new result
+    ensures { LooksUp (view L.is_clean L.sees L.fault L.looks L.fails) look.old look.new result
         (planning.plan_rmdir name.now now row.now) }
 {
     if !is_directory(row.mode) {
@@ -44,7 +44,7 @@ fn rmdir_named<L: Look>(
     row: &NodeRow,
 ) -> Result<Planned, PlanFault>
     requires { L.fault look.old ≡ None }
-    ensures { LooksUp L.is_clean L.sees L.fault L.looks L.fails look.old look.new result
+    ensures { LooksUp (view L.is_clean L.sees L.fault L.looks L.fails) look.old look.new result
         (plan_rmdir_named name.now now row.now) }
 {
     if !row.is_named() {
@@ -68,7 +68,7 @@ fn rmdir_empty<L: Look>(
     row: &NodeRow,
 ) -> Result<Planned, PlanFault>
     requires { L.fault look.old ≡ None }
-    ensures { LooksUp L.is_clean L.sees L.fault L.looks L.fails look.old look.new result
+    ensures { LooksUp (view L.is_clean L.sees L.fault L.looks L.fails) look.old look.new result
         (plan_rmdir_empty now link.now row.now) }
 {
     if has_entries(look, link.child.node)? {

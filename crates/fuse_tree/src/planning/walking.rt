@@ -3,7 +3,7 @@ ghost use Rattle.fuse_tree.specs.State.{up_of, above};
 ghost use Rattle.fuse_tree.specs.Rows.{Rows, IsRowed};
 ghost use Rattle.fuse_tree.specs.Plan.{look_fault};
 ghost use Rattle.fuse_tree.specs.Renaming.{leads_to};
-ghost use Rattle.fuse_tree.specs.inner.Reading.{Reports, LooksUp, Looked};
+ghost use Rattle.fuse_tree.specs.inner.Reading.{Reports, LooksUp, Looked, view};
 
 use super::fault::PlanFault;
 use super::finding::{find_counters, find_node};
@@ -14,7 +14,7 @@ use crate::look::Look;
 #[tactic(auto, using(crate::proofs::Walking::row_up, crate::proofs::Walking::none_up))]
 fn find_up<L: Look>(look: &mut L, number: u64) -> Result<u64, PlanFault>
     requires { L.fault look.old ≡ None }
-    ensures { LooksUp L.is_clean L.sees L.fault L.looks L.fails look.old look.new result
+    ensures { LooksUp (view L.is_clean L.sees L.fault L.looks L.fails) look.old look.new result
         (λ rows. up_of rows.entries number) }
 {
     match find_node(look, number)? {
@@ -28,7 +28,7 @@ fn find_up<L: Look>(look: &mut L, number: u64) -> Result<u64, PlanFault>
 #[tactic(auto, using(crate::proofs::Walking::rows_end, crate::proofs::Walking::rows_few))]
 pub(crate) fn lies_in<L: Look>(look: &mut L, node: u64, dir: u64) -> Result<bool, PlanFault>
     requires { L.fault look.old ≡ None }
-    ensures { LooksUp L.is_clean L.sees L.fault L.looks L.fails look.old look.new result
+    ensures { LooksUp (view L.is_clean L.sees L.fault L.looks L.fails) look.old look.new result
         (λ rows. leads_to rows.entries rows.counters.nodes node dir) }
 {
     let counters = find_counters(look)?;

@@ -4,7 +4,7 @@ ghost use Rattle.fuse_tree.specs.Writing as writing;
 ghost use Rattle.fuse_tree.specs.Writing.{count_body};
 ghost use Rattle.fuse_tree.specs.inner.PlanWriting as planning;
 ghost use Rattle.fuse_tree.specs.inner.PlanWriting.{written_row, write_changes, plan_written};
-ghost use Rattle.fuse_tree.specs.inner.Reading.{told, LooksUp};
+ghost use Rattle.fuse_tree.specs.inner.Reading.{told, LooksUp, view};
 
 use super::answers::{refused, unchanged};
 use super::fault::PlanFault;
@@ -27,7 +27,7 @@ pub(crate) fn plan_write<L: Look>(
     row: &NodeRow,
 ) -> Result<Planned, PlanFault>
     requires { L.fault look.old ≡ None }
-    ensures { LooksUp L.is_clean L.sees L.fault L.looks L.fails look.old look.new result
+    ensures { LooksUp (view L.is_clean L.sees L.fault L.looks L.fails) look.old look.new result
         (planning.plan_write fh offset payload.now now row.now) }
 {
     if !may_write(find_access(look, fh, row.node)?) {

@@ -15,7 +15,7 @@ struct Closed {
 
 impl Keeper for Closed {
     ghost use Rattle.fuse_tree.specs.TheTree.{the_tree};
-    ghost use Rattle.fuse_tree.specs.PlainTree.{tree_told};
+    ghost use Rattle.spec_tests.specs.inner.TreeInLists.{tree_told};
     ghost use Rattle.std.proofs.Common.{sym, ◌∙◌};
 
     ghost model = { the_tree };

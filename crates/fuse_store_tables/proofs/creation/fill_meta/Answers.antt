@@ -1,6 +1,7 @@
 use Rattle.sqlite.specs.Held.{state}
 use Rattle.fuse_store_tables.specs.Layout.{no_schema, store_schema}
-use Rattle.fuse_store_tables.specs.Making.{IsBare, HasCounters}
+use Rattle.fuse_store_tables.specs.Making.{IsBare}
+use Rattle.fuse_store_tables.specs.inner.Steps.{HasCounters}
 use Rattle.fuse_store_tables.proofs.Joining.{then_as}
 use Rattle.fuse_store_tables.proofs.MakingLemmas.{fill}
 use Rattle.fuse_store_tables.proofs.creation.fill_meta.Goals as goal

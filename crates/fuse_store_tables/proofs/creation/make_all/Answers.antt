@@ -2,7 +2,8 @@ use Rattle.std.specs.Prelude.{⊤}
 use Rattle.sqlite.specs.Held.{state}
 use Rattle.fuse_store_tables.specs.Layout.{no_schema}
 use Rattle.fuse_store_tables.specs.Content.{Holds, with_node}
-use Rattle.fuse_store_tables.specs.Making.{IsBare, HasCounters, IsNew, root, counters_alone, new_store}
+use Rattle.fuse_store_tables.specs.Making.{IsBare, IsNew, root, counters_alone, new_store}
+use Rattle.fuse_store_tables.specs.inner.Steps.{HasCounters}
 use Rattle.fuse_store_tables.proofs.Joining.{then_as, taken_from}
 use Rattle.fuse_store_tables.proofs.Either.{narrowed_if}
 use Rattle.fuse_store_tables.proofs.Fitting.{fit_new}

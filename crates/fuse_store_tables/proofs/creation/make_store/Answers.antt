@@ -1,7 +1,7 @@
 use Rattle.sqlite.specs.Held.{state}
 use Rattle.fuse_store_tables.specs.Layout.{no_schema}
 use Rattle.fuse_store_tables.specs.Making.{IsBare, IsNew}
-use Rattle.fuse_store_tables.specs.Following.{earlier}
+use Rattle.fuse_store_tables.specs.inner.Following.{earlier}
 use Rattle.fuse_store_tables.proofs.Joining.{undone}
 use Rattle.fuse_store_tables.proofs.creation.make_store.Goals as goal
 

@@ -1,7 +1,7 @@
 use Rattle.sqlite.specs.Held.{state}
 use Rattle.fuse_store_tables.specs.Layout.{no_schema}
 use Rattle.fuse_store_tables.specs.Making.{IsBare, IsNew}
-use Rattle.fuse_store_tables.specs.Moves.{PerformsAs}
+use Rattle.fuse_store_tables.specs.inner.Performing.{PerformsAs}
 use Rattle.fuse_store_tables.proofs.Joining.{failed_first, failed_inside, failed_commit, committed, on_err}
 use Rattle.fuse_store_tables.proofs.creation.transact.Goals as goal
 

@@ -1,6 +1,6 @@
 use Rattle.std.proofs.Common.{◌<◌, refl, length, slice_index_or, ap, subst, arith, ◌∙◌}
 use Rattle.std.proofs.lemmas.List.{length-map}
-use Rattle.fuse_store_tables.specs.Opening.{shown_meta}
+use Rattle.fuse_store_tables.specs.inner.Columns.{shown_meta}
 use Rattle.fuse_store_tables.proofs.MetaLemmas.{meta_length, row_at, starts_more}
 use Rattle.fuse_store_tables.proofs.meta.check_rows.Goals as goal
 

@@ -1,5 +1,6 @@
 use Rattle.sqlite.specs.Held.{state}
-use Rattle.fuse_store_tables.specs.Opening.{IsFirst, HasLots, HasKept}
+use Rattle.fuse_store_tables.specs.Opening.{IsFirst}
+use Rattle.fuse_store_tables.specs.inner.Steps.{HasLots, HasKept}
 use Rattle.fuse_store_tables.proofs.Joining.{then_as}
 use Rattle.fuse_store_tables.proofs.MigrationLemmas.{adds_kept_table}
 use Rattle.fuse_store_tables.proofs.migration.add_kept.Goals as goal

@@ -1,5 +1,6 @@
 use Rattle.sqlite.specs.Held.{state}
-use Rattle.fuse_store_tables.specs.Opening.{IsFirst, HasKept, HasTables}
+use Rattle.fuse_store_tables.specs.Opening.{IsFirst}
+use Rattle.fuse_store_tables.specs.inner.Steps.{HasKept, HasTables}
 use Rattle.fuse_store_tables.proofs.Joining.{then_as}
 use Rattle.fuse_store_tables.proofs.MigrationLemmas.{adds_index}
 use Rattle.fuse_store_tables.proofs.migration.add_tables.Goals as goal

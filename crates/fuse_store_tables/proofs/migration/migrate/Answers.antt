@@ -1,6 +1,7 @@
 use Rattle.sqlite.specs.Held.{state}
 use Rattle.fuse_store_tables.specs.Content.{Holds}
-use Rattle.fuse_store_tables.specs.Opening.{IsFirst, HasTables, IsOpened, moved, marked}
+use Rattle.fuse_store_tables.specs.Opening.{IsFirst, IsOpened, marked}
+use Rattle.fuse_store_tables.specs.inner.Steps.{HasTables, moved}
 use Rattle.fuse_store_tables.proofs.Joining.{then_as, fails_next, made_from}
 use Rattle.fuse_store_tables.proofs.Either.{sub_from, narrowed_if}
 use Rattle.fuse_store_tables.proofs.MigrationLemmas.{first_opened}

@@ -1,6 +1,6 @@
 use Rattle.fuse_store_tables.specs.Content.{Holds}
-use Rattle.fuse_store_tables.specs.Opening.{with_copies, moved}
-use Rattle.fuse_store_tables.specs.Content.{with_lot, without_answers}
+use Rattle.fuse_store_tables.specs.inner.Steps.{with_copies, moved, without_answers}
+use Rattle.fuse_store_tables.specs.Content.{with_lot}
 use Rattle.fuse_store_tables.proofs.Joining.{makes_then, fails_next, made_from}
 use Rattle.fuse_store_tables.proofs.migration.move_records.Goals as goal
 

@@ -6,7 +6,7 @@ use Rattle.fuse_store_tables.specs.Clearing.{cleared}
 use Rattle.fuse_store_tables.specs.Moves.{Serves}
 use Rattle.fuse_store_tables.proofs.Joining.{served, undone}
 use Rattle.fuse_store_tables.proofs.Fitting.{fit_cleared, second_serves}
-use Rattle.fuse_store_tables.specs.Transaction.{open_undone}
+use Rattle.fuse_store_tables.specs.inner.Transaction.{open_undone}
 use Rattle.fuse_store_tables.proofs.mount.begin_mount.Goals as goal
 
 pub returns-in-Ok-clause-fit : goal.returns-in-Ok-clause-fit

@@ -1,5 +1,6 @@
 use Rattle.fuse_store_tables.specs.Content.{Holds}
-use Rattle.fuse_store_tables.specs.Clearing.{without_records, without_all_handles, without_settings, without_unnamed_nodes, cleared}
+use Rattle.fuse_store_tables.specs.Clearing.{without_settings, cleared}
+use Rattle.fuse_store_tables.specs.inner.Steps.{without_records, without_all_handles, without_unnamed_nodes}
 use Rattle.fuse_store_tables.proofs.Joining.{makes_then, fails_next, made_from, sure_then}
 use Rattle.fuse_store_tables.proofs.mount.clear.Goals as goal
 

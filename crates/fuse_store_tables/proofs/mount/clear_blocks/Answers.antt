@@ -1,7 +1,9 @@
 use Rattle.std.proofs.Common.{◌≡◌, map, ◌∙◌}
 use Rattle.sqlite.specs.Held.{state}
 use Rattle.fuse_store_tables.specs.Content.{Holds}
-use Rattle.fuse_store_tables.specs.Clearing.{number_of, shown_number, unnamed_numbers, without_blocks_of, without_unnamed_blocks}
+use Rattle.fuse_store_tables.specs.Clearing.{unnamed_numbers}
+use Rattle.fuse_store_tables.specs.inner.Columns.{number_of, shown_number}
+use Rattle.fuse_store_tables.specs.inner.Steps.{without_blocks_of, without_unnamed_blocks}
 use Rattle.fuse_store_tables.proofs.BlocksOf.{unnamed_blocks}
 use Rattle.fuse_store_tables.proofs.Joining.{makes_as_too, sure_after, told_of}
 use Rattle.fuse_store_tables.proofs.mount.clear_blocks.Goals as goal

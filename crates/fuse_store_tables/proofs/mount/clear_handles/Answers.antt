@@ -1,6 +1,6 @@
 use Rattle.sqlite.specs.Held.{state}
 use Rattle.fuse_store_tables.specs.Content.{set_counter}
-use Rattle.fuse_store_tables.specs.Content.{without_handles}
+use Rattle.fuse_store_tables.specs.inner.Steps.{without_handles}
 use Rattle.fuse_store_tables.proofs.Joining.{makes_then}
 use Rattle.fuse_store_tables.proofs.mount.clear_handles.Goals as goal
 

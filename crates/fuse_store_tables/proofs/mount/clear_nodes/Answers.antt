@@ -1,5 +1,5 @@
-use Rattle.fuse_store_tables.specs.Content.{Holds, without_unnamed}
-use Rattle.fuse_store_tables.specs.Clearing.{without_unnamed_blocks, with_nodes_counted, without_unnamed_nodes}
+use Rattle.fuse_store_tables.specs.Content.{Holds}
+use Rattle.fuse_store_tables.specs.inner.Steps.{without_unnamed, without_unnamed_blocks, with_nodes_counted, without_unnamed_nodes}
 use Rattle.fuse_store_tables.proofs.Joining.{makes_then, fails_next, made_from, sure_then}
 use Rattle.fuse_store_tables.proofs.mount.clear_nodes.Goals as goal
 

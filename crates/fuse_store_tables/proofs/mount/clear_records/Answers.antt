@@ -1,6 +1,5 @@
 use Rattle.sqlite.specs.Held.{state}
-use Rattle.fuse_store_tables.specs.Content.{without_all_kept}
-use Rattle.fuse_store_tables.specs.Content.{without_lots}
+use Rattle.fuse_store_tables.specs.inner.Steps.{without_all_kept, without_lots}
 use Rattle.fuse_store_tables.proofs.Joining.{makes_then}
 use Rattle.fuse_store_tables.proofs.mount.clear_records.Goals as goal
 

@@ -2,7 +2,8 @@ use Rattle.std.proofs.Common.{◌≡◌, ◌+◌, refl, sym, ap, subst, ◌∙�
 use Rattle.sqlite.specs.Held.{state}
 use Rattle.sqlite.specs.Order.{column}
 use Rattle.fuse_store_tables.specs.Content.{without_blocks_from}
-use Rattle.fuse_store_tables.specs.Clearing.{number_in, number_of, shown_number, without_blocks_of}
+use Rattle.fuse_store_tables.specs.inner.Columns.{number_in, number_of, shown_number}
+use Rattle.fuse_store_tables.specs.inner.Steps.{without_blocks_of}
 use Rattle.fuse_store_tables.proofs.BlocksOf.{with_more, shown_at}
 use Rattle.fuse_store_tables.proofs.Joining.{makes_then, makes_none, makes_same}
 use Rattle.fuse_store_tables.proofs.mount.delete_blocks_of.Goals as goal

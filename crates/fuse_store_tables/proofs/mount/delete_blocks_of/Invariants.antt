@@ -1,7 +1,8 @@
 use Rattle.std.proofs.Common.{length, take, map, ◌-◌, ◌≡◌, ◌≤◌, Ok}
 use Rattle.sqlite.specs.Held.{state}
 use Rattle.fuse_keeper.specs.declared.fault.StoreFault.{StoreFault}
-use Rattle.fuse_store_tables.specs.Clearing.{number_of, without_blocks_of}
+use Rattle.fuse_store_tables.specs.inner.Columns.{number_of}
+use Rattle.fuse_store_tables.specs.inner.Steps.{without_blocks_of}
 use Rattle.fuse_store_tables.specs.Moves.{Makes}
 use Rattle.fuse_store_tables.proofs.mount.delete_blocks_of.Given as goal
 

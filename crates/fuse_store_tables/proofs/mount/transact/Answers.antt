@@ -1,10 +1,10 @@
 use Rattle.sqlite.specs.Held.{state}
 use Rattle.fuse_store_tables.specs.Content.{Holds}
 use Rattle.fuse_store_tables.specs.Clearing.{cleared}
-use Rattle.fuse_store_tables.specs.Moves.{Performs}
+use Rattle.fuse_store_tables.specs.inner.Performing.{Performs}
 use Rattle.fuse_store_tables.proofs.Joining.{failed_first, failed_inside, failed_commit, committed, on_err}
 use Rattle.fuse_store_tables.specs.Moves.{StaysOpen}
-use Rattle.fuse_store_tables.specs.Transaction.{open_first, open_inside, open_failed, open_committed}
+use Rattle.fuse_store_tables.specs.inner.Transaction.{open_first, open_inside, open_failed, open_committed}
 use Rattle.fuse_store_tables.proofs.mount.transact.Goals as goal
 
 pub returns-in_err-begin-clause-performs : goal.returns-in_err-begin-clause-performs

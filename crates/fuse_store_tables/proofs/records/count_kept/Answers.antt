@@ -2,10 +2,10 @@ use Rattle.std.proofs.Common.{◌∙◌, length}
 use Rattle.sqlite.specs.Held.{state}
 use Rattle.fuse_store_tables.specs.Content.{Holds}
 use Rattle.fuse_store_tables.specs.Moves.{Rests, Serves}
-use Rattle.fuse_store_tables.specs.Following.{rests_told, rests_failed}
+use Rattle.fuse_store_tables.specs.inner.Following.{rests_told, rests_failed}
 use Rattle.fuse_store_tables.proofs.Joining.{on_err}
 use Rattle.fuse_store_tables.proofs.RecordCounts.{told_value, told_fault}
-use Rattle.fuse_store_tables.specs.Following.{open_told, open_fails}
+use Rattle.fuse_store_tables.specs.inner.Following.{open_told, open_fails}
 use Rattle.fuse_store_tables.proofs.records.count_kept.Goals as goal
 
 pub returns-in_err-rows-clause-rests : goal.returns-in_err-rows-clause-rests

@@ -1,9 +1,9 @@
 use Rattle.sqlite.specs.Held.{state}
 use Rattle.std.proofs.Common.{subst}
-use Rattle.fuse_store_tables.specs.Following.{earlier}
+use Rattle.fuse_store_tables.specs.inner.Following.{earlier}
 use Rattle.fuse_store_tables.specs.Opening.{IsStored, IsOpened}
 use Rattle.fuse_store_tables.specs.Saying.{IsTabled}
-use Rattle.fuse_store_tables.specs.Moves.{PerformsAs}
+use Rattle.fuse_store_tables.specs.inner.Performing.{PerformsAs}
 use Rattle.fuse_store_tables.proofs.Joining.{failed_first, failed_inside, failed_commit, committed, on_err}
 use Rattle.fuse_store_tables.proofs.setup.transact.Goals as goal
 

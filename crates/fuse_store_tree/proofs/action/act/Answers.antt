@@ -4,8 +4,8 @@ use Rattle.fuse_request.specs.Act.{asked}
 use Rattle.fuse_tree.specs.Do.{done}
 use Rattle.fuse_store_tree.proofs.Changes.{acted}
 use Rattle.fuse_store_tree.proofs.Steps.{keeps_of, looked_keeps}
-use Rattle.fuse_store_tables.specs.Following.{earlier}
-use Rattle.fuse_store_tree.specs.Laws.{looked_ready}
+use Rattle.fuse_store_tables.specs.inner.Following.{earlier}
+use Rattle.fuse_store_tree.specs.inner.Laws.{looked_ready}
 use Rattle.fuse_store_tree.specs.Holding.{store_of}
 use Rattle.fuse_store_tree.proofs.Turning.{told_in}
 use Rattle.fuse_store_tree.proofs.Sure.{no_plan, no_plan_plain, ready_held}

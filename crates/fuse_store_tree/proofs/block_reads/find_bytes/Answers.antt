@@ -1,8 +1,8 @@
 use Rattle.std.proofs.Common.{sym, ap, arith, ◌∙◌, ◌^◌}
 use Rattle.sqlite.specs.Held.{state}
 use Rattle.fuse_store_tables.specs.Content.{node_key}
-use Rattle.fuse_store_tree.specs.Laws.{looked_fails}
-use Rattle.fuse_store_tree.specs.Store.{bytes_told}
+use Rattle.fuse_store_tree.specs.inner.Laws.{looked_fails}
+use Rattle.fuse_store_tree.specs.inner.Reading.{bytes_told}
 use Rattle.fuse_store_tree.proofs.Looks.{none_found, all_map, always_err}
 use Rattle.fuse_store_tree.proofs.block_reads.find_bytes.Goals as goal
 

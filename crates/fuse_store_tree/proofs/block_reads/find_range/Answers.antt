@@ -1,7 +1,8 @@
 use Rattle.std.proofs.Common.{refl, ◌+◌, ◌++◌, ap, sym, arith, ◌∙◌}
 use Rattle.sqlite.specs.Held.{state}
-use Rattle.fuse_store_tree.specs.Laws.{looked_then, looked_clean}
-use Rattle.fuse_store_tree.specs.Store.{byte_in, range_of}
+use Rattle.fuse_store_tree.specs.inner.Laws.{looked_then, looked_clean}
+use Rattle.fuse_store_tree.specs.Store.{byte_in}
+use Rattle.fuse_store_tree.specs.inner.Reading.{range_of}
 use Rattle.fuse_store_tree.proofs.Ranges.{range_more}
 use Rattle.fuse_store_tree.proofs.block_reads.find_range.Goals as goal
 

@@ -4,7 +4,8 @@ use Rattle.sqlite.specs.Held.{state}
 use Rattle.fuse_store_tables.specs.Content.{Content}
 use Rattle.fuse_store_tree.specs.Fits.{Fits}
 use Rattle.fuse_store_tables.specs.Moves.{Inside, Looked}
-use Rattle.fuse_store_tree.specs.Store.{byte_in, range_of}
+use Rattle.fuse_store_tree.specs.Store.{byte_in}
+use Rattle.fuse_store_tree.specs.inner.Reading.{range_of}
 use Rattle.fuse_store_tree.proofs.block_reads.find_range.Given as goal
 
 abbrev pub invariant-pieces : goal.invariant-pieces

@@ -1,10 +1,11 @@
 use Rattle.std.proofs.Common.{refl, ◌-◌, ◌+◌, ◌≡◌, sym, subst, arith, length, take, drop}
 use Rattle.std.proofs.lemmas.List.{length-take-le}
 use Rattle.sqlite.specs.Held.{state}
-use Rattle.fuse_store_tree.specs.Changing.{Overlaid}
+use Rattle.fuse_store_tree.specs.inner.Changing.{Overlaid}
 use Rattle.fuse_store_tree.proofs.Writes.{overlaid_keeps, overlaid_then, nothing_overlaid}
 use Rattle.fuse_store_tree.proofs.Overlays.{take_plus}
-use Rattle.fuse_store_tree.specs.Store.{HeldAs, overlay}
+use Rattle.fuse_store_tree.specs.Store.{HeldAs}
+use Rattle.fuse_store_tree.specs.inner.Writing.{overlay}
 use Rattle.std.proofs.Common.{Err, Result}
 use Rattle.fuse_keeper.specs.declared.fault.StoreFault.{StoreFault}
 use Rattle.fuse_store_tree.proofs.Sure.{fault_next, sure_bytes}

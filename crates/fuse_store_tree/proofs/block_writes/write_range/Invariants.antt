@@ -1,6 +1,6 @@
 use Rattle.std.proofs.Common.{◌-◌, ◌≡◌, ◌≤◌, length, take}
 use Rattle.sqlite.specs.Held.{state}
-use Rattle.fuse_store_tree.specs.Changing.{Overlaid}
+use Rattle.fuse_store_tree.specs.inner.Changing.{Overlaid}
 use Rattle.fuse_store_tree.proofs.block_writes.write_range.Given as goal
 
 abbrev pub invariant-pieces : goal.invariant-pieces

@@ -3,7 +3,8 @@ use Rattle.sqlite.specs.Order.{Row}
 use Rattle.std.proofs.Math.ListN.{get_or-map}
 use Rattle.sqlite.specs.Order.{column}
 use Rattle.fuse_store_tables.specs.Content.{shown_counter}
-use Rattle.fuse_store_tree.specs.Store.{value_of, counter}
+use Rattle.fuse_store_tree.specs.Store.{counter}
+use Rattle.fuse_store_tree.specs.inner.Reading.{value_of}
 use Rattle.fuse_store_tree.proofs.Looks.{map_err}
 use Rattle.fuse_store_tree.proofs.counters.value_at.Goals as goal
 

@@ -1,6 +1,6 @@
 use Rattle.sqlite.specs.Held.{state}
 use Rattle.fuse_keeper.specs.Group.{ids_of, entries_of}
-use Rattle.fuse_store_tables.specs.Following.{earlier}
+use Rattle.fuse_store_tables.specs.inner.Following.{earlier}
 use Rattle.fuse_store_tree.specs.Group.{prepared}
 use Rattle.fuse_store_tree.proofs.Turning.{turned_keeps}
 use Rattle.fuse_store_tree.proofs.Groups.{grouped, dones_are}

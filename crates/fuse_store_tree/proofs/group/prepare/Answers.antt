@@ -1,7 +1,7 @@
 use Rattle.std.proofs.Common.{◌∙◌}
 use Rattle.sqlite.specs.Held.{state}
 use Rattle.fuse_keeper.specs.Group.{ids_of}
-use Rattle.fuse_store_tables.specs.Following.{earlier}
+use Rattle.fuse_store_tables.specs.inner.Following.{earlier}
 use Rattle.fuse_store_tree.proofs.Steps.{on_ok, on_error}
 use Rattle.fuse_store_tree.specs.Group.{without_settled, with_lot_for}
 use Rattle.fuse_store_tree.proofs.Turning.{turned_keeps, turned_then, ok_too}

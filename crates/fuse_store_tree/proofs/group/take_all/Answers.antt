@@ -4,7 +4,7 @@ use Rattle.std.proofs.lemmas.List.{take_all}
 use Rattle.sqlite.specs.Held.{state}
 use Rattle.fuse_keeper.specs.Group.{entries_of}
 use Rattle.fuse_store_tree.proofs.Looks.{always_err}
-use Rattle.fuse_store_tree.specs.Holding.{Turned}
+use Rattle.fuse_store_tree.specs.inner.Changing.{Turned}
 use Rattle.fuse_store_tree.specs.Group.{with_group}
 use Rattle.fuse_store_tree.proofs.Turning.{turned_keeps}
 use Rattle.fuse_store_tree.proofs.Groups.{AreDones, took_more, dones_more}

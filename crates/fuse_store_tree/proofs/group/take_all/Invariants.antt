@@ -2,7 +2,7 @@ use Rattle.std.proofs.Common.{◌≡◌, None, take, length}
 use Rattle.sqlite.specs.Held.{state}
 use Rattle.fuse_keeper.specs.Group.{entries_of}
 use Rattle.fuse_store_tree.specs.Looking.{look_fault}
-use Rattle.fuse_store_tree.specs.Holding.{Turned}
+use Rattle.fuse_store_tree.specs.inner.Changing.{Turned}
 use Rattle.fuse_store_tree.specs.Group.{with_group}
 use Rattle.fuse_store_tree.proofs.Groups.{AreDones}
 use Rattle.fuse_store_tree.proofs.group.take_all.Given as goal

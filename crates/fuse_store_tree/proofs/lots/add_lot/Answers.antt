@@ -1,7 +1,7 @@
 use Rattle.std.proofs.Common.{◌+◌}
 use Rattle.fuse_store_tables.specs.Content.{set_counter, with_lot}
 use Rattle.sqlite.specs.Held.{state}
-use Rattle.fuse_store_tables.specs.Following.{makes_then}
+use Rattle.fuse_store_tables.specs.inner.Following.{makes_then}
 use Rattle.fuse_store_tree.proofs.lots.add_lot.Goals as goal
 
 pub returns : goal.returns

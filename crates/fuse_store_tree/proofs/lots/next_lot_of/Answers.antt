@@ -2,7 +2,8 @@ use Rattle.std.proofs.Common.{◌≡◌, ◌<◌, ap, sym, subst, ◌∙◌, len
 use Rattle.std.proofs.Math.ListN.{get_or-map}
 use Rattle.sqlite.specs.Order.{Row, column}
 use Rattle.fuse_store_tables.specs.Content.{shown_counter}
-use Rattle.fuse_store_tree.specs.Store.{value_of, counter}
+use Rattle.fuse_store_tree.specs.Store.{counter}
+use Rattle.fuse_store_tree.specs.inner.Reading.{value_of}
 use Rattle.fuse_store_tree.proofs.Looks.{map_err}
 use Rattle.fuse_store_tree.proofs.lots.next_lot_of.Goals as goal
 

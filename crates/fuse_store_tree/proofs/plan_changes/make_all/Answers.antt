@@ -1,8 +1,8 @@
 use Rattle.std.proofs.Common.{◌++◌, ◌∷◌, [], ap, sym, subst, take, ◌∙◌}
 use Rattle.std.proofs.lemmas.List.{take_more}
 use Rattle.sqlite.specs.Held.{state}
-use Rattle.fuse_store_tree.specs.Changing.{Changed}
-use Rattle.fuse_store_tree.specs.Store.{with_changes}
+use Rattle.fuse_store_tree.specs.inner.Changing.{Changed}
+use Rattle.fuse_store_tree.specs.inner.Writing.{with_changes}
 use Rattle.fuse_store_tree.proofs.Changes.{changed_keeps, changed_more}
 use Rattle.fuse_tree.specs.Columns.{FitsChange}
 use Rattle.fuse_store_tree.specs.Store.{Held}

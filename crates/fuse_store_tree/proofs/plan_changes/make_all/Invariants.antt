@@ -1,7 +1,7 @@
 use Rattle.std.proofs.Common.{take}
 use Rattle.sqlite.specs.Held.{state}
-use Rattle.fuse_store_tree.specs.Changing.{Changed}
-use Rattle.fuse_store_tree.specs.Store.{with_changes}
+use Rattle.fuse_store_tree.specs.inner.Changing.{Changed}
+use Rattle.fuse_store_tree.specs.inner.Writing.{with_changes}
 use Rattle.fuse_store_tree.proofs.plan_changes.make_all.Given as goal
 
 abbrev pub invariant-loop-change : goal.invariant-loop-change

@@ -5,7 +5,7 @@ use Rattle.fuse_store_tree.specs.Fits.{KeepsRecord}
 use Rattle.fuse_store_tree.specs.Store.{records_of}
 use Rattle.fuse_store_tree.proofs.Looks.{found_is, map_ok, map_err, drop_second}
 use Rattle.fuse_store_tree.proofs.Rests.{content_at, failed_for, read_for, none_kept}
-use Rattle.fuse_store_tables.specs.Following.{open_told, open_fails}
+use Rattle.fuse_store_tables.specs.inner.Following.{open_told, open_fails}
 use Rattle.fuse_store_tree.proofs.reads.answer_at_rest.Goals as goal
 
 pub returns-then-id-ge-END-clause-value : goal.returns-then-id-ge-END-clause-value

@@ -2,7 +2,7 @@ use Rattle.std.proofs.Common.{arith, ◌∙◌}
 use Rattle.sqlite.specs.Held.{state}
 use Rattle.fuse_store_tree.proofs.Looks.{map_ok, map_err}
 use Rattle.fuse_store_tree.proofs.Rests.{counters_held, counters_shown, failed_for, read_for}
-use Rattle.fuse_store_tables.specs.Following.{open_told, open_fails}
+use Rattle.fuse_store_tables.specs.inner.Following.{open_told, open_fails}
 use Rattle.fuse_store_tree.proofs.reads.counters_at_rest.Goals as goal
 
 pub returns-in_err-rows-clause-serves : goal.returns-in_err-rows-clause-serves

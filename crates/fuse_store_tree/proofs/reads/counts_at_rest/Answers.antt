@@ -1,9 +1,9 @@
 use Rattle.std.proofs.Common.{Ok, Err}
 use Rattle.sqlite.specs.Held.{state}
-use Rattle.fuse_store_tables.specs.Following.{rests_told, rests_then}
+use Rattle.fuse_store_tables.specs.inner.Following.{rests_told, rests_then}
 use Rattle.fuse_store_tree.specs.Holding.{HeldFor}
 use Rattle.fuse_store_tree.proofs.Rests.{fails_for}
-use Rattle.fuse_store_tables.specs.Following.{open_told, open_fails, open_then}
+use Rattle.fuse_store_tables.specs.inner.Following.{open_told, open_fails, open_then}
 use Rattle.fuse_store_tree.proofs.reads.counts_at_rest.Goals as goal
 
 pub returns-in_err-records-clause-serves : goal.returns-in_err-records-clause-serves

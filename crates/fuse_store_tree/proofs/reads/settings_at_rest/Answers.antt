@@ -4,7 +4,7 @@ use Rattle.fuse_tree.specs.Rows.{rowed}
 use Rattle.fuse_store_tree.proofs.Looks.{map_ok, map_err}
 use Rattle.fuse_store_tree.proofs.Once.{agreed_back}
 use Rattle.fuse_store_tree.proofs.Rests.{counters_held, counters_shown, failed_for, read_for}
-use Rattle.fuse_store_tables.specs.Following.{open_told, open_fails}
+use Rattle.fuse_store_tables.specs.inner.Following.{open_told, open_fails}
 use Rattle.fuse_store_tree.proofs.reads.settings_at_rest.Goals as goal
 
 pub returns-in_err-rows-clause-serves : goal.returns-in_err-rows-clause-serves

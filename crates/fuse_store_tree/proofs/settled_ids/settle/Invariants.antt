@@ -1,7 +1,7 @@
 use Rattle.std.proofs.Common.{take}
 use Rattle.sqlite.specs.Held.{state}
 use Rattle.fuse_keeper.specs.Group.{ids_of}
-use Rattle.fuse_store_tree.specs.Holding.{Turned}
+use Rattle.fuse_store_tree.specs.inner.Changing.{Turned}
 use Rattle.fuse_store_tree.specs.Group.{without_settled}
 use Rattle.fuse_store_tree.proofs.settled_ids.settle.Given as goal
 

@@ -1,10 +1,10 @@
 use Rattle.sqlite.specs.Held.{state}
 use Rattle.fuse_keeper.specs.Group.{ids_of, entries_of}
-use Rattle.fuse_store_tables.specs.Transaction.{served, undone}
+use Rattle.fuse_store_tables.specs.inner.Transaction.{served, undone}
 use Rattle.fuse_store_tree.specs.Holding.{HeldFor}
 use Rattle.fuse_store_tree.specs.Group.{performed}
-use Rattle.fuse_store_tables.specs.Following.{earlier}
-use Rattle.fuse_store_tables.specs.Transaction.{open_undone}
+use Rattle.fuse_store_tables.specs.inner.Following.{earlier}
+use Rattle.fuse_store_tables.specs.inner.Transaction.{open_undone}
 use Rattle.fuse_store_tree.proofs.transaction.perform.Goals as goal
 
 pub returns-in-Ok-clause-serves : goal.returns-in-Ok-clause-serves

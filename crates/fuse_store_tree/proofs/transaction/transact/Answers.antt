@@ -1,13 +1,13 @@
 use Rattle.std.proofs.Common.{◌≡◌}
 use Rattle.sqlite.specs.Held.{state}
 use Rattle.fuse_keeper.specs.Group.{ids_of, entries_of}
-use Rattle.fuse_store_tables.specs.Transaction.{failed_first, failed_inside, failed_commit, committed}
+use Rattle.fuse_store_tables.specs.inner.Transaction.{failed_first, failed_inside, failed_commit, committed}
 use Rattle.fuse_store_tree.specs.Holding.{HeldFor}
 use Rattle.fuse_store_tree.specs.Group.{performed, all_dones, lot_for}
 use Rattle.fuse_store_tree.proofs.Whole.{takes_for, fails_for, told_after}
-use Rattle.fuse_store_tables.specs.Following.{earlier}
+use Rattle.fuse_store_tables.specs.inner.Following.{earlier}
 use Rattle.fuse_store_tree.proofs.Whole.{begun_for}
-use Rattle.fuse_store_tables.specs.Transaction.{open_first, open_inside, open_failed, open_committed}
+use Rattle.fuse_store_tables.specs.inner.Transaction.{open_first, open_inside, open_failed, open_committed}
 use Rattle.fuse_store_tree.proofs.transaction.transact.Goals as goal
 
 pub returns-in-Err-clause-performs : goal.returns-in-Err-clause-performs

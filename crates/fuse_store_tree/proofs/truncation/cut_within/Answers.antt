@@ -1,10 +1,11 @@
 use Rattle.std.proofs.Common.{◌≡◌, ◌≤◌, ◌+◌, ◌-◌, ◌*◌, ◌/◌, ◌%◌, replicate, ap, arith, ◌∙◌}
 use Rattle.sqlite.specs.Held.{state}
 use Rattle.fuse_tree.specs.Bounds.{block_bytes}
-use Rattle.fuse_store_tree.specs.Changing.{Cut}
+use Rattle.fuse_store_tree.specs.inner.Changing.{Cut}
 use Rattle.fuse_store_tree.proofs.Steps.{on_ok, on_error}
 use Rattle.fuse_store_tree.proofs.Cuts.{cut_keeps, cut_then}
-use Rattle.fuse_store_tree.specs.Store.{HeldAs, cut}
+use Rattle.fuse_store_tree.specs.Store.{HeldAs}
+use Rattle.fuse_store_tree.specs.inner.Writing.{cut}
 use Rattle.fuse_store_tree.proofs.Sure.{sure_next, sure_bytes}
 use Rattle.fuse_store_tree.proofs.truncation.cut_within.Goals as goal
 

@@ -1,7 +1,7 @@
 use Rattle.std.specs.Prelude.{◌+◌}
 use Rattle.sqlite.specs.Held.{state}
 use Rattle.fuse_store_tables.specs.Content.{set_counter}
-use Rattle.fuse_store_tables.specs.Following.{makes_then}
+use Rattle.fuse_store_tables.specs.inner.Following.{makes_then}
 use Rattle.fuse_store_tree.proofs.updates.set_four.Goals as goal
 
 pub returns : goal.returns

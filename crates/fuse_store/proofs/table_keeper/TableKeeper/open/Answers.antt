@@ -1,7 +1,7 @@
 use Rattle.std.proofs.Common.{None, false}
 use Rattle.sqlite.specs.Held.{state}
 use Rattle.fuse_tree.specs.Rows.{rowed}
-use Rattle.fuse_store_tables.specs.Following.{earlier}
+use Rattle.fuse_store_tables.specs.inner.Following.{earlier}
 use Rattle.fuse_store_tree.specs.Store.{records_of}
 use Rattle.fuse_store.specs.Opening.{opened_for}
 use Rattle.fuse_store.proofs.Serving.{holds_at, firm}

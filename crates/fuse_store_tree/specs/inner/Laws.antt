@@ -8,7 +8,7 @@ use Rattle.fuse_tree.specs.Rows.{Rows}
 use Rattle.fuse_keeper.specs.declared.fault.StoreFault.{StoreFault}
 use Rattle.fuse_store_tables.specs.Faults.{IsOutside, IsPlain}
 use Rattle.fuse_store_tables.specs.Moves.{IsReady, Stays, Looked}
-use Rattle.fuse_store_tables.specs.Following.{earlier, stays_then}
+use Rattle.fuse_store_tables.specs.inner.Following.{earlier, stays_then}
 use Rattle.fuse_store_tree.specs.Holding.{HeldFor}
 use Rattle.fuse_store_tree.specs.Looking.{sees_in, WentWell, MayFail}
 

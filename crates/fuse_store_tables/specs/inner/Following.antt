@@ -95,11 +95,6 @@ pub rests_failed : {C X Y E F : Type 0} (P : C → Database → Type 0) (a b : S
     → ServesAs {X = Y} P P a b (Err f)
 rests_failed P a b e f p = record { survives = p.survives; kept = p.kept; done = tt }
 
--- what rests before the first of two reads rests before the second
-pub rests_on : {C X E : Type 0} (P : C → Database → Type 0) (T : C → Type 0) (a b d : State) (x : X) → ServesAs {X = X} {E = E} P P a b (Ok x)
-    → {K : Trees → Type 0} → Survives b d K → (HasCleanDisk d → (c : C) → RestsAs (P c) b → T c) → HasCleanDisk d → (c : C) → RestsAs (P c) a → T c
-rests_on P T a b d x p s told clean c at = told clean c (p.done (earlier b d _ s clean) c at)
-
 rests_survive : {C X E : Type 0} (P : C → Database → Type 0) (a b d : State) (x : X) → ServesAs {X = X} {E = E} P P a b (Ok x)
     → Survives b d (λ db. (c : C) → RestsAs (P c) b → LeftAs (P c) db) → Survives a d (λ db. (c : C) → RestsAs (P c) a → LeftAs (P c) db)
 rests_survive P a b d x p s = survives_then a b d _ _ _ (λ _ db left. left)
@@ -118,11 +113,6 @@ rests_then P a b d x (Err f) p q = record {
   kept = λ clean is_open c at. q.kept clean is_open c (p.done (earlier b d _ q.survives clean) c at);
   done = tt;
 }
-
-pub safe_then : {C X Y E : Type 0} (P : C → Database → Type 0) (a b d : State) (x : X) (r : Result Y StoreFault) → ServesAs {X = X} {E = E} P P a b (Ok x)
-    → {K : Trees → Type 0} → Survives b d K → IsSafe P b d r → IsSafe P a d r
-safe_then P a b d x (Ok y) p s q clean = tt
-safe_then P a b d x (Err f) p s q clean = λ c at. q clean c (p.done (earlier b d _ s clean) c at)
 
 -- the same of databases of which more is known
 module _ {C D : Type 0} (P : C → Database → Type 0) (Q : D → Database → Type 0)

@@ -7,8 +7,9 @@ use Rattle.sqlite.specs.State.{State, HasCleanDisk, Survives, KeepsCommit}
 use Rattle.sqlite.proofs.StateLemmas.{survives_weaker, survives_then}
 use Rattle.sqlite.proofs.InsideLemmas.{keeps_then}
 use Rattle.fuse_store_tables.specs.Content.{LeftAs}
-use Rattle.fuse_store_tables.specs.Moves.{RestsAs, InsideAs, Takes, Begins, Ends, PerformsAs, Undoes, ServesAs, StaysOpen}
-use Rattle.fuse_store_tables.specs.Following.{earlier}
+use Rattle.fuse_store_tables.specs.Moves.{RestsAs, InsideAs, Takes, Begins, Ends, Undoes, ServesAs, StaysOpen}
+use Rattle.fuse_store_tables.specs.inner.Performing.{PerformsAs}
+use Rattle.fuse_store_tables.specs.inner.Following.{earlier}
 
 -- ---- a whole transaction
 

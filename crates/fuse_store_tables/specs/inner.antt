@@ -1,0 +1,7 @@
+-- What the code does on its way: no public contract cites it (own profile).
+pub mod Columns
+pub mod Following
+pub mod Performing
+pub mod Rows
+pub mod Steps
+pub mod Transaction

@@ -1,0 +1,50 @@
+-- The effect of a step within a transaction on the content of the tables (own profile).
+use Rattle.sqlite.specs.State.{State, HasCleanDisk}
+use Rattle.fuse_store_tables.specs.Moves.{StaysIn, TurnsTo, InsideAs}
+use Rattle.std.specs.Prelude.{ℕ, List, Option, Result, IfErr}
+use Rattle.fuse_store_tree.specs.Store.{Store, Held, HeldAs}
+use Rattle.fuse_store_tree.specs.Holding.{HeldFor, Holding}
+use Rattle.fuse_keeper.specs.declared.fault.StoreFault.{StoreFault}
+use Rattle.fuse_store_tables.specs.Faults.{IsOutside}
+use Rattle.fuse_store_tree.specs.Group.{HasLotLeft}
+use Rattle.fuse_store_tree.specs.inner.Writing.{overlay, cut}
+
+-- Nothing is committed of a transaction whose tables hold a store, whether the step succeeds or not.
+-- Only this composes over several statements: each leads from the tables of a store to the tables of a store.
+abbrev pub Keeps : State → State → Type 0
+Keeps = StaysIn Held
+
+-- the same, with any bytes in the blocks
+abbrev pub KeepsBytes : State → State → Type 0
+KeepsBytes = StaysIn HeldAs
+
+pub record Changed (g : Store → Store) (old new : State) : Type 0 where
+  pub stays : Keeps old new
+  pub turns : TurnsTo Held (λ x. Held (g x)) old new
+
+-- some bytes of a node are written over, and nothing else
+pub record Overlaid (node at : ℕ) (part : List ℕ) (old new : State) : Type 0 where
+  pub stays : KeepsBytes old new
+  pub turns : TurnsTo HeldAs (λ p. HeldAs (p.0, overlay node at part p.1)) old new
+
+-- the bytes of a node from a place on are 0, and nothing else changes
+pub record Cut (node at : ℕ) (old new : State) : Type 0 where
+  pub stays : KeepsBytes old new
+  pub turns : TurnsTo HeldAs (λ p. HeldAs (p.0, cut node at p.1)) old new
+
+-- a transaction is open, whose tables hold this
+abbrev pub InsideFor : Holding → State → Type 0
+InsideFor y = InsideAs (HeldFor y)
+
+-- nothing is committed of a transaction whose tables hold something, whether the step succeeds or not
+abbrev pub KeepsFor : State → State → Type 0
+KeepsFor = StaysIn HeldFor
+
+-- within a transaction, the holding was changed so
+pub record Turned (f : Holding → Holding) (old new : State) : Type 0 where
+  pub stays : KeepsFor old new
+  pub turns : TurnsTo HeldFor (λ y. HeldFor (f y)) old new
+
+-- within a transaction: a fault says nothing of the store, unless no lot number is left
+abbrev pub IsSureFor : {X : Type 0} → Option ℕ → State → State → Result X StoreFault → Type 0
+IsSureFor lot old new r = HasCleanDisk new → IfErr r (λ f. (y : Holding) → InsideFor y old → HasLotLeft lot y → IsOutside f)

@@ -1,0 +1,38 @@
+-- How rows are read from the tables (own profile).
+use Rattle.std.specs.Prelude.{◌==◌, if◌then◌else◌, ◌+◌, replicate, zero, suc, nat_lt, min, ◌-◌, ℕ, List, [], ◌∷◌, Option, Some, None, slice_index_or}
+use Rattle.fuse_init.specs.declared.settings.Settings.{Settings}
+use Rattle.fuse_tree.specs.Bounds.{block_bytes}
+use Rattle.fuse_tree.specs.declared.rows.NodeRow.{NodeRow}
+use Rattle.fuse_tree.specs.declared.rows.Counters.{Counters as CountersRow}
+use Rattle.fuse_store_tables.specs.Blocks.{Block}
+use Rattle.fuse_store_tables.specs.Content.{Content, Counter}
+use Rattle.fuse_store_tree.specs.Store.{DescribesAs, Store, byte_in, counter, rows_bytes}
+
+-- the value at this place, and the counters and the settings of these values
+abbrev pub value_of : List Counter → ℕ → ℕ
+value_of cs at = (slice_index_or cs at (counter 0 0)).value
+
+abbrev pub counted_in : List Counter → CountersRow
+counted_in cs = record { next_node = value_of cs 1; next_fh = value_of cs 2; next_cookie = value_of cs 3; nodes = value_of cs 4; handles = value_of cs 5 }
+
+abbrev pub agreed_in : List Counter → Option Settings
+agreed_in cs = if value_of cs 6 == 0 then None else Some (record { minor = value_of cs 7; max_readahead = value_of cs 8; flags = record { 0 = value_of cs 9 } })
+
+-- so many values of a function from a place on
+abbrev pub range_of : (ℕ → ℕ) → ℕ → ℕ → List ℕ
+range_of f at zero = []
+range_of f at (suc n) = f at ∷ range_of f (at + 1) n
+
+-- the bytes of a block, zeros where there is none
+abbrev pub whole_of : Option Block → List ℕ
+whole_of None = replicate block_bytes 0
+whole_of (Some b) = b.bytes
+
+-- bytes of a node with this row, as far as its size goes
+abbrev pub bytes_told : Option NodeRow → List Block → ℕ → ℕ → ℕ → List ℕ
+bytes_told None blocks node offset len = []
+bytes_told (Some n) blocks node offset len = if nat_lt offset n.size then range_of (byte_in blocks node) offset (min len (n.size - offset)) else []
+
+-- the blocks describe the bytes of each node, and zeros after them; the size is in the row
+abbrev pub Describes : Store → Content → Type 0
+Describes x = DescribesAs x (rows_bytes x.rows)
