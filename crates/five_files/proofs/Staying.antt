@@ -1,17 +1,18 @@
 -- The settings stay while requests are processed.
-use Rattle.std.proofs.Common.{◌≡◌, ◌≤◌, ◌+◌, ℕ, Bool, true, false, cond, List, [], ◌∷◌, ◌++◌, length, map, take, drop, Option, is_some, refl, sym, ap, ◌∙◌}
+use Rattle.std.proofs.Common.{◌≡◌, ◌≤◌, ◌+◌, ℕ, true, false, cond, List, [], ◌∷◌, ◌++◌, length, take, drop, Option, is_some, refl, sym, ap, ◌∙◌}
 use Rattle.std.proofs.Common.{subst, arith}
 use Rattle.std.proofs.lemmas.List.{take-append-drop, take-append-le, length-append, length-map, append_assoc}
 use Rattle.fuse_request.specs.Opcodes.{OpcodeSet}
 use Rattle.fuse_init.specs.declared.settings.Settings.{Settings}
 use Rattle.fuse_keeper.specs.History.{Entry, entry_id, History, after, has, add, grown}
+use Rattle.fuse_keeper.specs.Stands.{Standing}
 use Rattle.fuse_keeper.specs.KeeperState.{KeeperState}
 use Rattle.fuse_session.specs.Settling.{Mark, replies}
 use Rattle.fuse_session.specs.Processed.{Timed, kept_in, entries_at, answered, answers}
-use Rattle.fuse_session.specs.Exchange.{HoldsAt, Lived}
+use Rattle.fuse_session.specs.Exchange.{Exchange, HoldsAt, Lived}
 use Rattle.five_files.specs.Asking.{said, agreed_after, serves_further}
 use Rattle.five_files.specs.TheFiles.{the_files}
-use Rattle.five_files.specs.Serving.{AnswersAs, StayAsAgreed}
+use Rattle.five_files.specs.Serving.{StayAsAgreed}
 use Rattle.five_files.proofs.Same.{same_said, some_next}
 
 some_pushed : (s : Option Settings) (h : History) (e : Entry) → is_some (after the_files s h) ≡ true → is_some (after the_files s (h ++ e ∷ [])) ≡ true
@@ -51,25 +52,25 @@ few_marks s g worked marks later e =
     omega (arith, ap length e, length-append (replies marks) later, length-map marks (λ (m : Mark). m.reply), length-map worked (answered the_files s g))
 
 -- what messages leave answers as it did since INIT
-pub lived_same : (k : KeeperState the_files) (s : Option Settings) (h : History) (confirms : Bool) (t : List ℕ) (timed : List Timed) (marks : List Mark)
-    (part : List ℕ) → Lived the_files (record { state = s; history = h; settled = t }) (record { confirms = confirms; timed = timed; marks = marks }) (HoldsAt k) part
-    → StayAsAgreed k s h timed marks
-lived_same k s h confirms t timed marks part lived = record {
-  since = λ n few some.
-      let g : History = grown h (kept_in serves_further lived.worked) in
-      let f : History = grown h (kept_in serves_further (take n timed)) in
-      let within : n ≤ length lived.worked = omega (arith, few, few_marks s g lived.worked marks lived.later lived.sent) in
-      let first : take n timed ≡ take n lived.worked = ap (take n) lived.parts ∙ take-append-le n lived.worked lived.unprocessed within in
-      let grows : grown f (kept_in serves_further (drop n lived.worked)) ≡ g =
-      ap (λ (xs : List Timed). grown (grown h (kept_in serves_further xs)) (kept_in serves_further (drop n lived.worked))) first
-      ∙ grown_parts h n lived.worked in
-      let some' : is_some (after the_files s g) ≡ true =
-      subst (λ (x : History). is_some (after the_files s x) ≡ true) grows (some_grown s f (kept_in serves_further (drop n lived.worked)) some) in
-      record {
-        rows = lived.stands.rows;
-        records = lived.stands.records;
-        held = lived.stands.held;
-        same = λ e. ap (λ (rows : Option Settings). said rows e.asked) lived.stands.stands.rows_are
-            ∙ same_said (after the_files s f) (after the_files s g) e.asked some some';
-      };
-}
+pub lived_same : (k : KeeperState the_files) (at : Standing the_files) (x : Exchange) (part : List ℕ) → Lived the_files at x (HoldsAt k) part
+    → StayAsAgreed k at x
+lived_same k at x part lived = λ n few some.
+    let s = at.state in
+    let h = at.history in
+    let timed = x.timed in
+    let g : History = grown h (kept_in serves_further lived.worked) in
+    let f : History = grown h (kept_in serves_further (take n timed)) in
+    let within : n ≤ length lived.worked = omega (arith, few, few_marks s g lived.worked x.marks lived.later lived.sent) in
+    let first : take n timed ≡ take n lived.worked = ap (take n) lived.parts ∙ take-append-le n lived.worked lived.unprocessed within in
+    let grows : grown f (kept_in serves_further (drop n lived.worked)) ≡ g =
+    ap (λ (xs : List Timed). grown (grown h (kept_in serves_further xs)) (kept_in serves_further (drop n lived.worked))) first
+    ∙ grown_parts h n lived.worked in
+    let some' : is_some (after the_files s g) ≡ true =
+    subst (λ (x : History). is_some (after the_files s x) ≡ true) grows (some_grown s f (kept_in serves_further (drop n lived.worked)) some) in
+    record {
+      rows = lived.stands.rows;
+      records = lived.stands.records;
+      held = lived.stands.held;
+      same = λ e. ap (λ (rows : Option Settings). said rows e.asked) lived.stands.stands.rows_are
+          ∙ same_said (after the_files s f) (after the_files s g) e.asked some some';
+    }

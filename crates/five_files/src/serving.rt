@@ -29,8 +29,10 @@ pub fn serve_files<P: Port, C: Clock>(
         (P.became port.old port.new))) turns result }
 
     // From INIT on, no request changes anything of the files.
-    ensures files { FilesStay (files_told keeper.old) (files_told keeper.new)
-        (P.told port.old) (P.told port.new) }
+    ensures files { FilesStay (passage (files_told keeper.old) (files_told keeper.new)
+        (P.told port.old) (P.told port.new) (Did (C.gave clock.old clock.new)
+        (⟦<PlainKeeper<FiveFiles> as Keeper>⟧.performed keeper.old keeper.new)
+        (P.became port.old port.new))) result.ended }
 {
     serve(alloc, keeper, port, clock, turns)
 }

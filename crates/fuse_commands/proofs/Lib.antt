@@ -4,5 +4,8 @@ pub mod Dumps
 pub mod Faults
 pub mod Known
 pub mod Lines
+pub mod Printed
+pub mod Rests
 pub mod Streams
 pub mod Tallies
+pub mod Unsettled

@@ -12,11 +12,12 @@ use Rattle.fuse_keeper.specs.declared.fault.StoreFault.{StoreFault}
 use Rattle.fuse_keeper.specs.Model.{Model}
 use Rattle.fuse_keeper.specs.History.{History, grown}
 use Rattle.fuse_keeper.specs.Performance.{Performance}
-use Rattle.fuse_keeper.specs.Stands.{Stands}
+use Rattle.fuse_keeper.specs.Stands.{Standing, StandsAt}
 use Rattle.fuse_keeper.specs.KeeperState.{KeeperState, StandsFor, Leaves, IsFirm}
 use Rattle.fuse_session.specs.declared.counts.SessionCounts.{SessionCounts}
 use Rattle.fuse_session.specs.Processed.{Timed, bytes_of, kept_in, answers, GoesOn, Works, EndsLast, StartsZero, moments_in}
 use Rattle.fuse_session.specs.Settling.{MayCome}
+use Rattle.fuse_session.specs.Exchange.{HoldsAt}
 use Rattle.fuse_session.specs.Counting.{counted}
 use Rattle.fuse_commands.specs.declared.ending.Ending.{Ending}
 use Rattle.fuse_commands.specs.declared.ending.Ending.TheVariants.{Done, Short, TooLong, Cut, ZeroUnique}
@@ -40,36 +41,45 @@ abbrev pub offset_in : Parts → ℕ
 offset_in parts = length (joined (bytes_of parts.timed))
 
 -- all messages were processed, and the rest has this fault
-abbrev pub EndsFaulty : (M : Model) → M.State → History → Parts → FrameFault → Type 0
-EndsFaulty M s h parts fault = GoesOn M s h parts.timed × (parts.others ≡ []) × (end_fault (offset_in parts) parts.rest ≡ Some fault)
+abbrev pub EndsFaulty : {M : Model} → Standing M → Parts → FrameFault → Type 0
+EndsFaulty {M} standing parts fault =
+    GoesOn M standing.state standing.history parts.timed × (parts.others ≡ []) × (end_fault (offset_in parts) parts.rest ≡ Some fault)
 
 -- why no more messages were processed than the prefix
-abbrev pub EndsAt : (M : Model) → M.State → History → Parts → Ending → Type 0
-EndsAt M s h parts Done = EndsLast M s h parts.timed ⊎ (GoesOn M s h parts.timed × (parts.others ≡ []) × (parts.rest ≡ []))
-EndsAt M s h parts (Short at len) = EndsFaulty M s h parts (frame.Short at len)
-EndsAt M s h parts (TooLong at len) = EndsFaulty M s h parts (frame.TooLong at len)
-EndsAt M s h parts (Cut at have need) = EndsFaulty M s h parts (frame.Cut at have need)
-EndsAt M s h parts (ZeroUnique at) = GoesOn M s h parts.timed × StartsZero parts.others × (at ≡ offset_in parts)
-EndsAt M s h parts _ = ⊥
+abbrev pub EndsAt : {M : Model} → Standing M → Parts → Ending → Type 0
+EndsAt {M} standing parts Done =
+    EndsLast M standing.state standing.history parts.timed
+    ⊎ (GoesOn M standing.state standing.history parts.timed × (parts.others ≡ []) × (parts.rest ≡ []))
+EndsAt standing parts (Short at len) = EndsFaulty standing parts (frame.Short at len)
+EndsAt standing parts (TooLong at len) = EndsFaulty standing parts (frame.TooLong at len)
+EndsAt standing parts (Cut at have need) = EndsFaulty standing parts (frame.Cut at have need)
+EndsAt {M} standing parts (ZeroUnique at) =
+    GoesOn M standing.state standing.history parts.timed × StartsZero parts.others × (at ≡ offset_in parts)
+EndsAt standing parts _ = ⊥
 
--- these messages were processed; Stood holds of the history that they led to, and Gave of their answers
-pub record Processed (M : Model) (Stood : History → Type 0) (s : M.State) (h : History) (timed : List Timed) (Gave : List (List ℕ) → Type 0)
+-- the history with these messages added, none of which settles an id
+abbrev pub added : {M : Model} → Standing M → List Timed → Standing M
+added {M} standing timed = record standing { history = grown standing.history (kept_in M.serves timed) }
+
+-- these messages were processed; Stood holds of the history then, and Gave of their answers
+pub record Processed {M : Model} (standing : Standing M) (timed : List Timed) (Stood : Standing M → Type 0) (Gave : List (List ℕ) → Type 0)
     : Type 0 where
-  pub works : Works M s h timed
-  pub stood : Stood (grown h (kept_in M.serves timed))
-  pub gave : Gave (answers M s (grown h (kept_in M.serves timed)) timed)
+  pub works : Works M standing.state standing.history timed
+  pub stood : Stood (added standing timed)
+  pub gave : Gave (answers M standing.state (added standing timed).history timed)
 
 -- a prefix of these messages was processed
-pub record ProcessedPrefix (M : Model) (Stood : History → Type 0) (s : M.State) (h : History) (timed : List Timed) (Gave : List (List ℕ) → Type 0)
+pub record ProcessedPrefix {M : Model} (standing : Standing M) (timed : List Timed) (Stood : Standing M → Type 0) (Gave : List (List ℕ) → Type 0)
     : Type 0 where
   pub prefix : List Timed
   pub unprocessed : List Timed
   pub parts : timed ≡ prefix ++ unprocessed
-  pub processed : Processed M Stood s h prefix Gave
+  pub processed : Processed standing prefix Stood Gave
 
 -- P holds whatever the keeper stood for, where none of the messages has a settled id
-abbrev pub WhateverStood : {M : Model} → KeeperState M → List Timed → (M.State → History → List ℕ → Type 0) → Type 0
-WhateverStood {M} k timed P = (s : M.State) (h : History) (t : List ℕ) → StandsFor k s h t → AllByRecursion (MayCome M.serves t) (bytes_of timed) → P s h t
+abbrev pub WhateverStood : {M : Model} → KeeperState M → List Timed → (Standing M → Type 0) → Type 0
+WhateverStood {M} k timed P = (s : M.State) (h : History) (t : List ℕ) → StandsFor k s h t → AllByRecursion (MayCome M.serves t) (bytes_of timed)
+    → P (record { state = s; history = h; settled = t })
 
 -- a prefix of the messages of the input was processed at this moment, up to the end, the first fault or a message that stops the session;
 -- Gave holds of the answers and the counts
@@ -77,9 +87,9 @@ pub record Replayed {M : Model} (k k' : KeeperState M) (moment : Moment) (input 
     (Gave : List (List ℕ) → SessionCounts → Type 0) : Type 0 where
   pub parts : Parts
   pub are : ArePartsOf input M.serves moment parts
-  pub processed : k'.is_honest → WhateverStood k parts.timed (λ s h t. Processed M (λ g. StandsFor k' s g t) s h parts.timed
-      (λ answers. Gave answers (counted M.serves h parts.timed)))
-  pub ends : k'.is_honest → WhateverStood k parts.timed (λ s h t. EndsAt M s h parts ending)
+  pub processed : k'.is_honest → WhateverStood k parts.timed (λ standing. Processed standing parts.timed (HoldsAt k')
+      (λ answers. Gave answers (counted M.serves standing.history parts.timed)))
+  pub ends : k'.is_honest → WhateverStood k parts.timed (λ standing. EndsAt standing parts ending)
 
 -- the store returned a fault that the keeper may return, after a prefix of the messages of the input was processed at this moment
 pub record Faulted {M : Model} (k k' : KeeperState M) (moment : Moment) (input : List ℕ) (ending : Ending) (Gave : List (List ℕ) → Type 0) : Type 0 where
@@ -87,8 +97,8 @@ pub record Faulted {M : Model} (k k' : KeeperState M) (moment : Moment) (input :
   pub ending_is : ending ≡ store_ending fault
   pub parts : Parts
   pub are : ArePartsOf input M.serves moment parts
-  pub processed : k'.is_clean → WhateverStood k parts.timed (λ s h t. ProcessedPrefix M (λ g. StandsFor k' s g t) s h parts.timed Gave)
-  pub may : k'.is_clean → WhateverStood k parts.timed (λ s h t. k.may_answer fault)
+  pub processed : k'.is_clean → WhateverStood k parts.timed (λ standing. ProcessedPrefix standing parts.timed (HoldsAt k') Gave)
+  pub may : k'.is_clean → WhateverStood k parts.timed (λ standing. k.may_answer fault)
 
 -- a keeper was asked to perform the kept messages of these in groups, each once and in order, and no id was settled
 pub record AsksFor (V : OpcodeSet) (timed : List Timed) (asked : List Performance) : Type 0 where
@@ -103,9 +113,9 @@ pub record StandsForPrefix {M : Model} (k k' : KeeperState M) (performed : List 
   pub asked : List Performance
   pub was_asked : performed asked
   pub asks : AsksFor M.serves parts.timed asked
-  pub stands : k'.is_clean → WhateverStood k parts.timed (λ s h t. ProcessedPrefix M (λ g. StandsFor k' s g t) s h parts.timed (λ _. Unit {0}))
-  pub crash : k'.is_honest → IsFirm k → WhateverStood k parts.timed (λ s h t.
-      Leaves k' (λ x r. ProcessedPrefix M (λ g. Stands M x r s g t) s h parts.timed (λ _. Unit {0})))
+  pub stands : k'.is_clean → WhateverStood k parts.timed (λ standing. ProcessedPrefix standing parts.timed (HoldsAt k') (λ _. Unit {0}))
+  pub crash : k'.is_honest → IsFirm k → WhateverStood k parts.timed (λ standing. Leaves k'
+      (λ x r. ProcessedPrefix standing parts.timed (StandsAt M (record { rows = x; records = r })) (λ _. Unit {0})))
 
 -- a line for each answer was written, and then the line of counts
 abbrev pub Prints : Option (List ℕ) → Option (List ℕ) → List (List ℕ) → SessionCounts → Type 0

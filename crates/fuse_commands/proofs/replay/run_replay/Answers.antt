@@ -1,5 +1,5 @@
 use Rattle.std.proofs.Common.{arith}
-use Rattle.fuse_commands.proofs.Streams.{printed, fault_printed}
+use Rattle.fuse_commands.proofs.Printed.{printed, fault_printed}
 use Rattle.fuse_commands.proofs.replay.run_replay.Goals as goal
 
 pub returns-in-Ok-clause-replayed : goal.returns-in-Ok-clause-replayed
