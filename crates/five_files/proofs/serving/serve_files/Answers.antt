@@ -1,3 +1,5 @@
+use Rattle.fuse_session.specs.Serving.{exchange}
+use Rattle.five_files.specs.Serving.{files_told}
 use Rattle.five_files.proofs.Staying.{lived_same}
 use Rattle.five_files.proofs.serving.serve_files.Goals as goal
 
@@ -6,6 +8,6 @@ returns-clause-files g c =
     let run = c.serve.ensures.session.life in
     record {
       run = run;
-      stay = λ s h t stands none again.
-          lived_same _ _ _ run.broken.part (run.broken.life (record { honest = tt; clean = λ _. tt }) s h t stands none again);
+      stay = λ s h t stands none again. lived_same (files_told c.serve.new.keeper) (record { state = s; history = h; settled = t })
+          (exchange run.broken.work) run.broken.part (run.broken.life (record { honest = tt; clean = λ _. tt }) s h t stands none again);
     }
