@@ -14,7 +14,7 @@ use Rattle.fuse_keeper.specs.Stands.{Content, Records, Stands, without}
 use Rattle.fuse_keeper.specs.KeeperState.{KeeperState, StandsFor, ActsOn}
 use Rattle.fuse_keeper.specs.Taking.{Took, TakesAll, GroupsGrow}
 use Rattle.fuse_keeper.specs.Group.{handed_to}
-use Rattle.fuse_session.specs.Processed.{Timed, bytes_of, kept_in, entry_if, timed_entry, message_id, unique_of, answer_by, answered, answers}
+use Rattle.fuse_session.specs.Processed.{Timed, bytes_of, kept_in, entries_at, entry_if, timed_entry, message_id, unique_of, answer_by, answered, answers, Works}
 use Rattle.fuse_session.specs.Settling.{Mark, replies, settles, NoneComesAgain}
 use Rattle.fuse_session.specs.Exchange.{FirstAnswered}
 use Rattle.fuse_session.specs.inner.Group.{answers_in, head_wire, left_by, wires}
@@ -47,6 +47,22 @@ answers_begin (a ∷ us) vs (m ∷ marks) later is =
     let head : a ≡ m.reply = cc is in
     let rest = answers_begin us vs marks later (cc is) in
     (rest.0, ap (λ y. y ∷ us) head ∙ ap (λ (l : List (List ℕ)). m.reply ∷ l) rest.1)
+
+none_left : (xs ys : List Timed) → xs ++ ys ≡ [] → xs ≡ []
+none_left [] ys is = refl
+none_left (x ∷ xs) ys is = absurd (cc is)
+
+-- the first of some messages that were processed
+works_first : (M : Model) (s : M.State) (h : History) (xs ys : List Timed) → Works M s h (xs ++ ys) → Works M s h xs
+works_first M s h [] ys works = tt
+works_first M s h (x ∷ xs) ys works = (
+  works.0,
+  elim works.1 [
+    | inl last ↦ inl (none_left xs ys last)
+    | inr goes ↦ inr goes
+  ],
+  works_first M s (grown h (entries_at M.serves x)) xs ys works.2,
+)
 
 -- later answers say nothing of earlier messages
 pub again_some : (V : OpcodeSet) (c : Bool) (t : List ℕ) (ms : List (List ℕ)) (xs ys : List Mark) → length ms ≤ length xs → NoneComesAgain V c t ms (xs ++ ys)
@@ -178,10 +194,10 @@ with_handed t pending es within i there = elim (in_either t (handed_to es pendin
 -- the first messages of a group that was performed, where these answers were sent of those to it
 pub group_first : (M : Model) → GroupsGrow M → (holds holds' : KeeperState M) (c : Bool) (pending : List ℕ) (ts : List Timed) (es : List Entry)
     (dones : List Done) (marks : List Mark) (later : List (List ℕ))
-    → es ≡ kept_in M.serves ts → ActsOn holds holds' (handed_to es pending) es dones
+    → ((s : M.State) (h : History) → Works M s h ts) → es ≡ kept_in M.serves ts → ActsOn holds holds' (handed_to es pending) es dones
     → wires M.serves (bytes_of ts) (answers_in dones) ≡ replies marks ++ later
     → holds'.is_honest → FirstAnswered holds pending (exchanged c ts marks)
-group_first M grows holds holds' c pending ts es dones marks later is acts whole honest first others parts s h t so within again =
+group_first M grows holds holds' c pending ts es dones marks later works is acts whole honest first others parts s h t so within again =
     let V = M.serves in
     let handed = handed_to es pending in
     let fresh : All (IsUnsettled (t ++ handed)) (kept_in V first) =
@@ -194,15 +210,21 @@ group_first M grows holds holds' c pending ts es dones marks later is acts whole
     ∙ ap (wires V (bytes_of (first ++ others))) (sym (map-append (λ (d : Done). d.answer) f.some f.others) ∙ sym (ap answers_in f.parts))
     ∙ ap (λ (l : List Timed). wires V (bytes_of l) (answers_in dones)) (sym parts) ∙ whole in
     let r = answers_begin (answers M s g first) (wires V (bytes_of others) (answers_in f.others)) marks later split in
-    (r.0, r.1 ∙ ap (λ n. replies (take n marks) ++ r.0) (length-map first (answered M s g)))
+    record {
+      works = works_first M s h first others (subst (Works M s h) parts (works s h));
+      unsent = r.0;
+      sent = r.1 ∙ ap (λ n. replies (take n marks) ++ r.0) (length-map first (answered M s g));
+    }
 
 -- where nothing was answered
 take_none : (n : ℕ) → take {A = Mark} n [] ≡ []
 take_none zero = refl
 take_none (suc n) = refl
 
-pub first_unsent : (M : Model) → (holds : KeeperState M) (c : Bool) (pending : List ℕ) (ts : List Timed) → FirstAnswered holds pending (exchanged c ts [])
-first_unsent M holds c pending ts first others parts s h t so within again = (
-  answers M s (grown h (kept_in M.serves first)) first,
-  ap (λ (l : List Mark). replies l ++ answers M s (grown h (kept_in M.serves first)) first) (sym (take_none (length first))),
-)
+pub first_unsent : (M : Model) → (holds : KeeperState M) (c : Bool) (pending : List ℕ) (ts : List Timed) → ((s : M.State) (h : History) → Works M s h ts)
+    → FirstAnswered holds pending (exchanged c ts [])
+first_unsent M holds c pending ts works first others parts s h t so within again = record {
+  works = works_first M s h first others (subst (Works M s h) parts (works s h));
+  unsent = answers M s (grown h (kept_in M.serves first)) first;
+  sent = ap (λ (l : List Mark). replies l ++ answers M s (grown h (kept_in M.serves first)) first) (sym (take_none (length first)));
+}

@@ -153,7 +153,7 @@ broken_none M holds holds' did p q pending messages e inexact deeds done unasked
     batches = [];
     are = record { messages = refl; answers = refl };
     asked = unasked;
-    first = λ _. first_unsent M holds p.confirms pending [];
+    first = λ _. first_unsent M holds p.confirms pending [] (λ s h. tt);
   };
   others = messages;
   part = [];
@@ -208,7 +208,7 @@ broken_store M holds holds' gave performed became p pending messages count taken
         batches = one_batch ts [];
         are = are_one ts [];
         asked = asked_one M.serves p.confirms pending ts [] (entries_of group) (performances_of (entries_of group) pending) es refl;
-        first = λ _. first_unsent M holds p.confirms pending ts;
+        first = λ _. first_unsent M holds p.confirms pending ts (λ s h. works_group M s h ts gathers.no_zero gathers.only);
       };
       others = drop count messages;
       part = [];
@@ -314,7 +314,7 @@ broken_sent M grows groups holds holds' gave performed_so became p q pending mid
         batches = one_batch ts some.marks;
         are = are_one ts some.marks;
         asked = asked_one M.serves p.confirms pending ts some.marks (entries_of group) (performances_of (entries_of group) pending) es refl;
-        first = λ honest. group_first M groups holds holds' p.confirms pending ts (entries_of group) dones some.marks some.later es acts
+        first = λ honest. group_first M groups holds holds' p.confirms pending ts (entries_of group) dones some.marks some.later works es acts
             (ap (λ f. wires M.serves f (answers_in dones)) (sym bytes) ∙ some.whole) honest;
       };
       others = drop count messages;
@@ -408,7 +408,8 @@ turned M grows groups holds holds' gave performed_so became p q pending mid pend
         batches = one_batch ts all.marks;
         are = are_one ts all.marks;
         asked = asked_one M.serves p.confirms pending ts all.marks (entries_of group) (performances_of (entries_of group) pending) es refl;
-        first = λ honest. group_first M groups holds holds' p.confirms pending ts (entries_of group) dones all.marks [] es acts
+        first = λ honest. group_first M groups holds holds' p.confirms pending ts (entries_of group) dones all.marks []
+            (λ s h. works_group M s h ts gathers.no_zero gathers.only) es acts
             (ap (λ f. wires M.serves f (answers_in dones)) (sym bytes) ∙ sym all.whole ∙ sym (append-nil (replies all.marks))) honest;
       };
       bytes = gathers.bytes;

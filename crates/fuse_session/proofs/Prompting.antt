@@ -1,14 +1,17 @@
 -- What came was answered, turn after turn.
-use Rattle.std.proofs.Common.{◌≡◌, ◌⊎◌, inl, inr, ℕ, Bool, true, List, [], ◌∷◌, ◌++◌, refl, sym, ap, subst, ◌∙◌}
-use Rattle.fuse_request.specs.Stream.{cut}
+use Rattle.std.proofs.Common.{◌≡◌, ◌⊎◌, inl, inr, ℕ, Bool, true, List, [], ◌∷◌, ◌++◌, length, None, refl, sym, ap, subst, arith, ◌∙◌}
+use Rattle.std.specs.List.{AllByRecursion}
+use Rattle.fuse_request.specs.Framing.{bad_length}
+use Rattle.fuse_request.specs.Stream.{cut, joined}
 use Rattle.fuse_keeper.specs.Model.{Model}
 use Rattle.fuse_keeper.specs.KeeperState.{KeeperState}
 use Rattle.fuse_session.specs.declared.counts.SessionCounts.{SessionCounts}
 use Rattle.fuse_session.specs.declared.port.Received.{Received as Receipt}
 use Rattle.fuse_session.specs.declared.port.Sent.{Sent}
 use Rattle.fuse_session.specs.Port.{PortState}
-use Rattle.fuse_session.specs.Transcript.{PortEvent, Received, sends_of}
+use Rattle.fuse_session.specs.Transcript.{PortEvent, Received, sends_of, Gave}
 use Rattle.fuse_session.specs.Deeds.{Deeds}
+use Rattle.fuse_session.specs.Processed.{bytes_of}
 use Rattle.fuse_session.specs.declared.ended.Ended.{Ended}
 use Rattle.fuse_session.specs.Passage.{passage}
 use Rattle.fuse_session.specs.Serving.{Turned, Waiting, nothing_waits, Whole, Run}
@@ -20,16 +23,24 @@ pub record Answering {M : Model} (k new : KeeperState M) (did : Deeds → Type 0
   pub done : did deeds
   pub first : AnswersFirst k new confirms deeds.events
 
--- all messages that came were processed
+-- all messages that came were processed, and nothing ended the session
 pub caught_whole : (M : Model) → (k new : KeeperState M) (did : Deeds → Type 0) (p q : PortState) (after : Waiting)
-    (counts : SessionCounts) → (w : Whole (passage k new p q did) nothing_waits after counts) → CaughtUp k new p.confirms w.turned.work.deeds.events
-caught_whole M k new did p q after counts w = record {
+    (counts : SessionCounts) → (w : Whole (passage k new p q did) nothing_waits after counts) → bad_length after.at after.bytes ≡ None
+    → AllByRecursion Gave w.turned.work.deeds.events → CaughtUp k new p.confirms w.turned.work.deeds.events
+caught_whole M k new did p q after counts w good gave = record {
   timed = w.turned.work.timed;
   marks = w.turned.work.marks;
   bytes = ap (λ r. (cut r).0) w.turned.work.done.1 ∙ w.turned.bytes;
   full = w.turned.full;
   slices = w.turned.slices;
   sent = λ honest s h t so within again. (w.turned.all honest s h t so within again).sent;
+  goes = λ honest s h t so within again. (w.turned.all honest s h t so within again).goes refl;
+  good =
+      ap (λ (r : List ℕ). bad_length (length (joined (bytes_of w.turned.work.timed))) (cut r).1) w.turned.work.done.1
+      ∙ ap (λ (r : List ℕ). bad_length (length (joined (bytes_of w.turned.work.timed))) r) (sym w.rest_is)
+      ∙ ap (λ ms. bad_length (length (joined ms)) after.bytes) (sym w.turned.bytes)
+      ∙ ap (λ n. bad_length n after.bytes) (omega (arith, w.at)) ∙ good;
+  gave = gave;
 }
 
 caught_later : (M : Model) → (k mid new : KeeperState M) (confirms : Bool) (events : List PortEvent) → (new.is_honest → mid.is_honest)
@@ -41,6 +52,9 @@ caught_later M k mid new confirms events honest_too c = record {
   full = c.full;
   slices = c.slices;
   sent = λ honest. c.sent (honest_too honest);
+  goes = λ honest. c.goes (honest_too honest);
+  good = c.good;
+  gave = c.gave;
 }
 
 -- no receive is among sends

@@ -1,11 +1,13 @@
 -- What the calls of a port come to.
-use Rattle.std.proofs.Common.{◌≡◌, ℕ, ◌+◌, ◌-◌, Bool, true, List, [], ◌∷◌, ◌++◌, length, take, drop, refl, sym, ap, subst, ◌∙◌}
+use Rattle.std.proofs.Common.{◌≡◌, ◌≤◌, ℕ, ◌-◌, Bool, true, List, [], ◌∷◌, ◌++◌, length, take, drop, refl, sym, ap, subst, ◌∙◌}
 use Rattle.std.proofs.Common.{append_assoc, arith}
+use Rattle.std.specs.List.{AllByRecursion}
 use Rattle.fuse_session.specs.declared.port.Received.{Received as Receipt}
+use Rattle.fuse_session.specs.declared.port.Received.TheVariants.{Got, End, Failed as ReceiveFailed}
 use Rattle.fuse_session.specs.declared.port.Sent.{Sent}
 use Rattle.fuse_session.specs.declared.port.Sent.TheVariants.{Took, Gone, Failed}
-use Rattle.fuse_session.specs.Port.{PortState, Receives, Sends, ends_of}
-use Rattle.fuse_session.specs.Transcript.{PortEvent, Received, Handed, one_receive, one_send, Steps, came_with, received_in}
+use Rattle.fuse_session.specs.Port.{PortState, Receives, Sends}
+use Rattle.fuse_session.specs.Transcript.{PortEvent, Received, Handed, one_receive, one_send, Steps, Gave, came_with, received_in}
 use Rattle.fuse_session.specs.Transcript.{handed_with, handed_in, IsTranscript, sends_of, left_after, left_of, StopsAfter, RestsOf, IsLeft, Hands}
 use Rattle.fuse_session.proofs.Bytes.{rest_is}
 
@@ -133,22 +135,27 @@ nothing_left (b ∷ rest) none = absurd (omega arith)
 pub hands_all : (became : List PortEvent → Type 0) (bytes rest : List ℕ) → length rest ≡ 0 → HandsSome became bytes rest → Hands became bytes true
 hands_all became bytes rest none one = record { slices = one.slices; calls = one.calls; rests = one.rests; left = one.left ∙ nothing_left rest none }
 
--- ---- the counts of a port after several calls
+-- ---- a port that neither ended nor failed to receive
 
-pub receives_with : PortEvent → ℕ
-receives_with (Received result bytes) = 1
-receives_with (Handed slice result) = 0
+ends_rise : (old new : PortState) (es : List PortEvent) → Steps old new es → old.ends ≤ new.ends
+ends_rise old new [] is = omega (arith, ap (λ (p : PortState). p.ends) is)
+ends_rise old new (Received result bytes ∷ es) steps = omega (arith, steps.1.receives.ends, ends_rise steps.0 new es steps.2)
+ends_rise old new (Handed slice result ∷ es) steps = omega (arith, steps.1.quiet.ends, ends_rise steps.0 new es steps.2)
 
--- how often it was asked to receive
-pub receives_in : List PortEvent → ℕ
-receives_in [] = 0
-receives_in (e ∷ es) = receives_with e + receives_in es
+failures_rise : (old new : PortState) (es : List PortEvent) → Steps old new es → old.receive_failures ≤ new.receive_failures
+failures_rise old new [] is = omega (arith, ap (λ (p : PortState). p.receive_failures) is)
+failures_rise old new (Received result bytes ∷ es) steps = omega (arith, steps.1.receives.receive_failures, failures_rise steps.0 new es steps.2)
+failures_rise old new (Handed slice result ∷ es) steps = omega (arith, steps.1.quiet.receive_failures, failures_rise steps.0 new es steps.2)
 
-pub ends_with : PortEvent → ℕ
-ends_with (Received result bytes) = ends_of result
-ends_with (Handed slice result) = 0
-
--- how often a receive said that it has ended
-pub ends_in : List PortEvent → ℕ
-ends_in [] = 0
-ends_in (e ∷ es) = ends_with e + ends_in es
+-- each receive gave bytes
+pub each_gave : (old new : PortState) (es : List PortEvent) → Steps old new es → new.ends ≡ old.ends → new.receive_failures ≡ old.receive_failures
+    → AllByRecursion Gave es
+each_gave old new [] steps ends failures = tt
+each_gave old new (Received (Got n) bytes ∷ es) steps ends failures =
+    (tt, each_gave steps.0 new es steps.2 (omega (arith, steps.1.receives.ends, ends)) (omega (arith, steps.1.receives.receive_failures, failures)))
+each_gave old new (Received End bytes ∷ es) steps ends failures =
+    absurd (omega (arith, steps.1.receives.ends, ends, ends_rise steps.0 new es steps.2))
+each_gave old new (Received ReceiveFailed bytes ∷ es) steps ends failures =
+    absurd (omega (arith, steps.1.receives.receive_failures, failures, failures_rise steps.0 new es steps.2))
+each_gave old new (Handed slice result ∷ es) steps ends failures =
+    (tt, each_gave steps.0 new es steps.2 (omega (arith, steps.1.quiet.ends, ends)) (omega (arith, steps.1.quiet.receive_failures, failures)))

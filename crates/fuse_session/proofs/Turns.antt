@@ -18,7 +18,7 @@ use Rattle.fuse_session.specs.declared.ended.Ended.TheVariants as ended
 use Rattle.fuse_session.specs.declared.group.Next.{Next}
 use Rattle.fuse_session.specs.declared.group.Next.TheVariants.{GoesOn as GoesOnHere, Destroyed, ZeroUnique}
 use Rattle.fuse_session.specs.Port.{PortState}
-use Rattle.fuse_session.specs.Processed.{Timed, bytes_of, kept_in, answers, says_zero, message_id, StartsZero, GoesOn, moments_in}
+use Rattle.fuse_session.specs.Processed.{Timed, bytes_of, kept_in, answers, says_zero, message_id, StartsZero, GoesOn, Works, moments_in}
 use Rattle.fuse_session.specs.Settling.{Mark, replies, settled_in, NoneComesAgain, Replied, FewHave}
 use Rattle.fuse_session.specs.Counting.{plus, none_counted, counted}
 use Rattle.fuse_session.specs.Batches.{Batch, timed_in, marks_in, pending_after, left_over, AllAnswered}
@@ -58,7 +58,7 @@ turned_quiet M holds did p q pending deeds done none unasked unhanded replied = 
     batches = [];
     are = record { messages = refl; answers = refl };
     asked = unasked;
-    first = λ _. first_unsent M holds p.confirms pending [];
+    first = λ _. first_unsent M holds p.confirms pending [] (λ s h. tt);
   };
   bytes = refl;
   full = refl;
@@ -158,7 +158,11 @@ first_more M grows holds mid new did did' p q r ids ids' prefix counts one two h
           let few : length first ≤ length a.marks = omega (arith, one.full, ap length here.1, length-append first here.0) in
           let said = a.first (honest_too honest) first here.0 here.1 s h t so within
           (again_some V c t (bytes_of first) a.marks two.marks (omega (arith, few, length-map first (λ (x : Timed). x.bytes))) again) in
-          (said.0, said.1 ∙ ap (λ (l : List Mark). replies l ++ said.0) (sym (take-append-le (length first) a.marks two.marks few)))
+          record {
+            works = said.works;
+            unsent = said.unsent;
+            sent = said.sent ∙ ap (λ (l : List Mark). replies l ++ said.unsent) (sym (take-append-le (length first) a.marks two.marks few));
+          }
       | inr there ↦
           let zs = there.0 in
           let again' = again_both V c q.confirms t a.timed zs a.marks two.marks same one.full
@@ -167,14 +171,17 @@ first_more M grows holds mid new did did' p q r ids ids' prefix counts one two h
           let g = grown h (kept_in V a.timed) in
           let y = two.first honest zs others there.2 s g (settled_with t a) x.stands
           (still_pending M (passage holds mid p q did) ids ids' prefix true counts one t within) again'.1 in
-          let long : length first ≡ length a.marks + length zs = ap length there.1 ∙ length-append a.timed zs ∙ ap (λ n. n + length zs) (sym one.full) in (
-            y.0,
-            ap (λ (l : List Timed). answers M s (grown h (kept_in V l)) l) there.1 ∙ answers-append M grows s h a.timed zs
-                ∙ ap (λ l. l ++ answers M s (grown g (kept_in V zs)) zs) (sym x.sent) ∙ ap (λ l. replies a.marks ++ l) y.1
-                ∙ sym (append_assoc (replies a.marks) (replies (take (length zs) two.marks)) y.0)
-                ∙ ap (λ l. l ++ y.0) (sym (replies-append a.marks (take (length zs) two.marks)) ∙ ap replies (sym (take-append-add a.marks two.marks (length zs))
-                ∙ ap (λ n. take n (a.marks ++ two.marks)) (sym long))),
-          )
+          let long : length first ≡ length a.marks + length zs = ap length there.1 ∙ length-append a.timed zs ∙ ap (λ n. n + length zs) (sym one.full) in
+          record {
+            works = subst (Works M s h) (sym there.1) (Works-append M s h a.timed zs (x.goes refl) y.works);
+            unsent = y.unsent;
+            sent =
+                ap (λ (l : List Timed). answers M s (grown h (kept_in V l)) l) there.1 ∙ answers-append M grows s h a.timed zs
+                ∙ ap (λ l. l ++ answers M s (grown g (kept_in V zs)) zs) (sym x.sent) ∙ ap (λ l. replies a.marks ++ l) y.sent
+                ∙ sym (append_assoc (replies a.marks) (replies (take (length zs) two.marks)) y.unsent)
+                ∙ ap (λ l. l ++ y.unsent) (sym (replies-append a.marks (take (length zs) two.marks)) ∙ ap replies (sym (take-append-add a.marks two.marks (length zs))
+                ∙ ap (λ n. take n (a.marks ++ two.marks)) (sym long)));
+          }
     ]
 
 -- what was done for both

@@ -64,10 +64,12 @@ pub record Exact (M : Model) (at : Standing M) (x : Exchange) (Stood : Standing 
   pub stands : Stood (grown_by at (record x { timed = worked }))
   pub sent : replies x.marks ≡ answers M at.state (grown at.history (kept_in M.serves worked)) worked
 
--- the whole answers that were sent for these messages are the first of those that are said, where just these messages are added
-abbrev pub AnswersBegin : (M : Model) → Standing M → Exchange → Type 0
-AnswersBegin M at x = (unsent : List (List ℕ))
-    × (answers M at.state (grown at.history (kept_in M.serves x.timed)) x.timed ≡ replies (take (length x.timed) x.marks) ++ unsent)
+-- these messages were processed, and the whole answers that were sent for them are the first of those that are said, where just
+-- these messages are added
+pub record AnswersBegin (M : Model) (at : Standing M) (x : Exchange) : Type 0 where
+  pub works : Works M at.state at.history x.timed
+  pub unsent : List (List ℕ)
+  pub sent : answers M at.state (grown at.history (kept_in M.serves x.timed)) x.timed ≡ replies (take (length x.timed) x.marks) ++ unsent
 
 -- so it is up to the first message that comes again: of any of the first messages, whatever comes after them
 abbrev pub FirstAnswered : {M : Model} → KeeperState M → List ℕ → Exchange → Type 0

@@ -1,19 +1,22 @@
 -- All messages that came are answered before more is received (own profile).
-use Rattle.std.specs.Prelude.{◌≡◌, ℕ, Bool, List, [], ◌∷◌, ◌++◌, length}
-use Rattle.fuse_request.specs.Stream.{cut}
+use Rattle.std.specs.Prelude.{◌≡◌, ℕ, Bool, List, [], ◌∷◌, ◌++◌, length, None}
+use Rattle.std.specs.List.{AllByRecursion}
+use Rattle.fuse_request.specs.Framing.{bad_length}
+use Rattle.fuse_request.specs.Stream.{cut, joined}
 use Rattle.fuse_keeper.specs.History.{grown}
 use Rattle.fuse_keeper.specs.Model.{Model}
 use Rattle.fuse_keeper.specs.KeeperState.{KeeperState}
 use Rattle.fuse_session.specs.declared.port.Received.{Received as ReceiveResult}
-use Rattle.fuse_session.specs.Transcript.{PortEvent, Received, received_in, handed_in}
+use Rattle.fuse_session.specs.Transcript.{PortEvent, Received, received_in, handed_in, Gave}
 use Rattle.fuse_session.specs.Deeds.{Deeds}
-use Rattle.fuse_session.specs.Processed.{Timed, bytes_of, kept_in, answers}
+use Rattle.fuse_session.specs.Processed.{Timed, bytes_of, kept_in, answers, GoesOn}
 use Rattle.fuse_session.specs.Settling.{Mark, replies}
 use Rattle.fuse_session.specs.Slices.{RestsOfAll}
 use Rattle.fuse_session.specs.Passage.{Passage}
 use Rattle.fuse_session.specs.Exchange.{IfNoneComesAgain}
 
 -- after these events: all messages of the bytes that came were processed, and exactly their answers were handed over, each whole;
+-- nothing ended the session yet: no message, no bad length after them, and no receive.
 -- `k` is the keeper at first and `new` the one in the end
 pub record CaughtUp {M : Model} (k new : KeeperState M) (confirms : Bool) (events : List PortEvent) : Type 0 where
   pub timed : List Timed
@@ -23,6 +26,10 @@ pub record CaughtUp {M : Model} (k new : KeeperState M) (confirms : Bool) (event
   pub slices : RestsOfAll marks (handed_in events)
   pub sent : new.is_honest → IfNoneComesAgain k [] (record { confirms = confirms; timed = timed; marks = marks })
       (λ at. replies marks ≡ answers M at.state (grown at.history (kept_in M.serves timed)) timed)
+  pub goes : new.is_honest → IfNoneComesAgain k [] (record { confirms = confirms; timed = timed; marks = marks })
+      (λ at. GoesOn M at.state at.history timed)
+  pub good : bad_length (length (joined (bytes_of timed))) (cut (received_in events)).1 ≡ None
+  pub gave : AllByRecursion Gave events
 
 -- so it was before each receive
 abbrev pub AnswersFirst : {M : Model} → KeeperState M → KeeperState M → Bool → List PortEvent → Type 0

@@ -64,6 +64,13 @@ pub record IsTranscript {P : Type 0} (became : P → P → List PortEvent → Ty
   pub none : (p : P) → became p p []
   pub onward : (a b c : P) (xs ys : List PortEvent) → became a b xs → became b c ys → became a c (xs ++ ys)
 
+-- bytes came, where it is a receive: it told neither an end nor a failure
+abbrev pub Gave : PortEvent → Type 0
+Gave (Received (Got n) bytes) = Unit {0}
+Gave (Received End bytes) = ⊥
+Gave (Received ReceiveFailed bytes) = ⊥
+Gave (Handed slice result) = Unit {0}
+
 -- what it became is the state after the calls
 abbrev pub Tells : {P : Type 0} → (P → PortState) → (P → P → List PortEvent → Type 0) → Type 0
 Tells told became = (a b : _) (events : List PortEvent) → became a b events → Steps (told a) (told b) events

@@ -16,6 +16,7 @@ use Rattle.fuse_session.proofs.Waiting.{ready_new, room_still}
 use Rattle.fuse_session.proofs.Growing.{whole_life, life_more}
 use Rattle.fuse_session.proofs.Sessions.{whole_start, whole_step, ends_more, life_none, failed_both, counts_more, counts_below, failed_since}
 use Rattle.fuse_session.proofs.Prompting.{Answering, first_none, first_more, caught_whole, whole_did, prompt_run}
+use Rattle.fuse_session.proofs.Transcripts.{each_gave}
 use Rattle.fuse_session.proofs.Doing.{no_deeds, did_none, did_more}
 use Rattle.fuse_session.proofs.session.serve.Goals as goal
 
@@ -75,6 +76,9 @@ loop-turn-preserved g c =
     let e = c.in-Ok-one_turn.ensures in
     let t = e.ok in
     let k' = c.one_turn.new.keeper in
+    let gave = each_gave _ _ inv.whole.turned.work.deeds.events
+    (g.met.P.Port.tells c.args.port.now c.loop-turn.port inv.whole.turned.work.deeds.events inv.whole.turned.work.done.0.done.events)
+    inv.not_ended.ends inv.receive_failures in
     record {
       whole = whole_step g.K.Keeper.model c.histories_grow.ensures c.cut_joins.ensures (g.K.Keeper.told c.args.keeper.now)
           (g.K.Keeper.told c.loop-turn.keeper) (g.K.Keeper.told k') _
@@ -84,7 +88,7 @@ loop-turn-preserved g c =
                 c.args.clock.now c.loop-turn.clock c.one_turn.new.clock c.args.keeper.now c.loop-turn.keeper c.one_turn.new.keeper
                 c.args.port.now c.loop-turn.port c.one_turn.new.port inv.whole.turned.work.deeds b inv.whole.turned.work.done.0.done two.done;
             first = first_more g.K.Keeper.model (g.K.Keeper.told c.args.keeper.now) (g.K.Keeper.told c.loop-turn.keeper) (g.K.Keeper.told c.one_turn.new.keeper) _ _
-                inv.whole.turned.work.deeds b e.honest (caught_whole g.K.Keeper.model _ _ _ _ _ _ _ inv.whole) inv.whole.turned.work.done.0.first two;
+                inv.whole.turned.work.deeds b e.honest (caught_whole g.K.Keeper.model _ _ _ _ _ _ _ inv.whole inv.ready.good gave) inv.whole.turned.work.done.0.first two;
           });
       ready = e.opened;
       below = subst (λ x. IsBelow x ((c.loop-turn.turn + 1) * 2 ^ 20)) (sym c.sum_of-counts.ensures)
@@ -133,6 +137,9 @@ returns-in-Err-clause-session g c =
     did_more g.C.Clock.gave g.K.Keeper.performed g.P.Port.became g.met.C.Clock.logged g.met.K.Keeper.log g.met.P.Port.path
     c.args.clock.now c.loop-turn.clock c.one_turn.new.clock c.args.keeper.now c.loop-turn.keeper c.one_turn.new.keeper
     c.args.port.now c.loop-turn.port c.one_turn.new.port inv.whole.turned.work.deeds b inv.whole.turned.work.done.0.done two in
+    let gave = each_gave _ _ inv.whole.turned.work.deeds.events
+    (g.met.P.Port.tells c.args.port.now c.loop-turn.port inv.whole.turned.work.deeds.events inv.whole.turned.work.done.0.done.events)
+    inv.not_ended.ends inv.receive_failures in
     record {
       ends = record {
         counts = plus c.loop-turn.counts t.counts;
@@ -147,7 +154,7 @@ returns-in-Err-clause-session g c =
           (life_more M c.histories_grow.ensures c.cut_joins.ensures k m k' _ _ (Answering k k' did p.confirms) _ _ _ nothing_waits _ c.loop-turn.counts ended
           inv.whole t.life inv.may e.honest inv.firm (λ b two. record {
             done = onward b two.done;
-            first = first_more M k m k' _ _ inv.whole.turned.work.deeds b e.honest (caught_whole M _ _ _ _ _ _ _ inv.whole)
+            first = first_more M k m k' _ _ inv.whole.turned.work.deeds b e.honest (caught_whole M _ _ _ _ _ _ _ inv.whole inv.ready.good gave)
                 inv.whole.turned.work.done.0.first two;
           }));
       lots = λ confirms intact rows (records : Records) held rowed.
