@@ -133,24 +133,3 @@ none_again u (e ∷ es) i each there =
     if_not (entry_id e == i) (is_in (ids_in es) i)
     (λ is. let same = eqb-true (entry_id e) i is in let first = All-head (IsUnsettled u) e es each in absurd (cc (same, first, there)))
     (none_again u es i (All-tail (IsUnsettled u) e es each) there)
-
-comes_fewer : (t u : List ℕ) (class : Class) (i : ℕ) → Includes t u → comes_again t class i ≡ false → comes_again u class i ≡ false
-comes_fewer t u Silent i within may = refl
-comes_fewer t u (Bare errno) i within may = refl
-comes_fewer t u Kept i within may = unsettled_too t u i within may
-
-includes_more : (t u more : List ℕ) → Includes t u → Includes (t ++ more) (u ++ more)
-includes_more t u more within i there = elim (in_either u more i there) [
-  | inl old ↦ includes_left t more i (within i old)
-  | inr new ↦ includes_right t more i new
-]
-
--- where fewer were settled before, none comes again either
-pub again_fewer : (V : OpcodeSet) → (c : Bool) (t u : List ℕ) (xs : List (List ℕ)) (ms : List Mark) → Includes t u → NoneComesAgain V c t xs ms → NoneComesAgain V c u xs ms
-again_fewer V c t u [] ms within each = tt
-again_fewer V c t u (x ∷ xs) [] within each = (comes_fewer t u (class_for V x) (message_id x) within each.0, again_fewer V c t u xs [] within each.1)
-again_fewer V c t u (x ∷ xs) (m ∷ ms) within each = (
-  comes_fewer t u (class_for V x) (message_id x) within each.0,
-  again_fewer V c (t ++ settles V c x m) (u ++ settles V c x m) xs ms
-      (includes_more t u (settles V c x m) within) each.1,
-)

@@ -1,7 +1,7 @@
 -- What stands stays standing, and how histories grow.
 use Rattle.std.proofs.Common.{◌≡◌, ◌⊎◌, inl, inr, ℕ, Bool, true, false, List, [], ◌∷◌, ◌++◌, refl, sym, ◌∙◌}
-use Rattle.fuse_keeper.specs.History.{Entry, History, after, add, grown, is_in, Includes}
-use Rattle.fuse_keeper.specs.Model.{Model, IsRowed}
+use Rattle.fuse_keeper.specs.History.{Entry, History, add, grown, is_in, Includes}
+use Rattle.fuse_keeper.specs.Model.{Model}
 use Rattle.fuse_keeper.specs.Stands.{Standing, StandsAt, Records, Stands, AreThese}
 use Rattle.fuse_session.specs.Processed.{Timed}
 use Rattle.fuse_session.specs.Settling.{Mark}
@@ -42,10 +42,6 @@ Stands-same M rows records x r s h t same so = record {
   right = λ i a is. so.right i a (sym (same.1 i) ∙ is);
   kept = λ i fresh. same.1 i ∙ so.kept i fresh;
 }
-
--- what stands is that of a good state
-pub rowed_by : (M : Model) → (rows : M.Rows) (records : Records) (s : M.State) (h : History) (t : List ℕ) → Stands M rows records s h t → IsRowed M rows
-rowed_by M rows records s h t so = unfold IsRowed in (after M s h, so.tree, so.rows_are)
 
 -- more may be settled
 pub Stands-settled : (M : Model) → (rows : M.Rows) (records : Records) (s : M.State) (h : History) (t more : List ℕ) → Includes more t

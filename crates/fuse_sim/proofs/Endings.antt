@@ -124,8 +124,8 @@ kept_or_gone false o now is isnt = is
 
 pub moved_records : (M : Model) (holds holds' : KeeperState M) (es others : List Event) (p : List ℕ) (new : List (Option Outcome))
     → Moved (stage holds [] []) (stage holds' p new) 0 es others
-    → NoneReused M.serves [] es → Reports holds holds' (λ rows records. HoldsRecords holds' (RecordsLeft M.serves (performances M.serves es) es records))
-moved_records M holds holds' es others p new moved none is rows records held rowed =
+    → Reports holds holds' (λ rows records. HoldsRecords holds' (RecordsLeft M.serves (performances M.serves es) es records))
+moved_records M holds holds' es others p new moved is rows records held rowed =
     let done = moved.ran.records is rows records held rowed in
     record {
       rows = done.rows;
@@ -133,7 +133,7 @@ moved_records M holds holds' es others p new moved none is rows records held row
       held = done.held;
       rowed = done.rowed;
       left = record {
-        gone = λ i was. done.left.gone [] (includes_none []) none i (sym (ap (λ x. is_in x i) (handed_performances M.serves es)) ∙ was);
+        gone = λ none i was. done.left.gone [] (includes_none []) none i (sym (ap (λ x. is_in x i) (handed_performances M.serves es)) ∙ was);
         others = λ i isnt. kept_or_gone (is_in (handed_on M.serves empty_ledger es) i) (records i) (done.records i) (done.left.others i isnt)
             (λ there. absurd (let came = handed_came M.serves es i there in cc (came, isnt)));
       };

@@ -67,17 +67,20 @@ handed_no_more V xs ys i none there =
     not_among u (commits_in V ys) i (none_reused V u ys none)
     (handed_settled V [] empty_ledger xs (includes_none []) i (sym (ap (λ x. is_in x i) (handed_performances V xs)) ∙ there))
 
-left_in_a_row : (V : OpcodeSet) (xs ys : List Event) (r r' r'' : Records) → NoneReused V (settled_by V [] xs) ys → RecordsLeft V (performances V xs) xs r r'
+left_in_a_row : (V : OpcodeSet) (xs ys : List Event) (r r' r'' : Records) → RecordsLeft V (performances V xs) xs r r'
     → RecordsLeft V (performances V ys) ys r' r'' → RecordsLeft V (performances V xs ++ performances V ys) (xs ++ ys) r r''
-left_in_a_row V xs ys r r' r'' none one two =
+left_in_a_row V xs ys r r' r'' one two =
     let ids : ids_in (commits_in V (xs ++ ys)) ≡ ids_in (commits_in V xs) ++ ids_in (commits_in V ys) = ap ids_in (commits-append V xs ys)
     ∙ ids-append (commits_in V xs) (commits_in V ys) in
     let handed = handed_in-append (performances V xs) (performances V ys) in
     record {
-      gone = λ i there. elim (in_either (handed_in (performances V xs)) (handed_in (performances V ys)) i (sym (ap (λ x. is_in x i) handed) ∙ there)) [
-        | inl before ↦ two.others i (handed_no_more V xs ys i none before) ∙ one.gone i before
-        | inr later ↦ two.gone i later
-      ];
+      gone = λ none i there.
+          let u = settled_by V [] xs in
+          let parts = reused-parts V [] xs ys none in
+          elim (in_either (handed_in (performances V xs)) (handed_in (performances V ys)) i (sym (ap (λ x. is_in x i) handed) ∙ there)) [
+            | inl before ↦ two.others i (handed_no_more V xs ys i parts.1 before) ∙ one.gone parts.0 i before
+            | inr later ↦ two.gone (none_of_fewer V u [] ys (includes_none u) parts.1) i later
+          ];
       others = λ i isnt.
           let both = or_false (is_in (ids_in (commits_in V xs)) i) (is_in (ids_in (commits_in V ys)) i)
           (sym (ap (λ x. is_in x i) ids ∙ is_in-append (ids_in (commits_in V xs)) (ids_in (commits_in V ys)) i) ∙ isnt) in
@@ -88,17 +91,15 @@ pub records_in_a_row : (M : Model) → {K : Type 0} (told : K → KeeperState M)
     → ((told_in told new).is_honest → (told_in told mid).is_honest)
     → DeletesHanded told old mid (performances M.serves xs) xs → DeletesHanded told mid new (performances M.serves ys) ys
     → DeletesHanded told old new (performances M.serves xs ++ performances M.serves ys) (xs ++ ys)
-records_in_a_row M told old mid new xs ys was one two = λ none is rows records held rowed.
-    let u = settled_by M.serves [] xs in
-    let parts = reused-parts M.serves [] xs ys none in
-    let first = one parts.0 (was is) rows records held rowed in
-    let second = two (none_of_fewer M.serves u [] ys (includes_none u) parts.1) is first.rows first.records first.held first.rowed in
+records_in_a_row M told old mid new xs ys was one two = λ is rows records held rowed.
+    let first = one (was is) rows records held rowed in
+    let second = two is first.rows first.records first.held first.rowed in
     record {
       rows = second.rows;
       records = second.records;
       held = second.held;
       rowed = second.rowed;
-      left = left_in_a_row M.serves xs ys records first.records second.records parts.1 first.left second.left;
+      left = left_in_a_row M.serves xs ys records first.records second.records first.left second.left;
     }
 
 -- ---- the records that stay

@@ -1,5 +1,5 @@
 -- What holds after events were run to their end: the keeper, the answers, and the records (own profile).
-use Rattle.std.specs.Prelude.{◌≡◌, ℕ, false, List, [], ◌++◌, map, Option}
+use Rattle.std.specs.Prelude.{◌≡◌, ℕ, false, List, ◌++◌, map, Option}
 use Rattle.fuse_keeper.specs.History.{History, said, is_in}
 use Rattle.fuse_keeper.specs.Model.{Model}
 use Rattle.fuse_keeper.specs.Stands.{Records}
@@ -32,10 +32,10 @@ AnswersBegin {M} told old new events outcomes = (told_in told new).is_honest →
     → (start : M.State) (h : History) (settled : List ℕ) → StandsIn told old start h settled → NoneReused M.serves settled earlier
     → OutcomesBegin M start h earlier (map bytes_given outcomes)
 
--- the records of the ids that were handed on are deleted, whatever history the keeper stood for, if any
+-- the records of ids that didn't come stay, and those that were handed on are deleted, whatever history the keeper stood for, if any
 abbrev pub DeletesHanded : {M : Model} {K : Type 0} → (K → KeeperState M) → Option K → Option K → List Performance → List Event → Type 0
-DeletesHanded {M} told old new asked events = NoneReused M.serves [] events
-    → Reports (told_in told old) (told_in told new) (λ rows records. HoldsRecords (told_in told new) (RecordsLeft M.serves asked events records))
+DeletesHanded {M} told old new asked events =
+    Reports (told_in told old) (told_in told new) (λ rows records. HoldsRecords (told_in told new) (RecordsLeft M.serves asked events records))
 
 -- each id that is neither settled before nor handed on has the record that the history says
 abbrev pub KeepsUnhanded : {M : Model} {K : Type 0} → (K → KeeperState M) → Option K → Option K → List Performance → List Event → Type 0

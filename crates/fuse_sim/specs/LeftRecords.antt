@@ -7,7 +7,7 @@ use Rattle.fuse_keeper.specs.Stands.{Records}
 use Rattle.fuse_keeper.specs.KeeperState.{KeeperState}
 use Rattle.fuse_keeper.specs.Performance.{Performance}
 use Rattle.fuse_sim.specs.declared.event.Event.{Event}
-use Rattle.fuse_sim.specs.Driving.{commits_in, settles, Calm, EventIn, up_to}
+use Rattle.fuse_sim.specs.Driving.{commits_in, settles, Calm, EventIn, up_to, NoneReused}
 use Rattle.fuse_sim.specs.HandedOn.{handed_in}
 
 -- at least so many requests are committed by these events up to one of them, before which the server doesn't die
@@ -22,10 +22,10 @@ pub record SettledBefore (V : OpcodeSet) (n : ℕ) (events : List Event) (i : �
   pub settled : settles V at.one ≡ i ∷ []
   pub follow : Follow V n at.later
 
--- the records of the ids that were handed on are deleted; those of ids that didn't come stay
+-- the records of ids that didn't come stay, and those of the ids that were handed on are deleted, where none of these came again
 pub record RecordsLeft (V : OpcodeSet) (asked : List Performance) (events : List Event) (records records' : Records) : Type 0 where
-  pub gone : (i : ℕ) → is_in (handed_in asked) i ≡ true → records' i ≡ None
   pub others : (i : ℕ) → is_in (ids_in (commits_in V events)) i ≡ false → records' i ≡ records i
+  pub gone : NoneReused V [] events → (i : ℕ) → is_in (handed_in asked) i ≡ true → records' i ≡ None
 
 -- it holds something of a good state, with such records
 pub record HoldsRecords {M : Model} (k : KeeperState M) (P : Records → Type 0) : Type 0 where

@@ -325,8 +325,9 @@ pub fn drive<K: Restart>(
         (λ fault. is_store fault ≡ false → (told_in K.told keeper.new).is_honest
         → IsFirm (told_in K.told keeper.old) → IsFirm (told_in K.told keeper.new)) }
 
-    // The records that are left: those of the ids that the ledger hands on are deleted, and all
-    // others stay.
+    // The records that are left: those of ids that don't come stay. Where no message comes again
+    // whose answer was taken, those of the ids that the ledger hands on are deleted, and all others
+    // stay.
     ensures records { OnOk result (DeletesHanded K.told keeper.old keeper.new
         (performances K.model.serves events.now) events.now) }
     ensures kept { OnOk result (KeepsUnhanded K.told keeper.old keeper.new

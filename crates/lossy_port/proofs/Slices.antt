@@ -10,7 +10,8 @@ use Rattle.lossy_port.specs.declared.line.Line.{Line}
 use Rattle.lossy_port.specs.declared.port.LossyPort.{LossyPort}
 use Rattle.lossy_port.specs.Losing.{through_of, Delivers}
 use Rattle.lossy_port.specs.inner.OneAnswer.{Takes}
-use Rattle.lossy_port.specs.Lossy.{lossy_told, Passes, Delivered, delivers_none}
+use Rattle.lossy_port.specs.Lossy.{lossy_told, Passes, Delivered}
+use Rattle.lossy_port.specs.inner.Laws.{delivers_none}
 
 pub one_taken : (a b : Line) (bytes : List ℕ) → Takes a b bytes → Delivers a b (bytes ∷ [])
 one_taken a b bytes takes = record {

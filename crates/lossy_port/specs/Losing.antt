@@ -20,13 +20,6 @@ abbrev pub lost_after : ℕ → ℕ → List (List ℕ) → ℕ
 lost_after every left [] = left
 lost_after every left (answer ∷ more) = lost_after every (lost_then every left) more
 
--- no answer was sent
-pub record Stays (old new : Line) : Type 0 where
-  pub sent : new.sent.items ≡ old.sent.items
-  pub delivered : new.delivered.items ≡ old.delivered.items
-  pub every : new.every ≡ old.every
-  pub left : new.left ≡ old.left
-
 -- these were, one after the other
 pub record Delivers (old new : Line) (answers : List (List ℕ)) : Type 0 where
   pub sent : new.sent.items ≡ old.sent.items ++ joined answers

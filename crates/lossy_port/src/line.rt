@@ -1,7 +1,7 @@
 // A line on which answers are lost.
 ghost use Rattle.std.specs.Prelude.{◌≡◌, [], OnOk, OnErr, length};
-ghost use Rattle.lossy_port.specs.Losing.{Stays, LacksRoom};
-ghost use Rattle.lossy_port.specs.inner.OneAnswer.{Takes};
+ghost use Rattle.lossy_port.specs.Losing.{LacksRoom};
+ghost use Rattle.lossy_port.specs.inner.OneAnswer.{Takes, Stays};
 
 use std::alloc::{AllocError, Global};
 

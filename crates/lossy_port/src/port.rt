@@ -61,7 +61,8 @@ impl Port for LossyPort {
     ghost use Rattle.fuse_session.specs.Port.{IsYoung, Receives, Sends};
     ghost use Rattle.fuse_session.specs.Transcript.{one_receive, one_send};
     ghost use Rattle.lossy_port.specs.Lossy.{lossy_told, bytes_left, received_by, Passes};
-    ghost use Rattle.lossy_port.specs.Lossy.{Delivered, delivered_path, delivered_tells};
+    ghost use Rattle.lossy_port.specs.Lossy.{Delivered};
+    ghost use Rattle.lossy_port.specs.inner.Laws.{delivered_path, delivered_tells};
 
     ghost told = { lossy_told };
 

@@ -1,7 +1,7 @@
 use Rattle.std.proofs.Common.{refl, sym, ◌∙◌, arith}
 use Rattle.std.proofs.lemmas.List.{append-nil}
 use Rattle.std.proofs.lemmas.Grind.{common_steps}
-use Rattle.lossy_port.specs.Lossy.{delivers_none}
+use Rattle.lossy_port.specs.inner.Laws.{delivers_none}
 use Rattle.lossy_port.proofs.Slices.{one_taken, one_sent}
 use Rattle.lossy_port.proofs.port.LossyPortPort.send.Goals as goal
 
