@@ -1,11 +1,11 @@
 -- What a session did, step after step.
-use Rattle.std.proofs.Common.{◌≡◌, ℕ, List, [], ◌∷◌, ◌++◌, refl, sym, ap, ◌∙◌}
+use Rattle.std.proofs.Common.{◌≡◌, inl, inr, ℕ, List, [], ◌∷◌, ◌++◌, refl, sym, ap, ◌∙◌}
 use Rattle.std.proofs.lemmas.List.{append-nil}
 use Rattle.fuse_wire.specs.declared.moment.Moment.{Moment}
 use Rattle.fuse_keeper.specs.Performance.{Performance, IsPerformanceLog}
 use Rattle.fuse_session.specs.declared.port.Received.{Received as Receipt}
 use Rattle.fuse_session.specs.Clock.{IsLog}
-use Rattle.fuse_session.specs.Transcript.{PortEvent, Received, received_in, sends_of, IsTranscript}
+use Rattle.fuse_session.specs.Transcript.{PortEvent, Received, received_in, sends_of, Gave, IsTranscript}
 use Rattle.fuse_session.specs.Deeds.{Deeds, Did, Hears}
 use Rattle.fuse_session.specs.inner.Turn.{Mute, OneTurn}
 use Rattle.fuse_session.proofs.Transcripts.{received_more, sends_more, received_sends}
@@ -61,9 +61,9 @@ one_heard result bytes = record { moments = []; asked = []; events = Received re
 
 -- a receive, and the sends after it
 pub turn_of : {P : Type 0} (gave : List Moment → Type 0) (performed : List Performance → Type 0) (became : P → P → List PortEvent → Type 0) → IsTranscript became
-    → (p q r : P) (result : Receipt) (bytes : List ℕ) (b : Deeds) → became p q (Received result bytes ∷ []) → Mute (Did gave performed (became q r)) b
-    → OneTurn (Did gave performed (became p r)) (then_did (one_heard result bytes) b)
-turn_of gave performed became path p q r result bytes b one two = record {
+    → (p q r : P) (result : Receipt) (bytes : List ℕ) (b : Deeds) → became p q (Received result bytes ∷ []) → Gave (Received result bytes)
+    → Mute (Did gave performed (became q r)) b → OneTurn (Did gave performed (became p r)) (then_did (one_heard result bytes) b)
+turn_of gave performed became path p q r result bytes b one came two = record {
   done = record {
     moments = two.done.moments;
     asked = two.done.asked;
@@ -73,6 +73,7 @@ turn_of gave performed became path p q r result bytes b one two = record {
   bytes = bytes;
   slices = two.slices;
   events = ap (λ (l : List PortEvent). Received result bytes ∷ l) two.events;
+  gave = inl came;
 }
 
 pub heard_by : (result : Receipt) (bytes : List ℕ) → received_in (one_heard result bytes).events ≡ bytes
@@ -82,15 +83,15 @@ pub turn_none : {P : Type 0} (gave : List Moment → Type 0) (performed : List P
     → (p q : P) (result : Receipt) (bytes : List ℕ) → gave [] → performed [] → became p q (Received result bytes ∷ [])
     → Hears (OneTurn (Did gave performed (became p q))) bytes (one_heard result bytes)
 turn_none gave performed became p q result bytes none unasked one = (
-  record { done = record { moments = none; asked = unasked; events = one }; result = result; bytes = bytes; slices = []; events = refl },
+  record { done = record { moments = none; asked = unasked; events = one }; result = result; bytes = bytes; slices = []; events = refl; gave = inr refl },
   heard_by result bytes,
 )
 
 -- a receive and the sends after it, and what came
 pub turn_hears : {P : Type 0} (gave : List Moment → Type 0) (performed : List Performance → Type 0) (became : P → P → List PortEvent → Type 0)
     → IsTranscript became → (p q r : P) (result : Receipt) (bytes : List ℕ) (b : Deeds) → became p q (Received result bytes ∷ [])
-    → Mute (Did gave performed (became q r)) b → Hears (OneTurn (Did gave performed (became p r))) bytes (then_did (one_heard result bytes) b)
-turn_hears gave performed became path p q r result bytes b one two = (
-  turn_of gave performed became path p q r result bytes b one two,
+    → Gave (Received result bytes) → Mute (Did gave performed (became q r)) b → Hears (OneTurn (Did gave performed (became p r))) bytes (then_did (one_heard result bytes) b)
+turn_hears gave performed became path p q r result bytes b one came two = (
+  turn_of gave performed became path p q r result bytes b one came two,
   ap (λ (l : List PortEvent). bytes ++ received_in l) two.events ∙ ap (λ (l : List ℕ). bytes ++ l) (received_sends two.slices) ∙ append-nil bytes,
 )

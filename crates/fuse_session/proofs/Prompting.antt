@@ -15,13 +15,14 @@ use Rattle.fuse_session.specs.Processed.{bytes_of}
 use Rattle.fuse_session.specs.declared.ended.Ended.{Ended}
 use Rattle.fuse_session.specs.Passage.{passage}
 use Rattle.fuse_session.specs.Serving.{Turned, Waiting, nothing_waits, Whole, Run}
-use Rattle.fuse_session.specs.Prompt.{CaughtUp, AnswersFirst, Prompt}
+use Rattle.fuse_session.specs.Prompt.{CaughtUp, AnswersFirst, StopsThere, Prompt}
 use Rattle.fuse_session.specs.inner.Turn.{OneTurn}
 
 -- this was done, and all that came was answered before each receive
 pub record Answering {M : Model} (k new : KeeperState M) (did : Deeds → Type 0) (confirms : Bool) (deeds : Deeds) : Type 0 where
   pub done : did deeds
   pub first : AnswersFirst k new confirms deeds.events
+  pub stops : StopsThere deeds.events
 
 -- all messages that came were processed, and nothing ended the session
 pub caught_whole : (M : Model) → (k new : KeeperState M) (did : Deeds → Type 0) (p q : PortState) (after : Waiting)
@@ -68,8 +69,9 @@ no_receive (x ∷ slices) (b ∷ before) after result bytes is = no_receive slic
 -- a receive is one of those before the last one, or the last one
 which : (es : List PortEvent) (r : Receipt) (x : List ℕ) (slices : List (List ℕ × Sent)) (before after : List PortEvent) (result : Receipt) (bytes : List ℕ)
     → es ++ Received r x ∷ sends_of slices ≡ before ++ Received result bytes ∷ after
-    → ((later : List PortEvent) × (es ≡ before ++ Received result bytes ∷ later)) ⊎ (before ≡ es)
-which [] r x slices [] after result bytes is = inr refl
+    → ((later : List PortEvent) × (es ≡ before ++ Received result bytes ∷ later))
+    ⊎ ((before ≡ es) × (Received r x ≡ Received result bytes) × (sends_of slices ≡ after))
+which [] r x slices [] after result bytes is = inr (refl, cc is, cc is)
 which [] r x slices (b ∷ before) after result bytes is = absurd (no_receive slices before after result bytes (cc is))
 which (e ∷ es) r x slices [] after result bytes is =
     let head : e ≡ Received result bytes = cc is in
@@ -79,7 +81,7 @@ which (e ∷ es) r x slices (b ∷ before) after result bytes is =
     let tail : es ++ Received r x ∷ sends_of slices ≡ before ++ Received result bytes ∷ after = cc is in
     elim (which es r x slices before after result bytes tail) [
       | inl earlier ↦ inl (earlier.0, ap (λ y. y ∷ es) head ∙ ap (λ (l : List PortEvent). b ∷ l) earlier.1)
-      | inr here ↦ inr (ap (λ (l : List PortEvent). b ∷ l) here ∙ ap (λ y. y ∷ es) (sym head))
+      | inr here ↦ inr (ap (λ (l : List PortEvent). b ∷ l) here.0 ∙ ap (λ y. y ∷ es) (sym head), here.1, here.2)
     ]
 
 -- nothing was received yet
@@ -93,7 +95,26 @@ first_more M k mid new did confirms a b honest_too up first turn before after re
     elim (which a.events turn.result turn.bytes turn.slices before after result bytes
     (ap (λ (l : List PortEvent). a.events ++ l) (sym turn.events) ∙ is)) [
       | inl earlier ↦ caught_later M k mid new confirms before honest_too (first before earlier.0 result bytes earlier.1)
-      | inr here ↦ subst (CaughtUp k new confirms) (sym here) (caught_later M k mid new confirms a.events honest_too up)
+      | inr here ↦ subst (CaughtUp k new confirms) (sym here.0) (caught_later M k mid new confirms a.events honest_too up)
+    ]
+
+gave_there : (before later : List PortEvent) (e : PortEvent) → AllByRecursion Gave (before ++ e ∷ later) → Gave e
+gave_there [] later e gave = gave.0
+gave_there (b ∷ before) later e gave = gave_there before later e gave.1
+
+pub stops_none : StopsThere []
+stops_none before after result bytes is = absurd (no_receive [] before after result bytes is)
+
+-- where each receive of the turns before gave bytes
+pub stops_more : (did : Deeds → Type 0) (a b : Deeds) → AllByRecursion Gave a.events → OneTurn did b → StopsThere (a.events ++ b.events)
+stops_more did a b gave turn before after result bytes is =
+    elim (which a.events turn.result turn.bytes turn.slices before after result bytes
+    (ap (λ (l : List PortEvent). a.events ++ l) (sym turn.events) ∙ is)) [
+      | inl earlier ↦ inl (gave_there before earlier.0 (Received result bytes) (subst (AllByRecursion Gave) earlier.1 gave))
+      | inr here ↦ elim turn.gave [
+        | inl came ↦ inl (subst Gave here.1 came)
+        | inr none ↦ inr (sym here.2 ∙ ap sends_of none)
+      ]
     ]
 
 turned_did : (M : Model) → (k new : KeeperState M) (did did' : Deeds → Type 0) (p q : PortState) (ids ids' : List ℕ) (prefix : List (List ℕ)) (going : Bool)
@@ -137,4 +158,5 @@ prompt_run M k new did p q before e l = record {
   deeds = l.broken.work.deeds;
   done = l.broken.work.done.0.done;
   first = l.broken.work.done.0.first;
+  stops = l.broken.work.done.0.stops;
 }

@@ -1,5 +1,5 @@
 -- All messages that came are answered before more is received (own profile).
-use Rattle.std.specs.Prelude.{◌≡◌, ℕ, Bool, List, [], ◌∷◌, ◌++◌, length, None}
+use Rattle.std.specs.Prelude.{◌≡◌, ◌⊎◌, ℕ, Bool, List, [], ◌∷◌, ◌++◌, length, None}
 use Rattle.std.specs.List.{AllByRecursion}
 use Rattle.fuse_request.specs.Framing.{bad_length}
 use Rattle.fuse_request.specs.Stream.{cut, joined}
@@ -36,8 +36,14 @@ abbrev pub AnswersFirst : {M : Model} → KeeperState M → KeeperState M → Bo
 AnswersFirst k new confirms events = (before after : List PortEvent) (result : ReceiveResult) (bytes : List ℕ)
     → events ≡ before ++ Received result bytes ∷ after → CaughtUp k new confirms before
 
--- a session did this, and answered all that came before it received more
+-- a receive that told an end or a failure was the last call
+abbrev pub StopsThere : List PortEvent → Type 0
+StopsThere events = (before after : List PortEvent) (result : ReceiveResult) (bytes : List ℕ)
+    → events ≡ before ++ Received result bytes ∷ after → Gave (Received result bytes) ⊎ (after ≡ [])
+
+-- a session did this, answered all that came before it received more, and stopped where nothing came
 pub record Prompt {M : Model} (p : Passage M) : Type 0 where
   pub deeds : Deeds
   pub done : p.did deeds
   pub first : AnswersFirst p.keeper p.keeper' p.port.confirms deeds.events
+  pub stops : StopsThere deeds.events

@@ -21,7 +21,7 @@ pub record Session {M : Model} (p : Passage M) (turns : ℕ) (served : Served) :
   -- exactly the answers to some of the messages were sent. Up to the first message that comes again, each answer is the one to be
   -- sent
   pub life : Run p nothing_waits served.ended
-  -- before more is received, all that came is answered, and nothing ended the session
+  -- before more is received, all that came is answered, and nothing ended the session; where nothing more comes, it stops
   pub prompt : Prompt p
   -- on a port that confirms, the records are some of those of before and at most 16 more, which are under one lot
   pub lots : p.port.confirms ≡ true → IsIntact p.keeper' served.ended

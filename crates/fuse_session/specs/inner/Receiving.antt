@@ -10,7 +10,7 @@ use Rattle.fuse_session.specs.declared.ended.Ended.TheVariants.{End as ByEnd, De
 use Rattle.fuse_session.specs.Port.{PortState, HasEnded}
 use Rattle.fuse_session.specs.declared.port.Received.{Received as Receipt}
 use Rattle.fuse_session.specs.declared.port.Received.TheVariants.{End, Failed as ReceiveFailed}
-use Rattle.fuse_session.specs.Transcript.{PortEvent, Received}
+use Rattle.fuse_session.specs.Transcript.{PortEvent, Received, Gave}
 
 -- it returned no fault so far, and its bytes begin with neither a whole message nor a bad length
 pub record IsOpen (h : Held) : Type 0 where
@@ -39,6 +39,7 @@ pub record IsHearing (old new : PortState) : Type 0 where
 pub record Comes (became : List PortEvent → Type 0) (old new : PortState) (received : List ℕ) : Type 0 where
   pub result : Receipt
   pub once : became (Received result received ∷ [])
+  pub gave : Gave (Received result received)
   pub bytes : Consumes old.coming new.coming received
   pub ends : new.ends ≡ old.ends
   pub has_ended : new.has_ended ≡ old.has_ended

@@ -1,5 +1,5 @@
 -- One turn of a session (own profile).
-use Rattle.std.specs.Prelude.{◌≡◌, ◌^◌, ℕ, true, false, List, ◌∷◌}
+use Rattle.std.specs.Prelude.{◌≡◌, ◌⊎◌, ◌^◌, ℕ, true, false, List, [], ◌∷◌}
 use Rattle.fuse_request.specs.Framing.{Held}
 use Rattle.fuse_keeper.specs.Model.{Model}
 use Rattle.fuse_session.specs.declared.counts.SessionCounts.{SessionCounts}
@@ -7,7 +7,7 @@ use Rattle.fuse_session.specs.declared.ended.Ended.TheVariants.{Turns}
 use Rattle.fuse_session.specs.declared.ended.Served.{Served}
 use Rattle.fuse_session.specs.declared.port.Received.{Received as ReceiveResult}
 use Rattle.fuse_session.specs.declared.port.Sent.{Sent}
-use Rattle.fuse_session.specs.Transcript.{Received, sends_of}
+use Rattle.fuse_session.specs.Transcript.{Received, sends_of, Gave}
 use Rattle.fuse_session.specs.Deeds.{Deeds}
 use Rattle.fuse_session.specs.Starts.{Kept, HoldsUnder}
 use Rattle.fuse_session.specs.Passage.{Passage}
@@ -27,13 +27,14 @@ pub record Mute (did : Deeds → Type 0) (deeds : Deeds) : Type 0 where
 abbrev pub muted : {M : Model} → Passage M → Passage M
 muted p = record p { did = Mute p.did }
 
--- it received once, and then handed over slices
+-- it received once, and then handed over slices, but none where that told an end or a failure
 pub record OneTurn (did : Deeds → Type 0) (deeds : Deeds) : Type 0 where
   pub done : did deeds
   pub result : ReceiveResult
   pub bytes : List ℕ
   pub slices : List (List ℕ × Sent)
   pub events : deeds.events ≡ Received result bytes ∷ sends_of slices
+  pub gave : Gave (Received result bytes) ⊎ (slices ≡ [])
 
 abbrev pub in_one_turn : {M : Model} → Passage M → Passage M
 in_one_turn p = record p { did = OneTurn p.did }

@@ -15,7 +15,7 @@ use Rattle.fuse_session.proofs.Handing.{holds_under, hands_start}
 use Rattle.fuse_session.proofs.Waiting.{ready_new, room_still}
 use Rattle.fuse_session.proofs.Growing.{whole_life, life_more}
 use Rattle.fuse_session.proofs.Sessions.{whole_start, whole_step, ends_more, life_none, failed_both, counts_more, counts_below, failed_since}
-use Rattle.fuse_session.proofs.Prompting.{Answering, first_none, first_more, caught_whole, whole_did, prompt_run}
+use Rattle.fuse_session.proofs.Prompting.{Answering, first_none, first_more, stops_none, stops_more, caught_whole, whole_did, prompt_run}
 use Rattle.fuse_session.proofs.Transcripts.{each_gave}
 use Rattle.fuse_session.proofs.Doing.{no_deeds, did_none, did_more}
 use Rattle.fuse_session.proofs.session.serve.Goals as goal
@@ -29,7 +29,7 @@ returns-in_default-clause-session g c =
     record {
       ends = record { counts = none_counted; ends = tt; told_are = refl };
       life = life_none M k _ (g.P.Port.told c.args.port.now) nothing_waits Memory refl none;
-      prompt = record { deeds = no_deeds; done = none; first = first_none M _ _ _ };
+      prompt = record { deeds = no_deeds; done = none; first = first_none M _ _ _; stops = stops_none };
       lots = λ _ _ rows (records : Records) held rowed.
           holds_under M (record { records = records; lots = k.lots }) k [] (hands_start M k [] rows records held rowed);
       receives = omega arith;
@@ -49,6 +49,7 @@ loop-turn-init g c = record {
         done = (did_none g.C.Clock.gave g.K.Keeper.performed g.P.Port.became g.met.C.Clock.logged g.met.K.Keeper.log g.met.P.Port.path
             c.args.clock.now c.args.keeper.now c.args.port.now);
         first = first_none g.K.Keeper.model _ _ _;
+        stops = stops_none;
       })
       (ap ids_of c.new-pending.ensures.items) c.new-framer.ensures;
   ready = ready_new c.new-framer.result c.new-framer.ensures;
@@ -89,6 +90,7 @@ loop-turn-preserved g c =
                 c.args.port.now c.loop-turn.port c.one_turn.new.port inv.whole.turned.work.deeds b inv.whole.turned.work.done.0.done two.done;
             first = first_more g.K.Keeper.model (g.K.Keeper.told c.args.keeper.now) (g.K.Keeper.told c.loop-turn.keeper) (g.K.Keeper.told c.one_turn.new.keeper) _ _
                 inv.whole.turned.work.deeds b e.honest (caught_whole g.K.Keeper.model _ _ _ _ _ _ _ inv.whole inv.ready.good gave) inv.whole.turned.work.done.0.first two;
+            stops = stops_more _ inv.whole.turned.work.deeds b gave two;
           });
       ready = e.opened;
       below = subst (λ x. IsBelow x ((c.loop-turn.turn + 1) * 2 ^ 20)) (sym c.sum_of-counts.ensures)
@@ -156,6 +158,7 @@ returns-in-Err-clause-session g c =
             done = onward b two.done;
             first = first_more M k m k' _ _ inv.whole.turned.work.deeds b e.honest (caught_whole M _ _ _ _ _ _ _ inv.whole inv.ready.good gave)
                 inv.whole.turned.work.done.0.first two;
+            stops = stops_more _ inv.whole.turned.work.deeds b gave two;
           }));
       lots = λ confirms intact rows (records : Records) held rowed.
           let before : Kept = record { records = records; lots = k.lots } in
@@ -189,7 +192,7 @@ returns-clause-session g c =
         told_are = refl;
       };
       life = whole_life M k k' _ _ _ nothing_waits _ c.loop-turn.counts Turns refl whole inv.firm;
-      prompt = record { deeds = work.deeds; done = work.done.0.done; first = work.done.0.first };
+      prompt = record { deeds = work.deeds; done = work.done.0.done; first = work.done.0.first; stops = work.done.0.stops };
       lots = λ confirms intact rows (records : Records) held rowed.
           let before : Kept = record { records = records; lots = k.lots } in
           holds_under M before k' (ids_of c.loop-turn.pending.items) (inv.more confirms intact.honest before (hands_start M k [] rows records held rowed));

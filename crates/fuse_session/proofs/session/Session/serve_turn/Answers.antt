@@ -88,7 +88,7 @@ returns-in-Err-serve_messages-clause-err g c =
           c.args.framer.now c.receive_messages.new.framer c.in-Ok.waiting.messages.items c.as_slice-slice.result.now c.in-Ok.waiting.fault _
           c.in-Ok.ensures.ok (λ b two. turn_hears (g.C.Clock.gave c.args.self.now.clock.now c.serve_messages.new.self.clock.now)
           (g.K.Keeper.performed c.args.self.now.keeper.now c.serve_messages.new.self.keeper.now) g.P.Port.became g.met.P.Port.path c.args.self.now.port.now
-          c.receive_messages.new.port c.serve_messages.new.self.port.now c.in-Ok.ensures.ok.came.result c.in-Ok.ensures.ok.received b c.in-Ok.ensures.ok.came.once two)
+          c.receive_messages.new.port c.serve_messages.new.self.port.now c.in-Ok.ensures.ok.came.result c.in-Ok.ensures.ok.received b c.in-Ok.ensures.ok.came.once c.in-Ok.ensures.ok.came.gave two)
           c.in-Ok.ensures.hearing c.as_slice-slice.ensures.value
           (subst (λ x. Broken (muted pass) (ids_of c.args.self.now.pending.now.items) c.as_slice-slice.result.now x) (sym e) s.err) s.quiet;
       counts = none_counted;
@@ -130,7 +130,7 @@ returns-in-Ok-finish-clause-ok g c =
           c.in-Ok.waiting.messages.items c.as_slice-slice.result.now c.in-Ok.waiting.fault
           progress heard (λ b two. turn_hears (g.C.Clock.gave c.args.self.now.clock.now c.serve_messages.new.self.clock.now)
           (g.K.Keeper.performed c.args.self.now.keeper.now c.serve_messages.new.self.keeper.now) g.P.Port.became g.met.P.Port.path c.args.self.now.port.now
-          c.receive_messages.new.port c.serve_messages.new.self.port.now c.in-Ok.ensures.ok.came.result c.in-Ok.ensures.ok.received b c.in-Ok.ensures.ok.came.once two)
+          c.receive_messages.new.port c.serve_messages.new.self.port.now c.in-Ok.ensures.ok.came.result c.in-Ok.ensures.ok.received b c.in-Ok.ensures.ok.came.once c.in-Ok.ensures.ok.came.gave two)
           c.in-Ok.ensures.hearing c.as_slice-slice.ensures.value fin.1 s.ok s.quiet);
       below = subst (λ x. IsBelow x (2 ^ 20)) (sym fin.0) (below_more progress.counts (length c.as_slice-slice.result.now) (2 ^ 20)
           (omega (arith, ap length c.as_slice-slice.ensures.value, took.few, took.at, c.in-Ok.ensures.fed, short, room)) s.below);
@@ -166,7 +166,7 @@ returns-clause-err g c =
           c.args.framer.now c.receive_messages.new.framer c.in-Ok.waiting.messages.items c.as_slice-slice.result.now c.in-Ok.waiting.fault progress
           e by.0 heard (λ b two. turn_hears (g.C.Clock.gave c.args.self.now.clock.now c.serve_messages.new.self.clock.now)
           (g.K.Keeper.performed c.args.self.now.keeper.now c.serve_messages.new.self.keeper.now) g.P.Port.became g.met.P.Port.path c.args.self.now.port.now
-          c.receive_messages.new.port c.serve_messages.new.self.port.now c.in-Ok.ensures.ok.came.result c.in-Ok.ensures.ok.received b c.in-Ok.ensures.ok.came.once two)
+          c.receive_messages.new.port c.serve_messages.new.self.port.now c.in-Ok.ensures.ok.came.result c.in-Ok.ensures.ok.received b c.in-Ok.ensures.ok.came.once c.in-Ok.ensures.ok.came.gave two)
           c.in-Ok.ensures.hearing c.as_slice-slice.ensures.value s.ok s.quiet s.firm;
       counts = progress.counts;
       below = below_more progress.counts (length c.as_slice-slice.result.now) (2 ^ 20)
@@ -176,7 +176,7 @@ returns-clause-err g c =
           c.args.framer.now c.receive_messages.new.framer c.in-Ok.waiting.messages.items c.as_slice-slice.result.now c.in-Ok.waiting.fault _
           progress 0 e fin.1 heard (λ b two. turn_hears (g.C.Clock.gave c.args.self.now.clock.now c.serve_messages.new.self.clock.now)
           (g.K.Keeper.performed c.args.self.now.keeper.now c.serve_messages.new.self.keeper.now) g.P.Port.became g.met.P.Port.path c.args.self.now.port.now
-          c.receive_messages.new.port c.serve_messages.new.self.port.now c.in-Ok.ensures.ok.came.result c.in-Ok.ensures.ok.received b c.in-Ok.ensures.ok.came.once two)
+          c.receive_messages.new.port c.serve_messages.new.self.port.now c.in-Ok.ensures.ok.came.result c.in-Ok.ensures.ok.received b c.in-Ok.ensures.ok.came.once c.in-Ok.ensures.ok.came.gave two)
           c.in-Ok.ensures.hearing c.as_slice-slice.ensures.value (omega (arith, c.fed.ensures, c.held.ensures)) s.ok s.quiet;
       told_are = finished_counts e _ _ _ c.in-Err-finish.served.counts progress.counts fin.1 _ fin.0;
       at_most = λ confirms is (before : Kept) h. holds_under g.K.Keeper.model before k' _ (s.more (c.in-Ok.ensures.hearing.confirms ∙ confirms) is.honest
