@@ -1,8 +1,9 @@
 // A keeper that counts and logs.
-ghost use Rattle.std.specs.Prelude.{◌≡◌, true, [], ◌∷◌, length, All, IfOk, IfErr, OnOk, MatchResult};
+ghost use Rattle.std.specs.Prelude.{◌≡◌, ◌⊎◌, true, [], ◌∷◌, length, All, None, is_err};
+ghost use Rattle.std.specs.Prelude.{IfOk, IfErr, OnOk, MatchResult};
 ghost use Rattle.fuse_keeper.specs.KeeperState.{IsFirm, Reports, Reopened};
 ghost use Rattle.fuse_keeper.specs.KeeperState.{AnswersNoMore, Called, Looked, Performs};
-ghost use Rattle.fuse_keeper.specs.KeeperState.{ActsOn, KeepsOthers, KeepsLots, LeavesGroup};
+ghost use Rattle.fuse_keeper.specs.KeeperState.{ActsOn, KeepsOthers, KeepsLots, LeavesGroup, LeavesActed};
 ghost use Rattle.fuse_keeper.specs.KeeperState.{BeginsMount, DropsLots, LeavesMount};
 ghost use Rattle.fuse_keeper.specs.Stands.{Records, CountsRecords};
 ghost use Rattle.fuse_keeper.specs.Group.{entries_of, HasId, IsKept, ids_of};
@@ -109,6 +110,8 @@ impl<K: Keeper> Keeper for CountingKeeper<K> {
             (K.told (inner_of self.new)) (ids_of settled.now) (entries_of group.now)) }
         ensures crash { LeavesGroup (K.told (inner_of self.old)) (K.told (inner_of self.new))
             (ids_of settled.now) (entries_of group.now) }
+        ensures crash_acts { LeavesActed (K.told (inner_of self.old)) (K.told (inner_of self.new))
+            (ids_of settled.now) (entries_of group.now) }
         ensures firm { OnOk result ((K.told (inner_of self.new)).is_honest
             → IsFirm (K.told (inner_of self.new))) }
         ensures same { Became K.became self.old self.new 0 }
@@ -133,6 +136,8 @@ impl<K: Keeper> Keeper for CountingKeeper<K> {
 
     fn begin_mount(&mut self) -> Result<(), StoreFault>
         ensures called { Called (K.told (inner_of self.old)) (K.told (inner_of self.new)) result }
+        ensures may { (is_err result ≡ true) ⊎ ((K.told (inner_of self.old)).lots.current ≡ None)
+            → AnswersNoMore (K.told (inner_of self.old)) (K.told (inner_of self.new)) }
         ensures ok { OnOk result
             (BeginsMount (K.told (inner_of self.old)) (K.told (inner_of self.new))) }
         ensures lots { OnOk result

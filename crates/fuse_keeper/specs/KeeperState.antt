@@ -1,12 +1,12 @@
 -- The state of a keeper, and how a call changes it (own profile).
-use Rattle.std.specs.Prelude.{◌≡◌, ◌||◌, ℕ, ◌+◌, Bool, false, List, [], All, Result, is_err, IfErr, OnOk, OnErr}
+use Rattle.std.specs.Prelude.{◌≡◌, ◌||◌, ◌⊎◌, ℕ, ◌+◌, Bool, false, List, [], All, Result, is_err, IfErr, OnOk, OnErr}
 use Rattle.fuse_keeper.specs.declared.fault.StoreFault.{StoreFault}
 use Rattle.fuse_keeper.specs.declared.keeper.Done.{Done}
 use Rattle.fuse_keeper.specs.Model.{Model, IsRowed}
 use Rattle.fuse_keeper.specs.History.{Entry, History, after, grown, Includes, IsUnsettled}
 use Rattle.fuse_keeper.specs.Lots.{Lots, SameLots, RecordsUnder, AreGone, AreReopened}
 use Rattle.fuse_keeper.specs.Taking.{TakesAll}
-use Rattle.fuse_keeper.specs.Stands.{Records, without, StandsBy, PerformedBy, LeavesBy, IsFirmBy, KeepsHeldBy, StandsForEither, OthersStay}
+use Rattle.fuse_keeper.specs.Stands.{Records, Content, AreThese, without, StandsBy, PerformedBy, LeavesBy, IsFirmBy, KeepsHeldBy, StandsForEither, OthersStay}
 
 pub record KeeperState (M : Model) : Type 1 where
   -- it holds these rows and these records now
@@ -124,6 +124,16 @@ abbrev pub LeavesGroup : {M : Model} → KeeperState M → KeeperState M → Lis
 LeavesGroup {M} old new settled group = (s : M.State) (h : History) (t : List ℕ) → StandsFor old s h t
     → Includes t settled → All (IsUnsettled t) group → IsFirm old
     → Leaves new (StandsForEither M (record { state = s; history = h; settled = t }) (record { state = s; history = grown h group; settled = t }))
+
+-- these are what was held, or what the group leads to from there without the settled records
+abbrev pub AreHeldOrTaken : (M : Model) → Content M → List ℕ → List Entry → M.Rows → Records → Type 0
+AreHeldOrTaken M before settled group x r = AreThese M before.rows before.records x r
+    ⊎ ((dones : List Done) × TakesAll M (record before { records = without settled before.records }) group (record { rows = x; records = r }) dones)
+
+-- the same where ids of the group are settled, whatever history it stands for
+abbrev pub LeavesActed : {M : Model} → KeeperState M → KeeperState M → List ℕ → List Entry → Type 0
+LeavesActed {M} old new settled group =
+    IsFirm old → OfHeld old (λ rows records. Leaves new (AreHeldOrTaken M (record { rows = rows; records = records }) settled group))
 
 -- a mount begins
 abbrev pub BeginsMount : {M : Model} → KeeperState M → KeeperState M → Type 0

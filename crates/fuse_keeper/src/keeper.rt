@@ -1,9 +1,10 @@
-ghost use Rattle.std.specs.Prelude.{◌≡◌, ◌≤◌, ℕ, List, [], ◌∷◌, length, All, IfOk, OnOk};
+ghost use Rattle.std.specs.Prelude.{◌≡◌, ◌≤◌, ◌⊎◌, ℕ, List, [], ◌∷◌, length, All, IfOk, OnOk};
+ghost use Rattle.std.specs.Prelude.{true, None, is_err};
 ghost use Rattle.fuse_keeper.specs.Model.{Model, IsSoundModel};
 ghost use Rattle.fuse_keeper.specs.Stands.{Records, CountsRecords};
 ghost use Rattle.fuse_keeper.specs.KeeperState.{KeeperState, IsSound, IsFirm, IsCount, Reports};
 ghost use Rattle.fuse_keeper.specs.KeeperState.{AnswersNoMore, Called, Looked, Performs};
-ghost use Rattle.fuse_keeper.specs.KeeperState.{ActsOn, KeepsOthers, KeepsLots, LeavesGroup};
+ghost use Rattle.fuse_keeper.specs.KeeperState.{ActsOn, KeepsOthers, KeepsLots, LeavesGroup, LeavesActed};
 ghost use Rattle.fuse_keeper.specs.KeeperState.{BeginsMount, DropsLots, LeavesMount};
 ghost use Rattle.fuse_keeper.specs.Group.{entries_of, HasId, IsKept, ids_of};
 ghost use Rattle.fuse_keeper.specs.Performance.{Performance, IsPerformanceLog};
@@ -86,6 +87,8 @@ pub trait Keeper: Drop {
             (ids_of settled.now) (entries_of group.now)) }
         ensures crash { LeavesGroup (told self.old) (told self.new)
             (ids_of settled.now) (entries_of group.now) }
+        ensures crash_acts { LeavesActed (told self.old) (told self.new)
+            (ids_of settled.now) (entries_of group.now) }
         ensures firm { OnOk result ((told self.new).is_honest → IsFirm (told self.new)) }
         ensures same { became self.old self.new 0 }
         // A fault too: it was asked once.
@@ -96,6 +99,9 @@ pub trait Keeper: Drop {
     /// of the file system that don't outlive a mount.
     fn begin_mount(&mut self) -> Result<(), StoreFault>
         ensures called { Called (told self.old) (told self.new) result }
+        // A lot that was taken is gone, and there may be no other one.
+        ensures may { (is_err result ≡ true) ⊎ ((told self.old).lots.current ≡ None)
+            → AnswersNoMore (told self.old) (told self.new) }
         ensures ok { OnOk result (BeginsMount (told self.old) (told self.new)) }
         ensures lots { OnOk result (DropsLots (told self.old) (told self.new)) }
         ensures crash { LeavesMount (told self.old) (told self.new) }

@@ -3,7 +3,7 @@ ghost use Rattle.std.specs.Prelude.{◌≡◌, ◌≤◌, ◌<◌, ◌⊎◌, []
 ghost use Rattle.std.specs.Prelude.{IfOk, IsOk, OnOk, OnErr};
 ghost use Rattle.fuse_keeper.specs.KeeperState.{IsFirm, Called, AnswersNoMore};
 ghost use Rattle.fuse_keeper.specs.KeeperState.{Performs, ActsOn};
-ghost use Rattle.fuse_keeper.specs.KeeperState.{KeepsOthers, KeepsLots, LeavesGroup};
+ghost use Rattle.fuse_keeper.specs.KeeperState.{KeepsOthers, KeepsLots, LeavesGroup, LeavesActed};
 ghost use Rattle.fuse_keeper.specs.Group.{entries_of, HasId, IsKept, ids_of};
 ghost use Rattle.fuse_keeper.specs.Group.{handed_to, left_pending};
 ghost use Rattle.fuse_keeper.specs.Performance.{performances_of};
@@ -43,6 +43,8 @@ pub fn perform_group<K: Keeper>(
     ensures lots { OnOk result (KeepsLots (K.told keeper.old) (K.told keeper.new)
         (handed_to (entries_of group.now) (ids_of pending.old.items)) (entries_of group.now)) }
     ensures crash { LeavesGroup (K.told keeper.old) (K.told keeper.new)
+        (handed_to (entries_of group.now) (ids_of pending.old.items)) (entries_of group.now) }
+    ensures crash_acts { LeavesActed (K.told keeper.old) (K.told keeper.new)
         (handed_to (entries_of group.now) (ids_of pending.old.items)) (entries_of group.now) }
     ensures firm { OnOk result ((K.told keeper.new).is_honest
         → IsFirm (K.told keeper.old) ⊎ (0 < length group.now) → IsFirm (K.told keeper.new)) }

@@ -132,7 +132,8 @@ impl<F: FileSystem> PlainKeeper<F> {
 impl<F: FileSystem> Keeper for PlainKeeper<F> {
     ghost use Rattle.std.proofs.Common.{sym, ◌∙◌};
     ghost use Rattle.fuse_keeper.specs.PlainKeeper.{plain_told, plain_records};
-    ghost use Rattle.fuse_keeper.specs.KeeperState.{IsFirm, Reports, Called, Looked};
+    ghost use Rattle.fuse_keeper.specs.KeeperState.{IsFirm, Reports, Called, Looked, AnswersNoMore};
+    ghost use Rattle.std.specs.Prelude.{◌⊎◌, true, is_err};
     ghost use Rattle.fuse_keeper.specs.KeeperState.{BeginsMount, DropsLots, LeavesMount};
     ghost use Rattle.fuse_keeper.specs.Stands.{Records, CountsRecords};
 
@@ -166,6 +167,10 @@ impl<F: FileSystem> Keeper for PlainKeeper<F> {
     fn begin_mount(&mut self) -> Result<(), StoreFault>
         ensures called { Called (plain_told F.model F.held self.old)
             (plain_told F.model F.held self.new) result }
+        ensures may { (is_err result ≡ true)
+            ⊎ ((plain_told F.model F.held self.old).lots.current ≡ None)
+            → AnswersNoMore (plain_told F.model F.held self.old)
+            (plain_told F.model F.held self.new) }
         ensures ok { OnOk result (BeginsMount (plain_told F.model F.held self.old)
             (plain_told F.model F.held self.new)) }
         ensures lots { OnOk result (DropsLots (plain_told F.model F.held self.old)

@@ -8,9 +8,9 @@ use Rattle.fuse_keeper.specs.Model.{IsRowed}
 use Rattle.fuse_keeper.specs.declared.keeper.Done.{Done}
 use Rattle.fuse_keeper.specs.declared.fault.StoreFault.{StoreFault}
 use Rattle.fuse_keeper.specs.History.{Entry, is_in, grown}
-use Rattle.fuse_keeper.specs.Stands.{Records, PerformedBy, without}
+use Rattle.fuse_keeper.specs.Stands.{Records, Content, AreThese, PerformedBy, without}
 use Rattle.fuse_keeper.specs.Taking.{TakesAll}
-use Rattle.fuse_keeper.specs.KeeperState.{Performs, ActsOn, KeepsOthers, KeepsLots, LeavesGroup}
+use Rattle.fuse_keeper.specs.KeeperState.{Performs, ActsOn, KeepsOthers, KeepsLots, LeavesGroup, LeavesActed, AreHeldOrTaken}
 use Rattle.fuse_keeper.specs.Lots.{Lots, SameLots, RecordsUnder, IsFree}
 use Rattle.fuse_tree.specs.TheTree.{the_tree}
 use Rattle.fuse_store_tables.specs.Moves.{ServesAs}
@@ -20,7 +20,7 @@ use Rattle.fuse_store_tree.specs.Group.{performed, all_dones, lot_for}
 use Rattle.fuse_store_tree.specs.Lots.{lots_in, LotsAreSame}
 use Rattle.fuse_store_tree.specs.Performing.{OneHolding, content_of, HoldingStands, CallsPerform}
 use Rattle.fuse_store.specs.TableState.{IsOf, HoldsIn, table_told}
-use Rattle.fuse_store.proofs.Serving.{Settled, stands_on, moved, holds_at, leaves_either}
+use Rattle.fuse_store.proofs.Serving.{Settled, stands_on, moved, holds_at, leaves_both, leaves_either}
 
 pub its_own : (y : Holding) → IsOf y (rowed y.tree) (records_of y.kept)
 its_own y = record { rows_are = refl; records_are = λ i. refl }
@@ -88,6 +88,30 @@ leaves_group one law lot ids es a b r settled serves now was is s h t so within 
     moved all.stands.rows (rowed z.tree) all.stands.records (records_of z.kept) s (grown h es) t (sym all.stands.held.0) (λ i. sym (all.stands.held.1 i))
     all.stands.stands in
     leaves_either one (performed lot ids es) a b settled serves.survives y so.held.rests now is s s h (grown h es) t t before behind
+
+-- what is held after entries that are taken may be named anew
+led_same : (before : Content the_tree) (es : List Entry) (old new : Content the_tree) (dones : List Done)
+    → AreThese the_tree old.rows old.records new.rows new.records → TakesAll the_tree before es old dones → TakesAll the_tree before es new dones
+led_same before [] old new [] same all = (same.0 ∙ all.0, λ i. same.1 i ∙ all.1 i)
+led_same before [] old new (d ∷ dones) same all = absurd all
+led_same before (e ∷ es) old new [] same all = absurd all
+led_same before (e ∷ es) old new (d ∷ dones) same (mid, took, rest) = (mid, took, led_same mid es old new dones same rest)
+
+-- a crash leaves what was held, or what the group leads to
+pub leaves_acted : OneHolding → CallsPerform → (lot : Option ℕ) (ids : List ℕ) (es : List Entry) (a b : State) {X : Type 0} (r : Result X StoreFault)
+    → Settled a → ServesAs HeldFor (λ y. HeldFor (performed lot ids es y)) a b r → (now : Option ℕ) (was is : Bool)
+    → LeavesActed (table_told ⊥ a lot was) (table_told ⊥ b now is) ids es
+leaves_acted one law lot ids es a b r settled serves now was is firm rows records at rowed_so =
+    let y = at.holding in
+    let z = performed lot ids es y in
+    let dones = all_dones lot ids es y in
+    let before : Content the_tree = record { rows = rows; records = without ids records } in
+    let taken : TakesAll the_tree before es (content_of z) dones =
+    law.acts lot ids es y rows records at.rests.holds.tree (at.is_of.rows_are, at.is_of.records_are) in
+    leaves_both one (performed lot ids es) a b settled serves.survives y at.rests now is
+    (AreHeldOrTaken the_tree (record { rows = rows; records = records }) ids es)
+    (λ x q is_of. inl (is_of.rows_are ∙ sym at.is_of.rows_are, λ i. is_of.records_are i ∙ sym (at.is_of.records_are i)))
+    (λ x q is_of. inr (dones, led_same before es (content_of z) (record { rows = x; records = q }) dones (is_of.rows_are, is_of.records_are) taken))
 
 -- ---- lots
 

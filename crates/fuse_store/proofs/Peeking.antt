@@ -95,6 +95,20 @@ pub failed_may : {X : Type 0} (f : Holding → Holding) (a b : State) (e : Store
 failed_may f a b e serves connection lot was is clean fault may =
     still_may lot a b (λ is_open. connection.was clean is_open) (λ is_open y at. serves.kept clean is_open y at) fault may
 
+-- a mount that began has no lot, and where none was taken before, no more is answered
+pub begun_may : {X : Type 0} (f : Holding → Holding) (a b : State) (x : X) → ((y : Holding) → (f y).next_lot ≡ y.next_lot)
+    → ServesAs {E = StoreFault} HeldFor (λ y. HeldFor (f y)) a b (Ok x) → StaysOpen {E = StoreFault} a b (Ok x) → (lot now : Option ℕ) (was is : Bool)
+    → lot ≡ None → AnswersNoMore (table_told ⊥ a lot was) (table_told ⊥ b now is)
+begun_may f a b x same serves connection lot now was is none clean Memory may = tt
+begun_may f a b x same serves connection lot now was is none clean (Sql e) may = tt
+begun_may f a b x same serves connection lot now was is none clean NotAStore may = absurd may
+begun_may f a b x same serves connection lot now was is none clean (Version n) may = absurd may
+begun_may f a b x same serves connection lot now was is none clean Damaged may = record {
+  is_open = connection.was clean may.is_open;
+  none = none;
+  used_up = λ y at. subst (λ n. 2 ^ 62 ≤ n) (same y) (may.used_up (f y) (serves.done clean y at));
+}
+
 pub went_well : {memory : Type 0} {A X : Type 0} → (f : Holding → Holding) (a b : State) (x : X) (y : A) → ServesAs {E = StoreFault} HeldFor (λ y. HeldFor (f y)) a b (Ok x)
     → StaysOpen {E = StoreFault} a b (Ok x) → (lot now : Option ℕ) (failed : Bool)
     → Called {A = A} (table_told memory a lot failed) (table_told memory b now failed) (Ok y)

@@ -87,20 +87,26 @@ module _ (one : OneHolding) (f : Holding → Holding) (a b : State) (settled : S
     | inr new ↦ record { holding = f y; left = new }
   ]
 
-  pub leaves_either : (lot : Option ℕ) (failed : Bool) (s s' : TreeState) (h h' : History) (t t' : List ℕ) → HoldingStands y s h t
-      → HoldingStands (f y) s' h' t'
-      → Leaves (table_told ⊥ b lot failed) (StandsForEither the_tree (record { state = s; history = h; settled = t })
-      (record { state = s'; history = h'; settled = t' }))
-  leaves_either lot failed s s' h h' t t' before after = (
+  -- what is so of both is so of whatever it leaves
+  pub leaves_both : (lot : Option ℕ) (failed : Bool) (P : Rows → Records → Type 0) → ((x : Rows) (r : Records) → IsOf y x r → P x r)
+      → ((x : Rows) (r : Records) → IsOf (f y) x r → P x r) → Leaves (table_told ⊥ b lot failed) P
+  leaves_both lot failed P before after = (
     whole,
     λ x r left.
         let z = left.these.some.holding in
         elim (left_either left.clean left.trees left.may) [
-          | inl old ↦ inl (stands_of y x r s h t (subst (λ w. IsOf w x r) (one_left one z y left.trees left.these.some.left old) left.these.is_of) before)
-          | inr new ↦ inr (stands_of (f y) x r s' h' t'
-              (subst (λ w. IsOf w x r) (one_left one z (f y) left.trees left.these.some.left new) left.these.is_of) after)
+          | inl old ↦ before x r (subst (λ w. IsOf w x r) (one_left one z y left.trees left.these.some.left old) left.these.is_of)
+          | inr new ↦ after x r (subst (λ w. IsOf w x r) (one_left one z (f y) left.trees left.these.some.left new) left.these.is_of)
         ],
   )
+
+  pub leaves_either : (lot : Option ℕ) (failed : Bool) (s s' : TreeState) (h h' : History) (t t' : List ℕ) → HoldingStands y s h t
+      → HoldingStands (f y) s' h' t'
+      → Leaves (table_told ⊥ b lot failed) (StandsForEither the_tree (record { state = s; history = h; settled = t })
+      (record { state = s'; history = h'; settled = t' }))
+  leaves_either lot failed s s' h h' t t' before after =
+      leaves_both lot failed (StandsForEither the_tree (record { state = s; history = h; settled = t }) (record { state = s'; history = h'; settled = t' }))
+      (λ x r is. inl (stands_of y x r s h t is before)) (λ x r is. inr (stands_of (f y) x r s' h' t' is after))
 
 -- ---- what is held after a call
 

@@ -239,11 +239,11 @@ impl<S: Alter> TableKeeper<S> {
 
 impl<S: Alter + Drop> Keeper for TableKeeper<S> {
     ghost use Rattle.fuse_tree.specs.TheTree.{the_tree};
-    ghost use Rattle.std.specs.Prelude.{length, IfOk, IfErr, OnOk};
+    ghost use Rattle.std.specs.Prelude.{◌⊎◌, length, true, is_err, IfOk, IfErr, OnOk};
     ghost use Rattle.fuse_tree.specs.Rows.{Rows};
     ghost use Rattle.fuse_keeper.specs.KeeperState.{AnswersNoMore, Called, Looked};
     ghost use Rattle.fuse_keeper.specs.KeeperState.{ActsOn, IsFirm, Performs, Reports};
-    ghost use Rattle.fuse_keeper.specs.KeeperState.{KeepsLots, KeepsOthers, LeavesGroup};
+    ghost use Rattle.fuse_keeper.specs.KeeperState.{KeepsLots, KeepsOthers, LeavesGroup, LeavesActed};
     ghost use Rattle.fuse_keeper.specs.KeeperState.{BeginsMount, DropsLots, LeavesMount};
     ghost use Rattle.fuse_keeper.specs.Group.{entries_of, ids_of};
     ghost use Rattle.fuse_keeper.specs.Stands.{Records, CountsRecords};
@@ -288,6 +288,8 @@ impl<S: Alter + Drop> Keeper for TableKeeper<S> {
             (keeper_told S.Store self.new) (ids_of settled.now) (entries_of group.now)) }
         ensures crash { LeavesGroup (keeper_told S.Store self.old)
             (keeper_told S.Store self.new) (ids_of settled.now) (entries_of group.now) }
+        ensures crash_acts { LeavesActed (keeper_told S.Store self.old)
+            (keeper_told S.Store self.new) (ids_of settled.now) (entries_of group.now) }
         ensures firm { OnOk result ((keeper_told S.Store self.new).is_honest
             → IsFirm (keeper_told S.Store self.new)) }
         // Of a store that was sound, the fault is `Damaged` only where no lot number is left.
@@ -313,6 +315,9 @@ impl<S: Alter + Drop> Keeper for TableKeeper<S> {
     fn begin_mount(&mut self) -> Result<(), StoreFault>
         ensures called { Called (keeper_told S.Store self.old) (keeper_told S.Store self.new)
             result }
+        // A lot that was taken is gone, and there may be no other one.
+        ensures may { (is_err result ≡ true) ⊎ ((keeper_told S.Store self.old).lots.current ≡ None)
+            → AnswersNoMore (keeper_told S.Store self.old) (keeper_told S.Store self.new) }
         ensures ok { OnOk result (BeginsMount (keeper_told S.Store self.old)
             (keeper_told S.Store self.new)) }
         ensures lots { OnOk result (DropsLots (keeper_told S.Store self.old)

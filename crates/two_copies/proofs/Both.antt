@@ -6,12 +6,12 @@ use Rattle.fuse_keeper.specs.declared.plain.PlainKeeper.{PlainKeeper}
 use Rattle.fuse_keeper.specs.Model.{Model}
 use Rattle.fuse_keeper.specs.History.{Entry, History}
 use Rattle.fuse_keeper.specs.Lots.{no_lots, SameLots}
-use Rattle.fuse_keeper.specs.Stands.{Records, Stands}
+use Rattle.fuse_keeper.specs.Stands.{Records, Stands, AreThese}
 use Rattle.fuse_keeper.specs.Plain.{mapped}
 use Rattle.fuse_keeper.specs.PlainKeeper.{plain_told}
-use Rattle.fuse_keeper.specs.KeeperState.{StandsFor, Performed, IsFirm, KeepsHeld, Leaves, Called, Looked, HoldsTaken, HoldsOthers, Reopened}
+use Rattle.fuse_keeper.specs.KeeperState.{StandsFor, Performed, IsFirm, KeepsHeld, Leaves, Called, Looked, HoldsTaken, HoldsOthers, ActsOn, Reopened}
 use Rattle.two_copies.specs.declared.copies.TwoCopies.{TwoCopies}
-use Rattle.two_copies.specs.TwoCopies.{HoldsAlike, two_told}
+use Rattle.two_copies.specs.TwoCopies.{HoldsAlike, two_told, WorkingAsked}
 
 pub or-true : (b : Bool) → (b || true) ≡ true
 or-true true = refl
@@ -68,6 +68,20 @@ module _ {F : Type 0} (M : Model) (held : F → M.Rows) where
   leaves_either old new w s h t P (inl same) so first leaves = (tt, λ x r left. first x r (leaves_old old new s h t x r same so left))
   leaves_either old new w s h t P (inr alike) so first leaves = (tt, λ x r left. leaves.1 x r (alike.1 x r left))
 
+  -- the same of what was held
+  pub left_held : (old new : TwoCopies F) (rows : M.Rows) (records : Records) (x : M.Rows) (r : Records) → new.committed ≡ old.committed
+      → (two_told M held old).holds rows records → (two_told M held new).may_leave x r → AreThese M rows records x r
+  left_held old new rows records x r is so left =
+      let there = subst (λ p. (plain_told M held p).holds x r) is left in
+      (there.0 ∙ sym so.0.0, λ i. there.1 i ∙ sym (so.0.1 i))
+
+  pub leaves_held : (old new : TwoCopies F) (w : PlainKeeper F) (rows : M.Rows) (records : Records) (P : M.Rows → Records → Type 0)
+      → (new.committed ≡ old.committed) ⊎ HoldsAlike (plain_told M held w) (plain_told M held new.committed)
+      → (two_told M held old).holds rows records → ((x : M.Rows) (r : Records) → AreThese M rows records x r → P x r)
+      → Leaves (plain_told M held w) P → Leaves (two_told M held new) P
+  leaves_held old new w rows records P (inl same) so first leaves = (tt, λ x r left. first x r (left_held old new rows records x r same so left))
+  leaves_held old new w rows records P (inr alike) so first leaves = (tt, λ x r left. leaves.1 x r (alike.1 x r left))
+
   -- ---- a commit
 
   -- the committed copy was made anew from this one, which is the working one
@@ -106,6 +120,12 @@ module _ {F : Type 0} (M : Model) (held : F → M.Rows) where
     rowed = so.rowed;
     others = so.others;
   }
+
+  -- its working copy performed the group
+  pub working_acted : (old new : TwoCopies F) (w : PlainKeeper F) (settled : List ℕ) (es : List Entry) (dones : List Done) → new.working ≡ w
+      → ActsOn (plain_told M held old.working) (plain_told M held w) settled es dones → WorkingAsked M held old new settled es
+  working_acted old new w settled es dones is acts =
+      inr (dones, subst (λ p. ActsOn (plain_told M held old.working) (plain_told M held p) settled es dones) (sym is) acts)
 
   -- ---- faults
 

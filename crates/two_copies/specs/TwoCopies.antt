@@ -1,9 +1,11 @@
 -- The state of a keeper with two copies (own profile).
-use Rattle.std.specs.Prelude.{◌≡◌, ◌⊎◌, ◌<◌, ◌-◌, ◌+◌, ◌||◌, ℕ, Bool, true, false, Result, MatchResult}
+use Rattle.std.specs.Prelude.{◌≡◌, ◌⊎◌, ◌<◌, ◌-◌, ◌+◌, ◌||◌, ℕ, Bool, true, false, List, Result, MatchResult}
 use Rattle.fuse_keeper.specs.declared.fault.StoreFault.{StoreFault}
 use Rattle.fuse_keeper.specs.declared.fault.StoreFault.TheVariants.{Damaged}
 use Rattle.fuse_keeper.specs.Model.{Model}
-use Rattle.fuse_keeper.specs.KeeperState.{KeeperState, KeepsHeld}
+use Rattle.fuse_keeper.specs.KeeperState.{KeeperState, KeepsHeld, ActsOn}
+use Rattle.fuse_keeper.specs.History.{Entry}
+use Rattle.fuse_keeper.specs.declared.keeper.Done.{Done}
 use Rattle.fuse_keeper.specs.PlainKeeper.{plain_told}
 use Rattle.fuse_keeper.specs.Lots.{no_lots}
 use Rattle.two_copies.specs.declared.copies.TwoCopies.{TwoCopies}
@@ -78,6 +80,12 @@ FailedAsPlanned M held old new fault = Refused old new fault ⊎ Faulted M held 
 abbrev pub Follows : {F A : Type 0} → (M : Model) → (F → M.Rows) → TwoCopies F → TwoCopies F → Result A StoreFault → Type 0
 Follows M held old new result =
     MatchResult result (λ _. WentWell old new) (λ fault. Untried old new ⊎ FailedAsPlanned M held old new fault)
+
+-- its working copy was asked to perform the group: it failed and holds what it held, or it performed the group
+abbrev pub WorkingAsked : {F : Type 0} → (M : Model) → (F → M.Rows) → TwoCopies F → TwoCopies F → List ℕ → List Entry → Type 0
+WorkingAsked M held old new settled group =
+    ((plain_told M held new.working).has_failed ≡ true) × KeepsHeld (plain_told M held old.working) (plain_told M held new.working)
+    ⊎ ((dones : List Done) × ActsOn (plain_told M held old.working) (plain_told M held new.working) settled group dones)
 
 -- a later state, opened again so often on the way, with the same number of commits between two that are refused
 abbrev pub IsLater : {F : Type 0} → TwoCopies F → TwoCopies F → ℕ → Type 0

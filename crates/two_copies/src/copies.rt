@@ -1,16 +1,16 @@
 // A keeper in memory with two copies.
 ghost use Rattle.std.specs.Prelude.{◌≡◌, ◌+◌, ◌^◌, ◌≤◌, ◌⊎◌, ℕ, List, true, false, [], length, All};
-ghost use Rattle.std.specs.Prelude.{IfOk, IfErr, OnOk, OnErr, is_err};
+ghost use Rattle.std.specs.Prelude.{None, IfOk, IfErr, OnOk, OnErr, is_err};
 ghost use Rattle.fuse_keeper.specs.History.{History};
 ghost use Rattle.fuse_keeper.specs.Stands.{Records, CountsRecords};
 ghost use Rattle.fuse_keeper.specs.Group.{entries_of, HasId, IsKept, ids_of};
 ghost use Rattle.fuse_keeper.specs.KeeperState.{StandsFor, IsFirm, Reports, Reopened};
 ghost use Rattle.fuse_keeper.specs.KeeperState.{AnswersNoMore, Called, Looked, Performs};
-ghost use Rattle.fuse_keeper.specs.KeeperState.{ActsOn, KeepsOthers, KeepsLots, LeavesGroup};
+ghost use Rattle.fuse_keeper.specs.KeeperState.{ActsOn, KeepsOthers, KeepsLots, LeavesGroup, LeavesActed};
 ghost use Rattle.fuse_keeper.specs.KeeperState.{BeginsMount, DropsLots, LeavesMount};
 ghost use Rattle.fuse_keeper.specs.PlainKeeper.{plain_told};
 ghost use Rattle.two_copies.specs.TwoCopies.{HoldsAlike, two_told, plan_of, new_plan};
-ghost use Rattle.two_copies.specs.TwoCopies.{FailedAsPlanned, Follows, IsLater};
+ghost use Rattle.two_copies.specs.TwoCopies.{FailedAsPlanned, Follows, IsLater, WorkingAsked};
 
 use fuse_answer::Answer;
 use fuse_init::Settings;
@@ -152,9 +152,14 @@ impl<F: FileSystem> Keeper for TwoCopies<F> {
             (two_told F.model F.held self.new) (ids_of settled.now) (entries_of group.now)) }
         ensures crash { LeavesGroup (two_told F.model F.held self.old) (two_told F.model F.held self.new)
             (ids_of settled.now) (entries_of group.now) }
+        ensures crash_acts { LeavesActed (two_told F.model F.held self.old)
+            (two_told F.model F.held self.new) (ids_of settled.now) (entries_of group.now) }
         ensures firm { OnOk result ((two_told F.model F.held self.new).is_honest
             → IsFirm (two_told F.model F.held self.new)) }
         ensures same { IsLater self.old self.new 0 }
+        // Its working copy is asked, unless the last commit failed.
+        ensures asks { (two_told F.model F.held self.old).is_clean → WorkingAsked F.model F.held
+            self.old self.new (ids_of settled.now) (entries_of group.now) }
         ensures follows { Follows F.model F.held self.old self.new result }
         // Where it stands, a fault is out of memory, or that of a commit that was planned to fail.
         ensures by_plan { (s : F.model.State) (h : History) (t : List ℕ)
@@ -176,6 +181,9 @@ impl<F: FileSystem> Keeper for TwoCopies<F> {
 
     fn begin_mount(&mut self) -> Result<(), StoreFault>
         ensures called { Called (two_told F.model F.held self.old) (two_told F.model F.held self.new) result }
+        ensures may { (is_err result ≡ true)
+            ⊎ ((two_told F.model F.held self.old).lots.current ≡ None)
+            → AnswersNoMore (two_told F.model F.held self.old) (two_told F.model F.held self.new) }
         ensures ok { OnOk result (BeginsMount (two_told F.model F.held self.old)
             (two_told F.model F.held self.new)) }
         ensures lots { OnOk result (DropsLots (two_told F.model F.held self.old)

@@ -1,9 +1,10 @@
 use Rattle.std.proofs.Common.{◌∙◌, refl, sym, subst, inl, inr}
 use Rattle.fuse_keeper.specs.Group.{ids_of, entries_of}
 use Rattle.fuse_keeper.specs.Model.{IsRowed}
+use Rattle.fuse_keeper.specs.Stands.{Content, without}
 use Rattle.fuse_keeper.specs.Plain.{mapped}
 use Rattle.fuse_keeper.proofs.Overlays.{without-same}
-use Rattle.fuse_keeper.proofs.InARow.{named_taken}
+use Rattle.fuse_keeper.proofs.InARow.{named_taken, led_same}
 use Rattle.fuse_keeper.proofs.Keeping.{left_new, left_old, rowed_where, or-true, no_lot, lots_stay}
 use Rattle.fuse_keeper.proofs.plain.PlainKeeperKeeper.perform.Goals as goal
 
@@ -44,6 +45,26 @@ returns-in-Err-clause-crash g c = λ s h t so within fresh firm. (
   λ x r left. inl (left_old g.F.FileSystem.model (g.F.FileSystem.held c.args.self.now.rows) (mapped c.args.self.now.records)
       (g.F.FileSystem.held c.perform_group.new.self.rows) (mapped c.perform_group.new.self.records) x r s h t so c.in-Err.ensures.err left),
 )
+
+pub returns-in-Ok-clause-crash_acts : goal.returns-in-Ok-clause-crash_acts
+returns-in-Ok-clause-crash_acts g c = λ firm rows records held rowed.
+    let M = g.F.FileSystem.model in
+    let old : Content M = record { rows = g.F.FileSystem.held c.args.self.now.rows; records = mapped c.args.self.now.records } in
+    let before : Content M = record { rows = rows; records = records } in
+    let after : Content M = record { rows = g.F.FileSystem.held c.perform_group.new.self.rows; records = mapped c.perform_group.new.self.records } in
+    let taken = named_taken M old before (ids_of c.args.settled.now) (entries_of c.args.group.now) after c.in-Ok.dones.items held c.in-Ok.ensures.acts in (
+      tt,
+      λ x r left. inr (
+        c.in-Ok.dones.items,
+        led_same M (record before { records = without (ids_of c.args.settled.now) records }) (entries_of c.args.group.now) after c.in-Ok.dones.items
+            (record { rows = x; records = r }) left taken,
+      ),
+    )
+
+pub returns-in-Err-clause-crash_acts : goal.returns-in-Err-clause-crash_acts
+returns-in-Err-clause-crash_acts g c = λ firm rows records held rowed.
+    let kept = c.in-Err.ensures.err rows records held in
+    (tt, λ x r left. inl (left.0 ∙ sym kept.0, λ i. left.1 i ∙ sym (kept.1 i)))
 
 pub returns-in-Err-clause-called : goal.returns-in-Err-clause-called
 returns-in-Err-clause-called g c = record {

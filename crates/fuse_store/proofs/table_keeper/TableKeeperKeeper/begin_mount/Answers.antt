@@ -1,15 +1,22 @@
-use Rattle.std.proofs.Common.{true, None, Ok, Err}
+use Rattle.std.proofs.Common.{true, None, Ok, Err, inl, inr, refl}
 use Rattle.sqlite.specs.Held.{state}
 use Rattle.fuse_store.specs.Mounting.{cleared_for}
 use Rattle.fuse_store.proofs.Serving.{firm}
 use Rattle.fuse_store.proofs.Beginning.{clears_all, begins_mount, drops_lots, leaves_mount}
-use Rattle.fuse_store.proofs.Peeking.{went_well, went_wrong, may_where}
+use Rattle.fuse_store.proofs.Peeking.{went_well, went_wrong, may_where, begun_may, failed_may}
 use Rattle.fuse_store.proofs.table_keeper.TableKeeperKeeper.begin_mount.Goals as goal
 
 pub returns-in-Ok-clause-called : goal.returns-in-Ok-clause-called
 returns-in-Ok-clause-called g c =
     went_well cleared_for (state g.S.Store c.args.self.now.look.conn) (state g.S.Store c.begin_mount.new.conn) tt tt c.in-Ok.ensures.serves
     c.in-Ok.ensures.open c.args.self.now.lot None c.args.self.now.failed
+
+pub returns-in-Ok-clause-may : goal.returns-in-Ok-clause-may
+returns-in-Ok-clause-may g c = λ unlotted. elim unlotted [
+  | inl failed ↦ absurd (let e = failed in cc)
+  | inr none ↦ begun_may cleared_for (state g.S.Store c.args.self.now.look.conn) (state g.S.Store c.begin_mount.new.conn) tt (λ y. refl)
+      c.in-Ok.ensures.serves c.in-Ok.ensures.open c.args.self.now.lot None c.args.self.now.failed c.args.self.now.failed none
+]
 
 pub returns-in-Ok-clause-ok : goal.returns-in-Ok-clause-ok
 returns-in-Ok-clause-ok g c =
@@ -39,6 +46,11 @@ returns-in-Err-clause-called g c =
     (state g.S.Store c.begin_mount.new.conn) c.in-Err.fault c.in-Err.ensures.serves c.args.self.now.lot
     (may_where c.args.self.now.lot (state g.S.Store c.args.self.now.look.conn) (state g.S.Store c.begin_mount.new.conn) c.in-Err.fault
     c.in-Err.ensures.fault) c.args.self.now.failed
+
+pub returns-in-Err-clause-may : goal.returns-in-Err-clause-may
+returns-in-Err-clause-may g c = λ unlotted.
+    failed_may cleared_for (state g.S.Store c.args.self.now.look.conn) (state g.S.Store c.begin_mount.new.conn) c.in-Err.fault c.in-Err.ensures.serves
+    c.in-Err.ensures.open c.args.self.now.lot c.args.self.now.failed true
 
 pub returns-in-Err-clause-crash : goal.returns-in-Err-clause-crash
 returns-in-Err-clause-crash g c =

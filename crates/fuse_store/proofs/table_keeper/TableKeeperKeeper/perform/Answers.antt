@@ -3,7 +3,7 @@ use Rattle.sqlite.specs.Held.{state}
 use Rattle.fuse_keeper.specs.Group.{ids_of, entries_of}
 use Rattle.fuse_store_tree.specs.Group.{performed}
 use Rattle.fuse_store.proofs.Serving.{firm}
-use Rattle.fuse_store.proofs.Grouping.{performs, acts_so, others_so, lots_so, leaves_group}
+use Rattle.fuse_store.proofs.Grouping.{performs, acts_so, others_so, lots_so, leaves_group, leaves_acted}
 use Rattle.fuse_store.proofs.Peeking.{went_well, went_wrong, lot_may, took_may, failed_may}
 use Rattle.fuse_store.proofs.table_keeper.TableKeeperKeeper.perform.Goals as goal
 
@@ -70,5 +70,18 @@ returns-in-Err-clause-may g c =
 pub returns-in-Err-clause-crash : goal.returns-in-Err-clause-crash
 returns-in-Err-clause-crash g c =
     leaves_group c.one_holding.ensures c.calls_perform.ensures c.args.self.now.lot (ids_of c.args.settled.now) (entries_of c.args.group.now)
+    (state g.S.Store c.args.self.now.look.conn) (state g.S.Store c.perform.new.look.conn) (Err c.in-Err.fault)
+    (g.met.S.Store.settled c.args.self.now.look.conn.store) c.in-Err.ensures.serves c.args.self.now.lot c.args.self.now.failed true
+
+pub returns-in-Ok-clause-crash_acts : goal.returns-in-Ok-clause-crash_acts
+returns-in-Ok-clause-crash_acts g c =
+    leaves_acted c.one_holding.ensures c.calls_perform.ensures c.args.self.now.lot (ids_of c.args.settled.now) (entries_of c.args.group.now)
+    (state g.S.Store c.args.self.now.look.conn) (state g.S.Store c.perform.new.look.conn) (Ok c.in-Ok.performed)
+    (g.met.S.Store.settled c.args.self.now.look.conn.store) c.in-Ok.ensures.serves (Some c.in-Ok.performed.lot) c.args.self.now.failed
+    c.args.self.now.failed
+
+pub returns-in-Err-clause-crash_acts : goal.returns-in-Err-clause-crash_acts
+returns-in-Err-clause-crash_acts g c =
+    leaves_acted c.one_holding.ensures c.calls_perform.ensures c.args.self.now.lot (ids_of c.args.settled.now) (entries_of c.args.group.now)
     (state g.S.Store c.args.self.now.look.conn) (state g.S.Store c.perform.new.look.conn) (Err c.in-Err.fault)
     (g.met.S.Store.settled c.args.self.now.look.conn.store) c.in-Err.ensures.serves c.args.self.now.lot c.args.self.now.failed true

@@ -1,7 +1,8 @@
-use Rattle.std.proofs.Common.{refl, inl}
+use Rattle.std.proofs.Common.{refl, inl, ◌∙◌}
+use Rattle.fuse_keeper.specs.PlainKeeper.{plain_told}
 use Rattle.fuse_keeper.specs.Group.{ids_of, entries_of}
 use Rattle.fuse_keeper.specs.Stands.{without}
-use Rattle.two_copies.proofs.Both.{Commits, plain_firm, working_stands, leaves_old, leaves_either, both_performed, both_taken, both_others, called_working}
+use Rattle.two_copies.proofs.Both.{Commits, plain_firm, working_stands, leaves_old, leaves_either, left_held, leaves_held, working_acted, or-true, both_performed, both_taken, both_others, called_working}
 use Rattle.two_copies.proofs.copies.TwoCopiesKeeper.perform.Goals as goal
 
 pub returns-in_ok-commit-in-Ok-clause-ok : goal.returns-in_ok-commit-in-Ok-clause-ok
@@ -49,6 +50,38 @@ returns-in_err-commit-in-Ok-clause-crash g c = λ s h t so within fresh firm.
     c.in_err-commit-in-Ok.ensures.err so (λ x r stands. inl stands)
     (c.in-Ok.ensures.crash s h t (working_stands g.F.FileSystem.model g.F.FileSystem.held c.args.self.now s h t so) within fresh
     (plain_firm g.F.FileSystem.model g.F.FileSystem.held c.args.self.now.working))
+
+pub returns-in_ok-commit-in-Ok-clause-crash_acts : goal.returns-in_ok-commit-in-Ok-clause-crash_acts
+returns-in_ok-commit-in-Ok-clause-crash_acts g c = λ firm rows records so rowed.
+    let leaves = c.in-Ok.ensures.crash_acts (plain_firm g.F.FileSystem.model g.F.FileSystem.held c.args.self.now.working) rows records so.1 rowed in
+    (tt, λ x r left. leaves.1 x r (c.in_ok-commit-in-Ok.ensures.ok.1 x r left))
+
+pub returns-in_err-commit-in-Ok-clause-crash_acts : goal.returns-in_err-commit-in-Ok-clause-crash_acts
+returns-in_err-commit-in-Ok-clause-crash_acts g c = λ firm rows records so rowed.
+    leaves_held g.F.FileSystem.model g.F.FileSystem.held c.args.self.now c.commit.new.self c.perform.new.self rows records _
+    c.in_err-commit-in-Ok.ensures.err so (λ x r these. inl these)
+    (c.in-Ok.ensures.crash_acts (plain_firm g.F.FileSystem.model g.F.FileSystem.held c.args.self.now.working) rows records so.1 rowed)
+
+pub returns-in-Err-clause-crash_acts : goal.returns-in-Err-clause-crash_acts
+returns-in-Err-clause-crash_acts g c = λ firm rows records so rowed.
+    (tt, λ x r left. inl (left_held g.F.FileSystem.model g.F.FileSystem.held c.args.self.now c.args.self.now rows records x r refl so left))
+
+pub returns-in_ok-commit-in-Ok-clause-asks : goal.returns-in_ok-commit-in-Ok-clause-asks
+returns-in_ok-commit-in-Ok-clause-asks g c = λ clean.
+    working_acted g.F.FileSystem.model g.F.FileSystem.held c.args.self.now c.commit.new.self c.perform.new.self (ids_of c.args.settled.now)
+    (entries_of c.args.group.now) c.in-Ok.dones.items c.in_ok-commit-in-Ok.ensures.working c.in-Ok.ensures.acts
+
+pub returns-in_err-commit-in-Ok-clause-asks : goal.returns-in_err-commit-in-Ok-clause-asks
+returns-in_err-commit-in-Ok-clause-asks g c = λ clean.
+    working_acted g.F.FileSystem.model g.F.FileSystem.held c.args.self.now c.commit.new.self c.perform.new.self (ids_of c.args.settled.now)
+    (entries_of c.args.group.now) c.in-Ok.dones.items c.in_err-commit-in-Ok.ensures.working c.in-Ok.ensures.acts
+
+pub returns-in-Err-clause-asks : goal.returns-in-Err-clause-asks
+returns-in-Err-clause-asks g c = λ clean.
+    inl (
+      c.in-Err.ensures.called.failed ∙ or-true (plain_told g.F.FileSystem.model g.F.FileSystem.held c.args.self.now.working).has_failed,
+      c.in-Err.ensures.called.err tt,
+    )
 
 pub returns-in-Err-clause-called : goal.returns-in-Err-clause-called
 returns-in-Err-clause-called g c =
