@@ -12,7 +12,7 @@ use Rattle.fuse_keeper.specs.History.{Entry, entry_id, IsUnsettled}
 use Rattle.fuse_keeper.specs.Stands.{Records, Content, Standing, without, StandsAt, AreThese, PerformedBy}
 use Rattle.fuse_keeper.specs.Group.{entry_of, entries_of}
 use Rattle.fuse_keeper.specs.Taking.{TookBy, Took, TakesAll}
-use Rattle.fuse_keeper.specs.Plain.{over}
+use Rattle.fuse_keeper.specs.inner.Overlay.{over}
 use Rattle.fuse_keeper.proofs.Histories.{map-append}
 use Rattle.fuse_keeper.proofs.Performing.{PerformedBy-same, none_yet, one_more}
 use Rattle.fuse_keeper.proofs.Overlays.{over-same, without-same}

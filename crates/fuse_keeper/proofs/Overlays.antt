@@ -11,7 +11,7 @@ use Rattle.fuse_keeper.specs.History.{Entry, entry_id, next_state, is_in, ids_in
 use Rattle.fuse_keeper.specs.Stands.{Records, Content, Standing, StandsAt, StandsBy, AreThese, PerformedBy, OthersStay, without}
 use Rattle.fuse_keeper.specs.Group.{entry_of}
 use Rattle.fuse_keeper.specs.Taking.{Acts, Took, TookBy}
-use Rattle.fuse_keeper.specs.Plain.{listed, first_of, over, record_ids}
+use Rattle.fuse_keeper.specs.inner.Overlay.{listed, first_of, over, record_ids}
 use Rattle.fuse_keeper.proofs.Histories.{tested, map-append}
 use Rattle.fuse_keeper.proofs.Standing.{same_number, unsettled_too, Stands-without}
 use Rattle.fuse_keeper.proofs.Performing.{is_in-append, these_stand, none_yet, PerformedBy-same}

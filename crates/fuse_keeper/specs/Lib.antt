@@ -10,3 +10,4 @@ pub mod Taking
 pub mod Performance
 pub mod Plain
 pub mod PlainKeeper
+pub mod inner

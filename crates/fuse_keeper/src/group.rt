@@ -10,7 +10,8 @@ ghost use Rattle.fuse_keeper.specs.Model.{IsRowed};
 ghost use Rattle.fuse_keeper.specs.Stands.{AreThese, Stands, PerformedBy, without};
 ghost use Rattle.fuse_keeper.specs.Group.{entry_of, entries_of, IsKept, ids_of};
 ghost use Rattle.fuse_keeper.specs.Taking.{Took, TakesAll};
-ghost use Rattle.fuse_keeper.specs.Plain.{mapped, listed, over, record_ids};
+ghost use Rattle.fuse_keeper.specs.Plain.{mapped};
+ghost use Rattle.fuse_keeper.specs.inner.Overlay.{listed, over, record_ids};
 
 use crate::fault::StoreFault;
 use crate::file_system::FileSystem;

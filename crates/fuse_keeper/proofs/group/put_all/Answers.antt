@@ -1,5 +1,6 @@
 use Rattle.std.proofs.Common.{◌≡◌, ◌+◌, ◌∙◌, sym, ap, arith, Some, vec_len}
-use Rattle.fuse_keeper.specs.Plain.{mapped, over}
+use Rattle.fuse_keeper.specs.Plain.{mapped}
+use Rattle.fuse_keeper.specs.inner.Overlay.{over}
 use Rattle.fuse_keeper.proofs.Overlays.{put_step, value_by}
 use Rattle.fuse_keeper.proofs.group.put_all.Goals as goal
 

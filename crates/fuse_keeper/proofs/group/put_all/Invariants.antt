@@ -1,6 +1,7 @@
 use Rattle.std.proofs.Common.{◌≡◌, ◌≤◌, ℕ, vec_len}
 use Rattle.std.specs.HashMap.{spare}
-use Rattle.fuse_keeper.specs.Plain.{mapped, over}
+use Rattle.fuse_keeper.specs.Plain.{mapped}
+use Rattle.fuse_keeper.specs.inner.Overlay.{over}
 use Rattle.fuse_keeper.proofs.group.put_all.Given as goal
 
 abbrev pub decreases-loop-record : goal.decreases-loop-record

@@ -1,5 +1,5 @@
 use Rattle.std.proofs.Common.{◌≡◌, drop}
-use Rattle.fuse_keeper.specs.Plain.{listed}
+use Rattle.fuse_keeper.specs.inner.Overlay.{listed}
 use Rattle.fuse_keeper.proofs.group.recorded.Given as goal
 
 -- it is found among those that are left, if at all

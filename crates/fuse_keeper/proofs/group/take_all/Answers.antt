@@ -4,7 +4,8 @@ use Rattle.std.proofs.lemmas.List.{take_all}
 use Rattle.fuse_keeper.specs.Stands.{AreThese, PerformedBy, without}
 use Rattle.fuse_keeper.specs.Group.{entries_of, ids_of, IsKept}
 use Rattle.fuse_keeper.specs.Taking.{TakesAll}
-use Rattle.fuse_keeper.specs.Plain.{mapped, over}
+use Rattle.fuse_keeper.specs.Plain.{mapped}
+use Rattle.fuse_keeper.specs.inner.Overlay.{over}
 use Rattle.fuse_keeper.proofs.Performing.{one_more_of, ids_more, entry_at_place}
 use Rattle.fuse_keeper.proofs.Overlays.{took_rowed_at}
 use Rattle.fuse_keeper.proofs.InARow.{one_more_taken_of}

@@ -4,7 +4,8 @@ use Rattle.fuse_keeper.specs.Model.{IsRowed}
 use Rattle.fuse_keeper.specs.Stands.{Stands, AreThese, PerformedBy, without}
 use Rattle.fuse_keeper.specs.Group.{entries_of, ids_of}
 use Rattle.fuse_keeper.specs.Taking.{TakesAll}
-use Rattle.fuse_keeper.specs.Plain.{mapped, over, record_ids}
+use Rattle.fuse_keeper.specs.Plain.{mapped}
+use Rattle.fuse_keeper.specs.inner.Overlay.{over, record_ids}
 use Rattle.fuse_keeper.proofs.group.take_all.Given as goal
 
 abbrev pub invariant-loop-one : goal.invariant-loop-one

@@ -1,7 +1,8 @@
 use Rattle.std.proofs.Common.{◌∙◌, sym, ap, refl, false}
 use Rattle.fuse_keeper.specs.Group.{entry_of, ids_of}
 use Rattle.fuse_keeper.specs.Stands.{without}
-use Rattle.fuse_keeper.specs.Plain.{mapped, over}
+use Rattle.fuse_keeper.specs.Plain.{mapped}
+use Rattle.fuse_keeper.specs.inner.Overlay.{over}
 use Rattle.fuse_keeper.proofs.Overlays.{took_new, ids_pushed}
 use Rattle.fuse_keeper.proofs.group.take_one.Goals as goal
 
