@@ -14,7 +14,7 @@ use Rattle.fuse_session.specs.Settling.{comes_again}
 use Rattle.fuse_sim.specs.declared.event.Event.{Event}
 use Rattle.fuse_sim.specs.declared.event.Outcome.{Outcome}
 use Rattle.fuse_sim.specs.Driving.{told_in, StandsIn, commits_in, committed, bytes_given, settles, settled_by, NoneReused, OutcomesBegin}
-use Rattle.fuse_sim.specs.AfterEvents.{StandsAfter, AnswersAre, AnswersBegin, DeletesHanded, KeepsUnhanded}
+use Rattle.fuse_sim.specs.AfterEvents.{StandsAfter, AnswersAre, FirstAnswersAre, DeletesHanded, KeepsUnhanded}
 use Rattle.fuse_sim.specs.HandedOn.{empty_ledger, performances, handed_in}
 use Rattle.fuse_sim.specs.LeftRecords.{RecordsLeft}
 use Rattle.fuse_sim.proofs.Settled.{is_in-append, in_either, includes_left, includes_right, includes_both, unsettled_too}
@@ -28,7 +28,7 @@ use Rattle.fuse_sim.proofs.Endings.{not_in_both}
 
 pub answers_in_a_row : (M : Model) → HistoriesGrow M → {K : Type 0} (told : K → KeeperState M) (old mid new : Option K) (xs ys : List Event)
     (one two : List (Option Outcome)) → ((told_in told new).is_honest → (told_in told mid).is_honest) → StandsAfter told old mid xs
-    → AnswersAre told old mid xs one → AnswersBegin told old mid xs one → AnswersBegin told mid new ys two → AnswersBegin told old new (xs ++ ys) (one ++ two)
+    → AnswersAre told old mid xs one → FirstAnswersAre told old mid xs one → FirstAnswersAre told mid new ys two → FirstAnswersAre told old new (xs ++ ys) (one ++ two)
 answers_in_a_row M grows told old mid new xs ys one two was stands all begin more = λ is earlier later parts s h t so none.
     let first = map bytes_given one in
     let second = map bytes_given two in

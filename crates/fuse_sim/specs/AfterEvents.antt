@@ -27,12 +27,12 @@ AnswersAre {M} told old new events outcomes = OfStood told old new (λ start h s
     → map bytes_given outcomes ≡ map (outcome_of M start (committed M.serves h events)) events)
 
 -- so it is of the first events, however many
-abbrev pub AnswersBegin : {M : Model} {K : Type 0} → (K → KeeperState M) → Option K → Option K → List Event → List (Option Outcome) → Type 0
-AnswersBegin {M} told old new events outcomes = (told_in told new).is_honest → (earlier later : List Event) → events ≡ earlier ++ later
+abbrev pub FirstAnswersAre : {M : Model} {K : Type 0} → (K → KeeperState M) → Option K → Option K → List Event → List (Option Outcome) → Type 0
+FirstAnswersAre {M} told old new events outcomes = (told_in told new).is_honest → (earlier later : List Event) → events ≡ earlier ++ later
     → (start : M.State) (h : History) (settled : List ℕ) → StandsIn told old start h settled → NoneReused M.serves settled earlier
     → OutcomesBegin M start h earlier (map bytes_given outcomes)
 
--- the records of ids that didn't come stay, and those that were handed on are deleted, whatever history the keeper stood for, if any
+-- so it is of the records that are held, whatever history the keeper stood for, if any
 abbrev pub DeletesHanded : {M : Model} {K : Type 0} → (K → KeeperState M) → Option K → Option K → List Performance → List Event → Type 0
 DeletesHanded {M} told old new asked events =
     Reports (told_in told old) (told_in told new) (λ rows records. HoldsRecords (told_in told new) (RecordsLeft M.serves asked events records))

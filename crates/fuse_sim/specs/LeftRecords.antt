@@ -22,7 +22,7 @@ pub record SettledBefore (V : OpcodeSet) (n : ℕ) (events : List Event) (i : �
   pub settled : settles V at.one ≡ i ∷ []
   pub follow : Follow V n at.later
 
--- the records of ids that didn't come stay, and those of the ids that were handed on are deleted, where none of these came again
+-- the records of ids that didn't come stay; those of the ids that were handed on are deleted, where no settled id came again
 pub record RecordsLeft (V : OpcodeSet) (asked : List Performance) (events : List Event) (records records' : Records) : Type 0 where
   pub others : (i : ℕ) → is_in (ids_in (commits_in V events)) i ≡ false → records' i ≡ records i
   pub gone : NoneReused V [] events → (i : ℕ) → is_in (handed_in asked) i ≡ true → records' i ≡ None

@@ -12,7 +12,7 @@ ghost use Rattle.fuse_sim.specs.Driving.{settled_by, NoneReused, IsFit, Names, e
 ghost use Rattle.fuse_sim.specs.Driving.{is_store, IsStoreFault, LeftBy, OfRestart};
 ghost use Rattle.fuse_sim.specs.Driving.{became_in, performed_in, Opened, AnsweredBy, StoodBefore};
 ghost use Rattle.fuse_sim.specs.Driving.{MayRefuse, KeepsMedium};
-ghost use Rattle.fuse_sim.specs.AfterEvents.{StandsAfter, AnswersAre, AnswersBegin};
+ghost use Rattle.fuse_sim.specs.AfterEvents.{StandsAfter, AnswersAre, FirstAnswersAre};
 ghost use Rattle.fuse_sim.specs.AfterEvents.{DeletesHanded, KeepsUnhanded};
 ghost use Rattle.fuse_sim.specs.HandedOn.{performances, AsksUpTo, AskedSome};
 ghost use Rattle.fuse_sim.specs.Twice.{seen_of, StoppedAt};
@@ -260,7 +260,7 @@ pub fn drive<K: Restart>(
     // Where a message comes again whose answer was taken, all this is so up to that message: the
     // answers to the events before it are those that these say,
     ensures outcomes_before { IfOk result (λ outcomes.
-        AnswersBegin K.told keeper.old keeper.new events.now outcomes.items) }
+        FirstAnswersAre K.told keeper.old keeper.new events.now outcomes.items) }
     // and a keeper stood for them.
     ensures stood_before { OnOk result
         (StoodBefore K.told K.became keeper.old keeper.new events.now) }
@@ -359,7 +359,7 @@ pub fn drive_twice<K: Restart>(
         (events.now ++ more.now) (both.0.items ++ both.1.items)) }
     ensures first { IfOk result (λ both. length both.0.items ≡ length events.now) }
     ensures second { IfOk result (λ both. length both.1.items ≡ length more.now) }
-    ensures outcomes_before { IfOk result (λ both. AnswersBegin K.told keeper.old keeper.new
+    ensures outcomes_before { IfOk result (λ both. FirstAnswersAre K.told keeper.old keeper.new
         (events.now ++ more.now) (both.0.items ++ both.1.items)) }
     ensures stood_before { OnOk result
         (StoodBefore K.told K.became keeper.old keeper.new (events.now ++ more.now)) }
