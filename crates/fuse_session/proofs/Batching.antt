@@ -96,7 +96,7 @@ rests_more (m ∷ ms) ns xs ys one two = (
   rests_more ms ns one.1 ys one.4 two,
 )
 
-pub rests_one : (m : Mark) (xs : List (List ℕ × Sent)) → RestsOfWhole m.reply xs → RestsOfAll (m ∷ []) xs
+pub rests_one : (m : Mark) (xs : List (List ℕ × Sent)) → RestsOfWhole m xs → RestsOfAll (m ∷ []) xs
 rests_one m xs one = (xs, [], sym (append-nil xs), one, refl)
 
 pub some_more : (ms ns : List Mark) (part : List ℕ) (xs ys : List (List ℕ × Sent)) → RestsOfAll ms xs → RestsOfSome ns part ys

@@ -14,13 +14,13 @@ use Rattle.fuse_request.specs.Stream.{joined}
 use Rattle.fuse_keeper.specs.declared.keeper.Done.{Done}
 use Rattle.fuse_session.specs.declared.fault.Fault.{Fault}
 use Rattle.fuse_session.specs.declared.fault.Fault.TheVariants.{PortFailed, Store, Memory}
-use Rattle.fuse_session.specs.Port.{PortState, IsYoung, IsQuiet, SentWhole}
+use Rattle.fuse_session.specs.Port.{PortState, IsYoung, IsQuiet, SentWhole, MoreGone}
 use Rattle.fuse_session.specs.Processed.{unique_of, message_id}
 use Rattle.fuse_session.specs.declared.port.Sent.{Sent}
-use Rattle.fuse_session.specs.Transcript.{PortEvent, sends_of, Hands}
+use Rattle.fuse_session.specs.Transcript.{PortEvent, Steps, sends_of, Hands}
 use Rattle.fuse_session.specs.Slices.{RestsOfAll, RestsOfSome}
 use Rattle.fuse_session.specs.inner.Sending.{Sending, sending, HandsSlices, SendFails, SentNext, SentAll, SentSome}
-use Rattle.fuse_session.proofs.Transcripts.{sends_more}
+use Rattle.fuse_session.proofs.Transcripts.{sends_more, gone_is}
 use Rattle.fuse_session.proofs.Batching.{rests_more, rests_one, some_all}
 use Rattle.fuse_session.specs.Settling.{Mark, replies, settles, settles_if, settled_in, Replied, BeginsNext}
 use Rattle.fuse_session.specs.inner.Group.{answers_in, head_wire, left_by, wires, AreEnough}
@@ -67,12 +67,14 @@ sent_first_none V became nothing p messages answers pending = record {
 }
 
 -- the slices of answers, and then those of one more
-hands_next : (became became' became'' : List PortEvent → Type 0) → ((xs ys : List PortEvent) → became xs → became' ys → became'' (xs ++ ys)) → (marks : List Mark) (mark : Mark)
+hands_next : (became became' became'' : List PortEvent → Type 0) → ((xs ys : List PortEvent) → became xs → became' ys → became'' (xs ++ ys)) → (b c : PortState)
+    → ((es : List PortEvent) → became' es → Steps b c es) → (marks : List Mark) (mark : Mark) → MoreGone mark.gone b.gone c.gone c.sent
     → HandsSlices became (RestsOfAll marks) → Hands became' mark.reply true → HandsSlices became'' (RestsOfAll (marks ++ mark ∷ []))
-hands_next became became' became'' joins marks mark one two = record {
+hands_next became became' became'' joins b c tells marks mark more one two = record {
   slices = one.slices ++ two.slices;
   calls = subst became'' (sym (sends_more one.slices two.slices)) (joins (sends_of one.slices) (sends_of two.slices) one.calls two.calls);
-  kind = rests_more marks (mark ∷ []) one.slices two.slices one.kind (rests_one mark two.slices (two.rests, two.left));
+  kind = rests_more marks (mark ∷ []) one.slices two.slices one.kind (rests_one mark two.slices
+      (two.rests, two.left, gone_is mark.gone b c two.slices (tells (sends_of two.slices) two.calls) more));
 }
 
 hands_some : (became became' became'' : List PortEvent → Type 0) → ((xs ys : List PortEvent) → became xs → became' ys → became'' (xs ++ ys)) → (marks : List Mark) (part rest : List ℕ)
@@ -90,10 +92,11 @@ hands_same became became' became'' joins Kind one nothing = record {
   kind = one.kind;
 }
 
-pub sent_first_more : (V : OpcodeSet) (became became' became'' : List PortEvent → Type 0) → ((xs ys : List PortEvent) → became xs → became' ys → became'' (xs ++ ys)) → (a b c : PortState) (prefix answers left left' : List (List ℕ)) (m bytes : List ℕ) (p q r : List ℕ) → left ≡ bytes ∷ left'
+pub sent_first_more : (V : OpcodeSet) (became became' became'' : List PortEvent → Type 0) → ((xs ys : List PortEvent) → became xs → became' ys → became'' (xs ++ ys)) → (a b c : PortState)
+    → ((es : List PortEvent) → became' es → Steps b c es) → (prefix answers left left' : List (List ℕ)) (m bytes : List ℕ) (p q r : List ℕ) → left ≡ bytes ∷ left'
     → SentFirst V (sending became a b p q) prefix answers left → SentNext V (sending became' b c q r) m bytes
     → SentFirst V (sending became'' a c p r) (prefix ++ m ∷ []) answers left'
-sent_first_more V became became' became'' joins a b c prefix answers left left' m bytes p q r is one two = record {
+sent_first_more V became became' became'' joins a b c tells prefix answers left left' m bytes p q r is one two = record {
   marks = one.marks ++ two.mark ∷ [];
   whole = one.whole ∙ ap (λ l. replies one.marks ++ l) (is ∙ ap (λ x. x ∷ left') (sym two.reply))
       ∙ sym (append_assoc (replies one.marks) (two.mark.reply ∷ []) left') ∙ ap (λ x. x ++ left') (sym (replies-append one.marks (two.mark ∷ [])));
@@ -101,7 +104,7 @@ sent_first_more V became became' became'' joins a b c prefix answers left left' 
   replied = replied_more a b c one.marks (two.mark ∷ []) [] one.replied (replied_one b c two.mark two.sent);
   failures = two.sent.failures ∙ one.failures;
   quiet = quiet_more a b c one.quiet two.sent.quiet;
-  hands = hands_next became became' became'' joins one.marks two.mark one.hands two.hands;
+  hands = hands_next became became' became'' joins b c tells one.marks two.mark two.sent.gone one.hands two.hands;
   handed = two.handed ∙ ap (λ (x : List ℕ). x ++ settles V b.confirms m two.mark) one.handed ∙ append_assoc p (settled_in V a.confirms prefix one.marks)
       (settles V b.confirms m two.mark)
       ∙ ap (λ x. p ++ (settled_in V a.confirms prefix one.marks ++ settles V x m two.mark)) one.quiet.confirms
@@ -116,13 +119,14 @@ left_at ms i m bytes lt at is = rw (add-one) (drop-cons ms i m lt) ∙ ap (λ x.
 pub taken_at : (ms : List (List ℕ)) (i : ℕ) (m bytes : List ℕ) → i < length ms → m ≡ get_or ms i m → bytes ≡ m → take i ms ++ bytes ∷ [] ≡ take (i + 1) ms
 taken_at ms i m bytes lt at is = ap (λ x. take i ms ++ x ∷ []) (is ∙ at) ∙ sym (take_more ms i m lt)
 
-pub sent_more : (V : OpcodeSet) (became became' became'' : List PortEvent → Type 0) → ((xs ys : List PortEvent) → became xs → became' ys → became'' (xs ++ ys)) → (a b c : PortState) (ms : List (List ℕ)) (i : ℕ) (m bytes : List ℕ) (list list' : List Said) (all : List (List ℕ)) (p q r : List ℕ)
+pub sent_more : (V : OpcodeSet) (became became' became'' : List PortEvent → Type 0) → ((xs ys : List PortEvent) → became xs → became' ys → became'' (xs ++ ys)) → (a b c : PortState)
+    → ((es : List PortEvent) → became' es → Steps b c es) → (ms : List (List ℕ)) (i : ℕ) (m bytes : List ℕ) (list list' : List Said) (all : List (List ℕ)) (p q r : List ℕ)
     → i < length ms → m ≡ get_or ms i m → bytes ≡ m
     → list' ≡ left_by (class_for V bytes) list → SentFirst V (sending became a b p q) (take i ms) all (wires V (drop i ms) list)
     → SentNext V (sending became' b c q r) bytes (head_wire (class_for V bytes) (unique_of bytes) list)
     → SentFirst V (sending became'' a c p r) (take (i + 1) ms) all (wires V (drop (i + 1) ms) list')
-sent_more V became became' became'' joins a b c ms i m bytes list list' all p q r lt at is left one two =
-    let step = sent_first_more V became became' became'' joins a b c (take i ms) all (wires V (drop i ms) list) (wires V (drop (i + 1) ms) list') bytes
+sent_more V became became' became'' joins a b c tells ms i m bytes list list' all p q r lt at is left one two =
+    let step = sent_first_more V became became' became'' joins a b c tells (take i ms) all (wires V (drop i ms) list) (wires V (drop (i + 1) ms) list') bytes
     (head_wire (class_for V bytes) (unique_of bytes) list) p q r
     (ap (λ x. wires V x list) (left_at ms i m bytes lt at is) ∙ ap (λ x. head_wire (class_for V bytes) (unique_of bytes) list ∷ wires V (drop (i + 1) ms) x)
     (sym left)) one two in

@@ -1,14 +1,15 @@
 -- What the calls of a port come to.
-use Rattle.std.proofs.Common.{◌≡◌, ◌≤◌, ℕ, ◌-◌, Bool, true, List, [], ◌∷◌, ◌++◌, length, take, drop, refl, sym, ap, subst, ◌∙◌}
-use Rattle.std.proofs.Common.{append_assoc, arith}
+use Rattle.std.proofs.Common.{◌≡◌, ◌⊎◌, inl, inr, ◌≤◌, ◌<◌, ◌||◌, ℕ, ◌+◌, ◌-◌, Bool, true, false, List, [], ◌∷◌, ◌++◌, length, take, drop, Option, refl, sym, ap, subst, ◌∙◌}
+use Rattle.std.proofs.Common.{append_assoc, arith, length-append}
 use Rattle.std.specs.List.{AllByRecursion}
 use Rattle.fuse_session.specs.declared.port.Received.{Received as Receipt}
 use Rattle.fuse_session.specs.declared.port.Received.TheVariants.{Got, End, Failed as ReceiveFailed}
 use Rattle.fuse_session.specs.declared.port.Sent.{Sent}
 use Rattle.fuse_session.specs.declared.port.Sent.TheVariants.{Took, Gone, Failed}
-use Rattle.fuse_session.specs.Port.{PortState, Receives, Sends}
+use Rattle.fuse_session.specs.Port.{PortState, Receives, Sends, MoreGone, is_gone}
 use Rattle.fuse_session.specs.Transcript.{PortEvent, Received, Handed, one_receive, one_send, Steps, Gave, came_with, received_in}
 use Rattle.fuse_session.specs.Transcript.{handed_with, handed_in, IsTranscript, sends_of, left_after, left_of, StopsAfter, RestsOf, IsLeft, Hands}
+use Rattle.fuse_session.specs.Slices.{gone_in}
 use Rattle.fuse_session.proofs.Bytes.{rest_is}
 
 -- ---- one call
@@ -159,3 +160,56 @@ each_gave old new (Received ReceiveFailed bytes ∷ es) steps ends failures =
     absurd (omega (arith, steps.1.receives.receive_failures, failures, failures_rise steps.0 new es steps.2))
 each_gave old new (Handed slice result ∷ es) steps ends failures =
     (tt, each_gave steps.0 new es steps.2 (omega (arith, steps.1.quiet.ends, ends)) (omega (arith, steps.1.quiet.receive_failures, failures)))
+
+-- ---- whether a slice was answered Gone, by the places that a port has
+
+more_long : (g : Bool) (old new : List ℕ) (sent : Option (List ℕ)) → MoreGone g old new sent → length old ≤ length new
+more_long true old new sent more = omega (arith, ap length more.1, length-append old (more.0 ∷ []))
+more_long false old new sent more = omega (arith, ap length more)
+
+one_longer : (g : Bool) (old new : List ℕ) (sent : Option (List ℕ)) → g ≡ true → MoreGone g old new sent → length new ≡ length old + 1
+one_longer true old new sent is more = ap length more.1 ∙ length-append old (more.0 ∷ [])
+one_longer false old new sent is more = absurd (cc is)
+
+none_more : (g : Bool) (old new : List ℕ) (sent : Option (List ℕ)) → g ≡ false → MoreGone g old new sent → new ≡ old
+none_more true old new sent is more = absurd (cc is)
+none_more false old new sent is more = more
+
+or_true : (x y : Bool) → (x || y) ≡ true → (x ≡ true) ⊎ (y ≡ true)
+or_true true y is = inl refl
+or_true false y is = inr is
+
+or_false : (x y : Bool) → (x || y) ≡ false → (x ≡ false) × (y ≡ false)
+or_false true y is = absurd (cc is)
+or_false false y is = (refl, is)
+
+gone_rise : (old new : PortState) (slices : List (List ℕ × Sent)) → Steps old new (sends_of slices) → length old.gone ≤ length new.gone
+gone_rise old new [] is = omega (arith, ap (λ (p : PortState). length p.gone) is)
+gone_rise old new (h ∷ more) steps =
+    omega (arith, more_long (is_gone h.1) old.gone steps.0.gone steps.0.sent steps.1.gone, gone_rise steps.0 new more steps.2)
+
+gone_longer : (old new : PortState) (slices : List (List ℕ × Sent)) → Steps old new (sends_of slices) → gone_in slices ≡ true
+    → length old.gone < length new.gone
+gone_longer old new [] steps is = absurd (cc is)
+gone_longer old new (h ∷ more) steps is = elim (or_true (is_gone h.1) (gone_in more) is) [
+  | inl here ↦ omega (arith, one_longer (is_gone h.1) old.gone steps.0.gone steps.0.sent here steps.1.gone, gone_rise steps.0 new more steps.2)
+  | inr later ↦ omega (arith, more_long (is_gone h.1) old.gone steps.0.gone steps.0.sent steps.1.gone, gone_longer steps.0 new more steps.2 later)
+]
+
+gone_same : (old new : PortState) (slices : List (List ℕ × Sent)) → Steps old new (sends_of slices) → gone_in slices ≡ false → new.gone ≡ old.gone
+gone_same old new [] steps is = ap (λ (p : PortState). p.gone) steps
+gone_same old new (h ∷ more) steps is =
+    let parts = or_false (is_gone h.1) (gone_in more) is in
+    gone_same steps.0 new more steps.2 parts.1 ∙ none_more (is_gone h.1) old.gone steps.0.gone steps.0.sent parts.0 steps.1.gone
+
+gone_by : (g b : Bool) (old new : PortState) (slices : List (List ℕ × Sent)) → Steps old new (sends_of slices) → MoreGone g old.gone new.gone new.sent
+    → gone_in slices ≡ b → b ≡ g
+gone_by true true old new slices steps more is = refl
+gone_by false false old new slices steps more is = refl
+gone_by true false old new slices steps more is =
+    absurd (omega (arith, ap length (gone_same old new slices steps is), one_longer true old.gone new.gone new.sent refl more))
+gone_by false true old new slices steps more is = absurd (omega (arith, gone_longer old new slices steps is, ap length more))
+
+pub gone_is : (g : Bool) (old new : PortState) (slices : List (List ℕ × Sent)) → Steps old new (sends_of slices) → MoreGone g old.gone new.gone new.sent
+    → gone_in slices ≡ g
+gone_is g old new slices steps more = gone_by g (gone_in slices) old new slices steps more refl

@@ -31,7 +31,8 @@ loop-place-preserved g c =
       enough = enough_more g.K.Keeper.model.serves ms i c.index-messages-place.result c.as_slice-bytes.result.now list _ c.loop-place-test.true c.index-messages-place.is
           c.as_slice-bytes.ensures c.loop-place.invariant.enough c.in-Ok.ensures.left;
       sent = sent_more g.K.Keeper.model.serves _ _ _
-          ((g.met.P.Port.path).onward c.args.port.now c.loop-place.port c.send_next.new.port) _ _ _ ms i c.index-messages-place.result c.as_slice-bytes.result.now list _ (wires g.K.Keeper.model.serves ms (answers_in c.args.dones.now)) _ _ _
+          ((g.met.P.Port.path).onward c.args.port.now c.loop-place.port c.send_next.new.port) _ _ _
+          (g.met.P.Port.tells c.loop-place.port c.send_next.new.port) ms i c.index-messages-place.result c.as_slice-bytes.result.now list _ (wires g.K.Keeper.model.serves ms (answers_in c.args.dones.now)) _ _ _
           c.loop-place-test.true c.index-messages-place.is c.as_slice-bytes.ensures c.in-Ok.ensures.left c.loop-place.invariant.sent c.in-Ok.ensures.ok;
       few = omega (arith, c.in-Ok.ensures.few, c.loop-place.invariant.few);
     }
