@@ -36,7 +36,7 @@ abbrev pub AnswersFirst : {M : Model} → KeeperState M → KeeperState M → Bo
 AnswersFirst k new confirms events = (before after : List PortEvent) (result : ReceiveResult) (bytes : List ℕ)
     → events ≡ before ++ Received result bytes ∷ after → CaughtUp k new confirms before
 
--- a receive that told an end or a failure was the last call
+-- a receive that reported an end or a failure was the last call
 abbrev pub StopsThere : List PortEvent → Type 0
 StopsThere events = (before after : List PortEvent) (result : ReceiveResult) (bytes : List ℕ)
     → events ≡ before ++ Received result bytes ∷ after → Gave (Received result bytes) ⊎ (after ≡ [])

@@ -64,7 +64,7 @@ pub record IsTranscript {P : Type 0} (became : P → P → List PortEvent → Ty
   pub none : (p : P) → became p p []
   pub onward : (a b c : P) (xs ys : List PortEvent) → became a b xs → became b c ys → became a c (xs ++ ys)
 
--- bytes came, where it is a receive: it told neither an end nor a failure
+-- bytes came, where it is a receive: it reported neither an end nor a failure
 abbrev pub Gave : PortEvent → Type 0
 Gave (Received (Got n) bytes) = Unit {0}
 Gave (Received End bytes) = ⊥

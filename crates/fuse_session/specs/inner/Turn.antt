@@ -27,7 +27,7 @@ pub record Mute (did : Deeds → Type 0) (deeds : Deeds) : Type 0 where
 abbrev pub muted : {M : Model} → Passage M → Passage M
 muted p = record p { did = Mute p.did }
 
--- it received once, and then handed over slices, but none where that told an end or a failure
+-- it received once, and then handed over slices, but none where that reported an end or a failure
 pub record OneTurn (did : Deeds → Type 0) (deeds : Deeds) : Type 0 where
   pub done : did deeds
   pub result : ReceiveResult
