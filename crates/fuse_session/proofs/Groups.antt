@@ -441,6 +441,8 @@ turned M grows groups holds holds' gave performed_so became p q pending mid pend
       few = λ honest t again h.
           few_sent M holds' p.confirms t mid pending' prefix ts all.marks bytes all.handed size
           (few honest t (subst (All (IsUnsettled t)) (sym es) (group_unsettled M.serves p.confirms t ts all.marks again)) h);
+      destroyed = λ over. gathers.ended (and_true ends (last_zero (answers_in list))
+          (ended_so (ends && last_zero (answers_in list)) stuck (sym (ap lasts is) ∙ over))).0;
     }
 
 pub stuck_zero : (ended stuck : Bool) → rest_by ended stuck ≡ ZeroUnique → stuck ≡ true

@@ -140,6 +140,7 @@ turned_did M k new did did' p q ids ids' prefix going counts f t = record {
   replied = t.replied;
   all = t.all;
   few = t.few;
+  destroyed = t.destroyed;
 }
 
 pub whole_did : (M : Model) → (k new : KeeperState M) (did : Deeds → Type 0) (p q : PortState) (confirms : Bool) (before after : Waiting)

@@ -76,6 +76,7 @@ turned_quiet M holds did p q pending deeds done none unasked unhanded replied = 
     counts_are = refl;
   };
   few = λ honest t again h. subst (λ (u : List ℕ). FewHave holds u pending) (sym (append-nil t)) h;
+  destroyed = λ isnt. absurd (cc isnt);
 }
 
 pub turned_none : (M : Model) → (holds : KeeperState M) (did : Deeds → Type 0) (p : PortState) (pending : List ℕ) → did no_deeds
@@ -252,6 +253,14 @@ turned_more M grows holds mid new did did' did'' p q r ids ids' ids'' prefix pre
           let parts = again_both M.serves c q.confirms t a.timed b.timed a.marks b.marks same one.full again in
           subst (λ (u : List ℕ). FewHave new u ids'') (settled_both M.serves c q.confirms t a.timed b.timed a.marks b.marks same one.full)
           (two.few is (t ++ settled_in M.serves c (bytes_of a.timed) a.marks) parts.1 (one.few (honest_too is) t parts.0 h));
+      destroyed = λ over.
+          let l = two.destroyed over in
+          record {
+            earlier = a.timed ++ l.earlier;
+            one = l.one;
+            parts = ap (λ f. a.timed ++ f) l.parts ∙ sym (append_assoc a.timed l.earlier (l.one ∷ []));
+            destroy = l.destroy;
+          };
     }
 
 -- a life after messages that were answered

@@ -100,6 +100,13 @@ pub record EndsLast (M : Model) (s : M.State) (h : History) (timed : List Timed)
   pub parts : timed ≡ earlier ++ one ∷ []
   pub ends : Ends M s (grown h (kept_in M.serves timed)) one
 
+-- the last message is a kept DESTROY
+pub record LastDestroys (V : OpcodeSet) (timed : List Timed) : Type 0 where
+  pub earlier : List Timed
+  pub one : Timed
+  pub parts : timed ≡ earlier ++ one ∷ []
+  pub destroy : destroys V one.bytes ≡ true
+
 -- the next message is zero
 abbrev pub StartsZero : List (List ℕ) → Type 0
 StartsZero [] = ⊥

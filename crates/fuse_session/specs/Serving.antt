@@ -12,7 +12,7 @@ use Rattle.fuse_session.specs.declared.group.Next.TheVariants.{GoesOn, Destroyed
 use Rattle.fuse_session.specs.declared.group.Progress.{Progress}
 use Rattle.fuse_session.specs.Transcript.{handed_in}
 use Rattle.fuse_session.specs.Deeds.{Deeds}
-use Rattle.fuse_session.specs.Processed.{Timed, bytes_of, StartsZero, moments_in}
+use Rattle.fuse_session.specs.Processed.{Timed, bytes_of, StartsZero, LastDestroys, moments_in}
 use Rattle.fuse_session.specs.Settling.{Mark, settled_in, NoneComesAgain, Replied, FewHave, FewRecorded}
 use Rattle.fuse_session.specs.Slices.{RestsOfAll, RestsOfSome}
 use Rattle.fuse_session.specs.Batches.{Batch, AreBatches, AllAnswered, AnsweredButLast, handed_over, left_over, TimedFirst}
@@ -61,6 +61,8 @@ pub record Turned {M : Model} (p : Passage M) (pending pending' : List ℕ) (pre
       → IfNoneComesAgain p.keeper pending (exchange work) (λ at. Answered M at (exchange work) (HoldsAt p.keeper') going counts)
   pub few : p.keeper'.is_honest → (t : List ℕ) → NoneComesAgain M.serves p.port.confirms t (bytes_of work.timed) work.marks
       → FewHave p.keeper t pending → FewHave p.keeper' (settled_with t work) pending'
+  -- whatever came again, only a kept DESTROY ended it
+  pub destroyed : going ≡ false → LastDestroys M.serves work.timed
 
 -- nothing ended the session so far
 abbrev pub lasts : Next → Bool

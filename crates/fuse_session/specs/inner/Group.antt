@@ -13,7 +13,7 @@ use Rattle.fuse_keeper.specs.Group.{entries_of}
 use Rattle.fuse_session.specs.declared.counts.SessionCounts.{SessionCounts}
 use Rattle.fuse_session.specs.declared.group.Next.{Next}
 use Rattle.fuse_session.specs.declared.group.Next.TheVariants.{GoesOn as GoesOnHere, Destroyed, ZeroUnique}
-use Rattle.fuse_session.specs.Processed.{Timed, bytes_of, kept_in, unique_of, destroys, moments_in}
+use Rattle.fuse_session.specs.Processed.{Timed, bytes_of, kept_in, unique_of, destroys, LastDestroys, moments_in}
 use Rattle.fuse_session.specs.Counting.{counted_one, none_counted, plus, is_interrupt}
 
 -- no message is zero, and none is a kept DESTROY, but for the last
@@ -28,13 +28,6 @@ NoDestroy V (t ∷ ts) = (destroys V t.bytes ≡ false) × NoDestroy V ts
 abbrev pub DestroyLast : OpcodeSet → List Timed → Type 0
 DestroyLast V [] = Unit {0}
 DestroyLast V (t ∷ ts) = ((ts ≡ []) ⊎ (destroys V t.bytes ≡ false)) × DestroyLast V ts
-
--- the last message is a kept DESTROY
-pub record LastDestroys (V : OpcodeSet) (timed : List Timed) : Type 0 where
-  pub earlier : List Timed
-  pub one : Timed
-  pub parts : timed ≡ earlier ++ one ∷ []
-  pub destroy : destroys V one.bytes ≡ true
 
 -- requests were read off messages, under moments; a DESTROY may only be the last
 pub record Gathers (V : OpcodeSet) (gave : List Moment → Type 0) (prefix : List (List ℕ)) (taken : List (Request × Moment)) (ends : Bool) : Type 0 where

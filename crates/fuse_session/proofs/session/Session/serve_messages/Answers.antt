@@ -152,3 +152,6 @@ pub returns-in-Err-clause-at_most : goal.returns-in-Err-clause-at_most
 returns-in-Err-clause-at_most g c = λ confirms intact (before : Kept) h.
     let inv = c.loop-at.invariant in
     c.in-Err.ensures.at_most intact before (inv.more confirms (c.in-Err.ensures.honest intact.honest) before h)
+
+pub returns-then-over-clause-firm : goal.returns-then-over-clause-firm
+returns-then-over-clause-firm g c = λ honest firm. c.in-Ok.ensures.firm honest (c.loop-at.invariant.firm (c.in-Ok.ensures.honest honest) firm)
