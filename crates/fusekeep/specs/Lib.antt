@@ -1,1 +1,1 @@
-pub mod NewStore
+pub mod inner
