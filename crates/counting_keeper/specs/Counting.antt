@@ -1,6 +1,5 @@
 -- The counts of a keeper over another one (own profile).
 use Rattle.std.specs.Prelude.{◌≡◌, ℕ, ◌+◌, ◌-◌, ◌<◌, ◌^◌, min, List, length, Result, Ok, Err}
-use Rattle.std.proofs.Common.{arith}
 use Rattle.std.specs.List.{count_by}
 use Rattle.fuse_keeper.specs.declared.fault.StoreFault.{StoreFault}
 use Rattle.fuse_keeper.specs.declared.keeper.Done.{Done}
@@ -52,9 +51,6 @@ with_opening t = record t { openings = up t.openings 1 }
 -- it was opened again so often on the way, where the count has room for it
 abbrev pub Opened : Tally → Tally → ℕ → Type 0
 Opened a b n = a.openings + n < 2 ^ 64 → b.openings ≡ a.openings + n
-
-pub opened_then : (a b c : Tally) (m n : ℕ) → Opened a b m → Opened b c n → Opened a c (m + n)
-opened_then a b c m n before after = λ room. omega (arith, before (omega (arith, room)), after (omega (arith, room, before (omega (arith, room)))))
 
 -- it became so, and its openings are counted
 abbrev pub Became : {K : Type 0} → (K → K → ℕ → Type 0) → CountingKeeper K → CountingKeeper K → ℕ → Type 0

@@ -10,7 +10,8 @@ ghost use Rattle.fuse_keeper.specs.Group.{entries_of, HasId, IsKept, ids_of};
 ghost use Rattle.counting_keeper.specs.Counting.{inner_of, tally_of, log_of, nothing};
 ghost use Rattle.counting_keeper.specs.Logging.{calls_of};
 ghost use Rattle.counting_keeper.specs.Counting.{with_group, with_mount, with_fault, with_opening};
-ghost use Rattle.counting_keeper.specs.Counting.{LooksCounted, opened_then};
+ghost use Rattle.counting_keeper.specs.Counting.{LooksCounted};
+ghost use Rattle.counting_keeper.specs.inner.Laws.{opened_then};
 
 use crate::log::Log;
 use crate::tally::Tally;
@@ -74,7 +75,7 @@ impl<K: Keeper> Keeper for CountingKeeper<K> {
     ghost use Rattle.fuse_keeper.specs.declared.keeper.TheConstants.{MAX_GROUP as max_group};
     ghost use Rattle.fuse_keeper.specs.declared.keeper.TheConstants.{MAX_SETTLED as max_settled};
     ghost use Rattle.counting_keeper.specs.Counting.{Became, Asked};
-    ghost use Rattle.counting_keeper.specs.Logging.{logged_none, logged_onward};
+    ghost use Rattle.counting_keeper.specs.inner.Laws.{logged_none, logged_onward};
 
     ghost model = { K.model };
 

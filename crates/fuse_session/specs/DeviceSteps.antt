@@ -7,8 +7,8 @@ use Rattle.fuse_session.specs.declared.port.Sent.{Sent}
 use Rattle.fuse_session.specs.Device.{read_told, write_told}
 use Rattle.fuse_session.specs.DevicePort.{device_told, counted_gone}
 use Rattle.fuse_session.specs.Port.{Receives, Sends}
-use Rattle.fuse_session.specs.Stepping.{Chain, chain_path, chain_tells}
-use Rattle.fuse_session.specs.Transcript.{PortEvent, Received, Handed, bytes_got, Step, IsTranscript, Tells}
+use Rattle.fuse_session.specs.Stepping.{Chain}
+use Rattle.fuse_session.specs.Transcript.{PortEvent, Received, Handed, bytes_got}
 
 -- a receive: the reader was read once, and the writer left alone
 pub record DeviceGives {R W : Type 0} (was_read : R → R → Result ℕ Error → List ℕ → Type 0) (a b : DevicePort R W) (result : Receipt)
@@ -40,18 +40,3 @@ DeviceStep was_read was_written a b (Handed slice result) = DeviceTakes was_writ
 abbrev pub DeviceSteps : {R W : Type 0} → (R → R → Result ℕ Error → List ℕ → Type 0) → (W → W → Result ℕ Error → List ℕ → Type 0)
     → DevicePort R W → DevicePort R W → List PortEvent → Type 0
 DeviceSteps was_read was_written a b events = Chain (DeviceStep was_read was_written) a b events
-
--- ---- the laws
-
-pub device_path : {R W : Type 0} (was_read : R → R → Result ℕ Error → List ℕ → Type 0) (was_written : W → W → Result ℕ Error → List ℕ → Type 0)
-    → IsTranscript (λ (a b : DevicePort R W) events. DeviceSteps was_read was_written a b events)
-device_path was_read was_written = chain_path (DeviceStep was_read was_written)
-
-device_step : {R W : Type 0} (was_read : R → R → Result ℕ Error → List ℕ → Type 0) (was_written : W → W → Result ℕ Error → List ℕ → Type 0)
-    (a b : DevicePort R W) (e : PortEvent) → DeviceStep was_read was_written a b e → Step (device_told a) (device_told b) e
-device_step was_read was_written a b (Received result bytes) one = record { buffer = one.buffer; came = one.came; receives = one.receives }
-device_step was_read was_written a b (Handed slice result) one = one.sends
-
-pub device_tells : {R W : Type 0} (was_read : R → R → Result ℕ Error → List ℕ → Type 0) (was_written : W → W → Result ℕ Error → List ℕ → Type 0)
-    → Tells device_told (λ (a b : DevicePort R W) events. DeviceSteps was_read was_written a b events)
-device_tells was_read was_written = chain_tells device_told (DeviceStep was_read was_written) (device_step was_read was_written)

@@ -7,3 +7,5 @@ pub mod Sending
 pub mod Receiving
 pub mod Loans
 pub mod Turn
+pub mod Logged
+pub mod Stepping

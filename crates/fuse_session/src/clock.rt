@@ -25,7 +25,7 @@ pub struct Fixed(pub Moment);
 
 impl Clock for Fixed {
     ghost use Rattle.fuse_session.specs.Clock.{GaveFixed};
-    ghost use Rattle.fuse_session.specs.Logged.{fixed_logged};
+    ghost use Rattle.fuse_session.specs.inner.Logged.{fixed_logged};
 
     ghost gave = { GaveFixed };
 
@@ -58,7 +58,7 @@ impl<T: rt::Clock + Drop> System<T> {
 
 impl<T: rt::Clock + Drop> Clock for System<T> {
     ghost use Rattle.fuse_session.specs.Clock.{GaveSystem};
-    ghost use Rattle.fuse_session.specs.Logged.{system_logged};
+    ghost use Rattle.fuse_session.specs.inner.Logged.{system_logged};
 
     // Any moment, of which it keeps the last.
     ghost gave = { GaveSystem };

@@ -124,7 +124,8 @@ impl<R: Source, W: Sink> Port for DevicePort<R, W> {
     ghost use Rattle.fuse_session.specs.Calls.{WasRead, WasWritten};
     ghost use Rattle.fuse_session.specs.Port.{IsYoung, Receives, Sends};
     ghost use Rattle.fuse_request.specs.declared.header.TheConstants.{MAX_MESSAGE as max_message};
-    ghost use Rattle.fuse_session.specs.DeviceSteps.{DeviceSteps, device_path, device_tells};
+    ghost use Rattle.fuse_session.specs.DeviceSteps.{DeviceSteps};
+    ghost use Rattle.fuse_session.specs.inner.Stepping.{device_path, device_tells};
     ghost use Rattle.fuse_session.specs.Transcript.{one_receive, one_send};
 
     ghost told = { device_told };

@@ -125,7 +125,8 @@ impl Port for MemoryPort {
     ghost use Rattle.fuse_session.specs.Memory.{bytes_left};
     ghost use Rattle.fuse_session.specs.Memory.{first_arrival, first_outcome, received_by, Answers};
     ghost use Rattle.fuse_session.specs.Port.{IsYoung, Receives, Sends};
-    ghost use Rattle.fuse_session.specs.Stepping.{Stepped, stepped_path};
+    ghost use Rattle.fuse_session.specs.Stepping.{Stepped};
+    ghost use Rattle.fuse_session.specs.inner.Stepping.{stepped_path};
     ghost use Rattle.fuse_session.specs.Transcript.{one_receive, one_send};
 
     ghost told = { memory_told };

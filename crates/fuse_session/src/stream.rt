@@ -49,7 +49,8 @@ impl<R: Source, W: Sink> StreamPort<R, W> {
 
 impl<R: Source, W: Sink> Port for StreamPort<R, W> {
     ghost use Rattle.fuse_session.specs.Stream.{stream_told};
-    ghost use Rattle.fuse_session.specs.Stepping.{Stepped, stepped_path};
+    ghost use Rattle.fuse_session.specs.Stepping.{Stepped};
+    ghost use Rattle.fuse_session.specs.inner.Stepping.{stepped_path};
     ghost use Rattle.fuse_session.specs.Transcript.{one_receive, one_send};
     ghost use Rattle.fuse_session.specs.Calls.{WasRead, WasSent, stream_read};
     ghost use Rattle.fuse_session.specs.Port.{IsYoung, Receives, Sends};

@@ -4,7 +4,7 @@ use Rattle.std.proofs.Common.{sym, ap, subst, ◌∙◌}
 use Rattle.std.proofs.lemmas.List.{append_assoc, append-nil}
 use Rattle.std.proofs.lemmas.Grind.{flat_map-append}
 use Rattle.fuse_request.specs.Stream.{joined}
-use Rattle.fuse_session.specs.Stepping.{steps_more}
+use Rattle.fuse_session.specs.inner.Stepping.{steps_more}
 use Rattle.fuse_session.specs.Transcript.{PortEvent, IsTranscript, Tells}
 use Rattle.lossy_port.specs.declared.line.Line.{Line}
 use Rattle.lossy_port.specs.Losing.{through_of, lost_then, through, lost_after, Delivers}
