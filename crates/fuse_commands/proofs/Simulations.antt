@@ -32,7 +32,7 @@ use Rattle.fuse_commands.specs.Scripts.{lines_of, WritesAll}
 use Rattle.fuse_commands.specs.Output.{line, store_line}
 use Rattle.fuse_commands.specs.Simulating.{outcome_line, outcome_lines, state_after, StandsAfter, BeginSo, AnsweredFault, StoreEnded, AreOfFirst}
 use Rattle.fuse_commands.specs.Simulating.{LeftBySome, LeftByScript, StoppedIn, Shown, SimulatedAll, Simulated}
-use Rattle.fuse_commands.specs.inner.Simulating.{Went, RanScript, SimulatedFrom}
+use Rattle.fuse_commands.specs.inner.Simulating.{Went, RanScript}
 use Rattle.fuse_commands.proofs.Known.{consumes_then}
 
 -- ---- the input
@@ -355,12 +355,3 @@ simulated k keeper keeper' (Some script) simulation old new ran printed = λ sma
       count = length-map simulation.outcomes.items bytes_given ∙ ran.count;
       begin = ran.begin;
     }
-
--- ---- from a start
-
--- Simulated implies SimulatedFrom for a keeper that stands for the start and whose storage returned what was written
-pub from_start : {M : Model} {K : Type 0} (k : Seen M K) (old new : Option K) (prints : List ℕ → Type 0) (script : List ℕ) (s : M.State)
-    (ending : Ending) → (told_in k.told new).is_honest → StandsIn k.told old s [] [] → Simulated k old new prints script ending
-    → SimulatedFrom M s prints script ending
-from_start k old new prints script s Done honest stands so = (so.events, so.described, λ none. (so.shown honest s stands none).printed)
-from_start k old new prints script s ending honest stands so = so.0

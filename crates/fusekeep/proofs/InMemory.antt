@@ -8,8 +8,7 @@ use Rattle.fuse_sim.specs.Twice.{Seen}
 use Rattle.fuse_commands.specs.declared.ending.Ending.{Ending}
 use Rattle.fuse_commands.specs.Endings.{status_of}
 use Rattle.fuse_commands.specs.Simulating.{Simulated}
-use Rattle.fuse_commands.specs.inner.Simulating.{SimulatedFrom}
-use Rattle.fuse_commands.proofs.Simulations.{from_start}
+use Rattle.fuse_commands.specs.inner.Simulating.{SimulatedFrom, from_start}
 
 good : {M : Model} {K : Type 0} (told : K → KeeperState M) → ((k : K) → (told k).is_honest) → (keeper : Option K)
     → IsSomeAnd keeper (λ k. (told k).has_failed ≡ false) → (told_in told keeper).is_honest

@@ -18,8 +18,7 @@ use Rattle.fuse_commands.specs.declared.ending.Ending.{Ending}
 use Rattle.fuse_commands.specs.declared.ending.Ending.TheVariants.{Done, ScriptLine}
 use Rattle.fuse_commands.specs.Endings.{status_of, store_ending}
 use Rattle.fuse_commands.specs.Simulating.{simulation_text, StoreEnded, StoppedIn, Simulated}
-use Rattle.fuse_commands.specs.inner.Simulating.{SimulatedFrom}
-use Rattle.fuse_commands.proofs.Simulations.{from_start}
+use Rattle.fuse_commands.specs.inner.Simulating.{SimulatedFrom, from_start}
 use Rattle.spec_tests.specs.InLists.{start, tree_text, Reuses, SimulatedAnew}
 
 abbrev Lists : Type 0

@@ -10,7 +10,7 @@ use Rattle.fuse_commands.specs.declared.ending.Ending.{Ending}
 use Rattle.fuse_commands.specs.declared.ending.Ending.TheVariants.{Done}
 use Rattle.fuse_commands.specs.declared.simulate.Simulation.{Simulation}
 use Rattle.fuse_commands.specs.Scripts.{lines_of, WritesAll}
-use Rattle.fuse_commands.specs.Simulating.{state_after, outcomes_of, StandsAfter, BeginSo, simulation_text, NotRun}
+use Rattle.fuse_commands.specs.Simulating.{state_after, outcomes_of, StandsAfter, BeginSo, simulation_text, NotRun, Simulated}
 
 -- events from a start had these outcomes and counts, and the keeper stands for them and is as firm as before
 pub record Went {M : Model} {K : Type 0} (told : K → KeeperState M) (old new : Option K) (s : M.State) (events : List Event) (simulation : Simulation)
@@ -37,3 +37,10 @@ abbrev pub SimulatedFrom : (M : Model) → M.State → (List ℕ → Type 0) →
 SimulatedFrom M s prints script Done =
     (events : List Event) × WritesAll (lines_of script) events × (NoneReused M.serves [] events → prints (simulation_text M s events))
 SimulatedFrom M s prints script ending = NotRun script ending
+
+-- Simulated implies SimulatedFrom for a keeper that stands for the start and whose storage returned what was written
+pub from_start : {M : Model} {K : Type 0} (k : Seen M K) (old new : Option K) (prints : List ℕ → Type 0) (script : List ℕ) (s : M.State)
+    (ending : Ending) → (told_in k.told new).is_honest → StandsIn k.told old s [] [] → Simulated k old new prints script ending
+    → SimulatedFrom M s prints script ending
+from_start k old new prints script s Done honest stands so = (so.events, so.described, λ none. (so.shown honest s stands none).printed)
+from_start k old new prints script s ending honest stands so = so.0
