@@ -1,0 +1,69 @@
+use Rattle.std.proofs.Common.{◌≡◌, IsTrue, ap, subst, ◌∙◌, arith}
+use Rattle.sqlite_wal.specs.Recovery.{Image}
+use Rattle.sqlite_wal.specs.Files.{outcomes}
+use Rattle.sqlite_wal.specs.Reads.{AreClean}
+use Rattle.sqlite_wal.proofs.StateLemmas.{open_from}
+use Rattle.sqlite_pool.proofs.StateLemmas.{clean_if_left, clean_is, may_leave_is}
+use Rattle.sqlite_trees.specs.View.{View, IsClean}
+use Rattle.sqlite_trees.proofs.Doubt.{clean_of as sure, no_doubt}
+use Rattle.sqlite_store.specs.FileStore.{state, view}
+use Rattle.sqlite.specs.Closing.{HoldsAlone}
+use Rattle.sqlite.proofs.Theorems.{copied}
+use Rattle.fuse_store_files.proofs.Finding.{holds_some}
+use Rattle.fuse_store_files.proofs.closing.close_connection.Goals as goal
+
+pub returns-in-Ok-clause-ended : goal.returns-in-Ok-clause-ended
+returns-in-Ok-clause-ended g c =
+    let store = c.into_store-store.result in
+    record {
+      ended = store;
+      leaves = λ left may.
+          let clean : IsClean (view store) = no_doubt _ (clean_if_left store.pool left may) in
+          let h = holds_some store left may (c.into_store-store.ensures.numbered clean) (c.into_store-store.ensures.sound clean) in
+          record { trees = h.trees; held = h.held; so = c.into_store-store.ensures.quiet.outcomes h.trees h.so };
+    }
+
+pub returns-in-Err-clause-ended : goal.returns-in-Err-clause-ended
+returns-in-Err-clause-ended g c =
+    let store = c.into_store-store.result in
+    record {
+      ended = store;
+      leaves = λ left may.
+          let clean : IsClean (view store) = no_doubt _ (clean_if_left store.pool left may) in
+          let h = holds_some store left may (c.into_store-store.ensures.numbered clean) (c.into_store-store.ensures.sound clean) in
+          record { trees = h.trees; held = h.held; so = c.into_store-store.ensures.quiet.outcomes h.trees h.so };
+    }
+
+pub returns-in-Err-clause-unclosed : goal.returns-in-Err-clause-unclosed
+returns-in-Err-clause-unclosed g c = λ db may.
+    c.into_store-store.ensures.quiet.outcomes db (c.rollback.ensures.quiet.outcomes db (c.checkpoint.ensures.quiet.outcomes db may))
+
+pub returns-in-Ok-clause-closed : goal.returns-in-Ok-clause-closed
+returns-in-Ok-clause-closed g c = λ honest.
+    let back = c.into_store-store.result in
+    let before = c.rollback.new.self in
+    let last = c.checkpoint.new.self in
+    let q = c.checkpoint.ensures.quiet in
+    let stays = g.met.D.Disk.seen_may_stay in
+    let sure_now = subst (λ p. AreClean g.D.Disk p.0 p.1) c.close.ensures honest in
+    let none : IsClean (view last) = no_doubt _ (clean_is last.pool ∙ sure_now) in
+    let clean : IsClean (view before) = omega (arith, q.clean) in
+    let early : IsClean (view back) = omega (arith, c.rollback.ensures.quiet.clean) in
+    let h = open_from (state before) c.in-Ok.ensures.ready (sure (view before).is_clean clean) in
+    let second = c.rollback.ensures.undone.kept clean in
+    let first = c.into_store-store.ensures.undone.kept early in
+    let on = c.in-Ok.ensures.open none in
+    let same = c.checkpoint.ensures.same on in
+    let numbered : IsTrue (view last).is_numbered = ap (λ (v : View). v.is_numbered) same ∙ second.numbered ∙ c.into_store-store.ensures.numbered early in
+    let committed : (view last).committed ≡ (view c.args.conn.store).committed = ap (λ (v : View). v.committed) same ∙ second.committed h ∙ first.committed (second.was_open h) in
+    let each = λ (image : Image) (may : outcomes g.D.Disk c.close.result.log c.close.result.db image).
+    subst (HoldsAlone image) committed (copied last stays on numbered
+    (λ db found. c.into_store-store.ensures.sound early db (c.rollback.ensures.quiet.outcomes db (q.outcomes db found)))
+    (c.in-Ok.ensures.moved (c.rollback.ensures.logged (second.was_open h))) image
+    (may_leave_is last.pool image sure_now (subst (λ p. outcomes g.D.Disk p.0 p.1 image) c.close.ensures may))) in
+    record {
+      was_clean = omega (arith, c.into_store-store.ensures.quiet.clean);
+      was_open = first.was_open (second.was_open h);
+      seen = each _ (stays _, stays _);
+      left = each;
+    }

@@ -1,0 +1,2 @@
+-- What the code does on its way: no public contract cites it (own profile).
+pub mod Connections
