@@ -72,7 +72,8 @@ def main():
         made += kill(supervisor, last)
 
 
-try:
-    main()
-except FileNotFoundError:
-    sys.exit("killer: the supervisor has ended")
+if __name__ == "__main__":
+    try:
+        main()
+    except FileNotFoundError:
+        sys.exit("killer: the supervisor has ended")

@@ -1,0 +1,1 @@
+"""Processes that work on a mount, and kill its servers."""

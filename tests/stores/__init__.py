@@ -1,0 +1,1 @@
+"""Stores that SQLite made or changed."""

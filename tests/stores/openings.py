@@ -1,0 +1,204 @@
+"""Openings of stores that the `sqlite3` of Python made or changed: those that must be refused and leave every row as it was, and those
+that must succeed. Each is tried as a closed file, and as a file whose last changes lie in its log."""
+import os
+import shutil
+import sqlite3
+import sys
+import tempfile
+from dataclasses import dataclass
+from pathlib import Path
+
+from lib import messages as m
+from lib import program
+from lib.counts import print_counts
+from lib.folders import quick_folder
+
+HERE = Path(__file__).resolve().parent
+SECONDS = 60
+BLOCK = 4096
+
+# The commands that open a store. `ls` and `store` read it, and `--resume` continues a mount.
+OPENINGS = (["replay", "--db", "STORE", "--at", "2000", "/dev/null"], ["serve", "--db", "STORE", "--fresh", "--at", "2000"],
+            ["serve", "--db", "STORE", "--resume", "--at", "2000"], ["store", "STORE"], ["ls", "STORE"])
+
+
+@dataclass
+class Case:
+    """A database: the text that makes it, the statements that change it, and the line that refuses it; an empty line opens it."""
+    name: str
+    text: str
+    changes: tuple
+    refused: str
+    openings: tuple = OPENINGS
+
+
+def of_version(number):
+    return (HERE / f"version-{number}.sql").read_text(encoding="utf-8")
+
+
+STRANGE = """CREATE TABLE notes (id INTEGER PRIMARY KEY, note TEXT); CREATE INDEX by_note ON notes (note);
+    CREATE VIEW long_notes AS SELECT * FROM notes WHERE length(note) > 3;
+    INSERT INTO notes VALUES (1, 'here'), (2, 'there'); PRAGMA user_version = 7"""
+# A store of a later version may have any tables beside `meta`.
+NEWER = ("UPDATE meta SET v = 3 WHERE k = 1", "ALTER TABLE kept ADD COLUMN at INTEGER NOT NULL DEFAULT 0",
+         "CREATE TABLE links (node INTEGER PRIMARY KEY, target BLOB NOT NULL) STRICT", "INSERT INTO links VALUES (7, x'612f62')",
+         "INSERT INTO lots VALUES (1)", "INSERT INTO kept VALUES (2, 1, 0, x'00', 5)")
+FULL = ("INSERT INTO lots VALUES (1)", "INSERT INTO kept VALUES (2, 1, 2, x''), (4, 1, 17, x'')", "UPDATE meta SET v = 2 WHERE k = 11")
+
+
+def refusals():
+    second, first = of_version(2), of_version(1)
+    yield Case("a stranger's database", STRANGE, ("UPDATE notes SET note = 'elsewhere' WHERE id = 2",), "store: NotAStore")
+    yield Case("a newer store", second, NEWER, "store: Version(3)")
+    yield Case("version 0", second, (*FULL, "UPDATE meta SET v = 0 WHERE k = 1"), "store: Version(0)")
+    yield Case("no version", second, (*FULL, "DELETE FROM meta WHERE k = 1"), "store: NotAStore")
+    yield Case("no version and a table less", second, ("DROP TABLE kept", "DELETE FROM meta WHERE k = 1"), "store: NotAStore")
+    yield Case("a newer store with a table less", second, ("DROP TABLE kept", "UPDATE meta SET v = 3 WHERE k = 1"), "store: Version(3)")
+    yield Case("an empty meta", second, (*FULL, "DELETE FROM meta"), "store: NotAStore")
+    for key in range(2, 12):
+        yield Case(f"no row {key} of meta", second, (*FULL, f"DELETE FROM meta WHERE k = {key}"), "store: Damaged")
+    yield Case("a minor of 33 bits", second, (*FULL, "UPDATE meta SET v = 4294967296 WHERE k = 8"), "store: Damaged")
+    yield Case("a table less", second, ("DROP TABLE kept",), "store: Damaged")
+    yield Case("version 1 without its version", first, ("DELETE FROM meta WHERE k = 1",), "store: NotAStore")
+    yield Case("version 1 with a table less", first, ("DROP TABLE blocks",), "store: Damaged")
+    for key in range(2, 11):
+        yield Case(f"version 1 without row {key} of meta", first, (f"DELETE FROM meta WHERE k = {key}",), "store: Damaged")
+
+
+# ---- databases
+
+
+def make(case, path, in_log):
+    """Makes the database. Where its changes lie in the log, its files are copied before SQLite closes them."""
+    made = f"{path}.made"
+    database = sqlite3.connect(made, isolation_level=None)
+    database.executescript(case.text)
+    if in_log:
+        database.execute("PRAGMA journal_mode = WAL")
+        database.execute("PRAGMA wal_autocheckpoint = 0")
+    database.execute("BEGIN")
+    for change in case.changes:
+        database.execute(change)
+    database.execute("COMMIT")
+    if not in_log:
+        database.close()
+    for end in ("", "-wal"):
+        if os.path.exists(made + end):
+            shutil.copy(made + end, path + end)
+    database.close()
+
+
+def content_of(path):
+    """All that SQLite reads from a copy of the files: the schema, the rows of every table, and the numbers of the header."""
+    with tempfile.TemporaryDirectory(dir=quick_folder()) as room:
+        for end in ("", "-wal"):
+            if os.path.exists(path + end):
+                shutil.copy(path + end, f"{room}/copy{end}")
+        database = sqlite3.connect(f"{room}/copy")
+        schema = database.execute("SELECT type, name, tbl_name, sql FROM sqlite_master ORDER BY name").fetchall()
+        tables = [name for kind, name, _, _ in schema if kind == "table"]
+        rows = {name: database.execute(f'SELECT * FROM "{name}"').fetchall() for name in tables}
+        header = [database.execute(f"PRAGMA {name}").fetchone() for name in ("user_version", "application_id", "integrity_check")]
+        database.close()
+        return schema, rows, header
+
+
+class Tally:
+    def __init__(self):
+        self.passed = self.failed = 0
+
+    def compare(self, what, wanted, found):
+        if wanted == found:
+            self.passed += 1
+        else:
+            self.failed += 1
+            print(f"stores: {what}: FAILED\n  wanted {str(wanted)[:600]}\n  found  {str(found)[:600]}", flush=True)
+
+
+def run(path, words, given=b""):
+    ran = program.run([path if word == "STORE" else word for word in words], given, SECONDS)
+    lines = [line for line in ran.err.decode(errors="replace").splitlines() if not line.startswith("served ")]
+    return ran, [ran.status, *lines]
+
+
+def try_refusal(tally, case, room):
+    """Each command ends with status 3 and the line, and SQLite reads the same as before; then it may write, as nothing is locked."""
+    for number, words in enumerate(case.openings):
+        for in_log in (False, True):
+            path = f"{room}/{number}{in_log}"
+            what = f"{case.name}{', in its log' if in_log else ''}, {' '.join(words[:1] + words[3:4])}"
+            make(case, path, in_log)
+            before = content_of(path)
+            ran, ended = run(path, words)
+            tally.compare(f"{what}: how it ends", [3, case.refused], ended)
+            tally.compare(f"{what}: its output", b"", ran.out)
+            tally.compare(f"{what}: its content", before, content_of(path))
+
+
+# ---- stores that open
+
+
+def store_with(room, name, *changes, version=2):
+    """A store with an INIT, a directory `a` and a file `f` of 5,000 bytes, made by the program, and then changed."""
+    path = f"{room}/{name}"
+    given = [m.message(m.INIT, 2, 0, m.init_body(), owner=(0, 0)), m.message(m.MKDIR, 4, 1, m.mkdir_body(b"a")),
+             m.message(m.MKNOD, 6, 1, m.mknod_body(b"f")), m.message(m.OPEN, 8, 3, m.open_body(2)),
+             m.message(m.WRITE, 10, 3, m.write_body(1, 0, b"x" * 5000))]
+    _, ended = run(path, ["replay", "--db", "STORE", "--at", "1000", "-"], b"".join(given))
+    if ended != [0]:
+        sys.exit(f"stores: the store can't be made: {ended}")
+    database = sqlite3.connect(path, isolation_level=None)
+    for change in changes:
+        database.execute(change)
+    database.close()
+    return path
+
+
+def answers(path, *parts):
+    """The answers to requests on an open store, each its error and its body."""
+    given = b"".join(m.message(opcode, 100 + 2 * at, node, body) for at, (opcode, node, body) in enumerate(parts))
+    ran, ended = run(path, ["replay", "--db", "STORE", "--at", "1000", "-"], given)
+    lines = [bytes.fromhex(line) for line in ran.out.decode().splitlines() if not line.startswith("served ")]
+    return ended, [(-int.from_bytes(line[4:8], "little", signed=True), line[16:]) for line in lines]
+
+
+# Tables, an index, a view and a trigger of others, beside ours.
+BESIDE = ("CREATE TABLE notes (node INTEGER PRIMARY KEY, note TEXT)", "CREATE INDEX by_note ON notes (note)",
+          "INSERT INTO notes VALUES (1, 'the root'), (3, 'a file')", "CREATE TABLE \"my kept\" (id INTEGER, answer BLOB)",
+          "INSERT INTO \"my kept\" VALUES (4, x'00ff')", "CREATE VIEW noted AS SELECT note FROM notes",
+          "CREATE TRIGGER counts AFTER INSERT ON notes BEGIN UPDATE notes SET note = note || '!'; END")
+
+
+def theirs_in(path):
+    """What SQLite reads of the others' parts."""
+    schema, rows, header = content_of(path)
+    names = ("notes", "by_note", "my kept", "noted", "counts")
+    return [row for row in schema if row[1] in names], {name: rows.get(name) for name in ("notes", "my kept")}, header
+
+
+def try_beside(tally, room):
+    """A store with others' tables beside ours answers as one without them, and they stay."""
+    plain, path = store_with(room, "plain"), store_with(room, "beside", *BESIDE)
+    theirs = theirs_in(path)
+    asked = ((m.LOOKUP, 1, b"a\0"), (m.MKNOD, 1, m.mknod_body(b"g")), (m.READ, 3, m.read_body(1, 0, 9000)), (m.UNLINK, 1, b"f\0"))
+    tally.compare("others' tables beside ours: the answers", answers(plain, *asked), answers(path, *asked))
+    tally.compare("others' tables beside ours: they stay", theirs, theirs_in(path))
+    for words in OPENINGS:
+        tally.compare(f"others' tables beside ours: {' '.join(words[:1] + words[3:4])}", [0], run(path, words)[1])
+        tally.compare("others' tables beside ours: they stay", theirs, theirs_in(path))
+
+
+def main():
+    tally = Tally()
+    with tempfile.TemporaryDirectory(dir=quick_folder()) as folder:
+        for number, case in enumerate(refusals()):
+            room = f"{folder}/{number}"
+            os.mkdir(room)
+            try_refusal(tally, case, room)
+        os.mkdir(f"{folder}/opened")
+        try_beside(tally, f"{folder}/opened")
+    return print_counts("stores openings", tally.passed, tally.failed)
+
+
+if __name__ == "__main__":
+    sys.exit(main())
