@@ -3,23 +3,21 @@ use Rattle.std.proofs.Common.{◌≡◌, ◌⊎◌, inl, inr, ℕ, Bool, true, f
 use Rattle.std.proofs.Common.{arith}
 use Rattle.std.proofs.lemmas.List.{map-append}
 use Rattle.std.proofs.lemmas.List.Concat.{flat_map-append}
-use Rattle.std.specs.Io.KnownBytes.{Consumes}
 use Rattle.fuse_wire.specs.declared.moment.Moment.{Moment}
 use Rattle.fuse_request.specs.Opcodes.{OpcodeSet}
 use Rattle.fuse_request.specs.declared.class.Class.{Class}
 use Rattle.fuse_request.specs.declared.class.Class.TheVariants.{Silent, Bare, Kept}
 use Rattle.fuse_request.specs.Classes.{class_for}
-use Rattle.fuse_request.specs.Stream.{cut, joined}
+use Rattle.fuse_request.specs.Stream.{joined}
 use Rattle.fuse_keeper.specs.Model.{Model}
 use Rattle.fuse_keeper.specs.History.{Entry, entry_id, History, has, Distinct, add, said, grown, HistoriesGrow}
 use Rattle.fuse_keeper.specs.Stands.{Standing, StandsAt}
-use Rattle.fuse_session.specs.Deeds.{Deeds, Hears}
 use Rattle.fuse_session.specs.Batches.{TimedFirst}
 use Rattle.fuse_session.specs.Passage.{Passage}
 use Rattle.fuse_session.specs.declared.ended.Ended.{Ended}
 use Rattle.fuse_session.specs.Exchange.{Lived, HoldsAt}
-use Rattle.fuse_session.specs.Serving.{Run, nothing_waits}
-use Rattle.fuse_session.specs.Settling.{Mark, replies, settled_in, Replied}
+use Rattle.fuse_session.specs.Serving.{Run, nothing_waits, exchange}
+use Rattle.fuse_session.specs.Settling.{replies, settled_in}
 use Rattle.fuse_session.specs.Processed.{Timed, bytes_of, kept_in, entries_at, entry_if, timed_entry, message_id, unique_of, answered, answers, answer_by, out}
 use Rattle.fuse_session.specs.Processed.{moment_if, moments_in}
 use Rattle.fuse_sim.specs.Lives.{Lifetime, AreLives, after_lives, all_processed, AllSend, RanAsLife, IsLived}
@@ -155,47 +153,42 @@ timed_prefix V given xs ys timed = (
   timed.1 ∙ ap (λ (r : List Moment). r ++ timed.0) (moments-append V xs ys) ∙ append_assoc (moments_in V xs) (moments_in V ys) timed.0,
 )
 
-pub run_lived : (M : Model) (Stood : Standing M → Type 0) (p : Passage M) (s : M.State) (h : History) (t : List ℕ)
-    (received : List ℕ) (timed : List Timed) (others : List (List ℕ)) (marks : List Mark) (part : List ℕ) (deeds : Deeds)
-    → Consumes p.port.coming p.port'.coming received → (cut received).0 ≡ bytes_of timed ++ others → Hears p.did received deeds
-    → TimedFirst M.serves deeds.moments timed → Replied p.port p.port' marks part
-    → Lived M (record { state = s; history = h; settled = t }) (record { confirms = p.port.confirms; timed = timed; marks = marks }) Stood part
-    → RanAsLife p (record { state = s; history = h; settled = t }) Stood
-run_lived M Stood p s h t received timed others marks part deeds came prefix done moments replied l =
-    let sent = joined (replies marks) ++ part in
-    let parts : bytes_of timed ++ others ≡ bytes_of l.worked ++ (bytes_of l.unprocessed ++ others) =
-    ap (λ (x : List Timed). bytes_of x ++ others) l.parts ∙ ap (λ (x : List (List ℕ)). x ++ others) (map-append (λ (x : Timed). x.bytes) l.worked l.unprocessed)
-    ∙ append_assoc (bytes_of l.worked) (bytes_of l.unprocessed) others in
+pub run_lived : (M : Model) (Stood : Standing M → Type 0) (p : Passage M) (ended : Ended) (run : Run p nothing_waits ended) (s : M.State) (h : History) (t : List ℕ)
+    → Lived M (record { state = s; history = h; settled = t }) (exchange run.broken.work) Stood run.broken.part
+    → RanAsLife run (record { state = s; history = h; settled = t }) Stood
+run_lived M Stood p ended run s h t l =
+    let b = run.broken in
+    let w = b.work in
+    let marks = w.marks in
+    let sent = joined (replies marks) ++ b.part in
+    let parts : bytes_of w.timed ++ b.others ≡ bytes_of l.worked ++ (bytes_of l.unprocessed ++ b.others) =
+    ap (λ (x : List Timed). bytes_of x ++ b.others) l.parts ∙ ap (λ (x : List (List ℕ)). x ++ b.others) (map-append (λ (x : Timed). x.bytes) l.worked l.unprocessed)
+    ∙ append_assoc (bytes_of l.worked) (bytes_of l.unprocessed) b.others in
     let split : out M s h l.worked ≡ joined (replies marks) ++ joined l.later =
     ap joined l.sent ∙ flat_map-append (λ (m : List ℕ). m) (replies marks) l.later in
     let begun : joined (replies marks) ++ joined l.later ≡ sent ++ l.unsent =
-    ap (λ (x : List ℕ). joined (replies marks) ++ x) l.begun ∙ sym (append_assoc (joined (replies marks)) part l.unsent) in
+    ap (λ (x : List ℕ). joined (replies marks) ++ x) l.begun ∙ sym (append_assoc (joined (replies marks)) b.part l.unsent) in
     record {
-      life = record { received = received; sent = sent; worked = l.worked; settled = settled_in M.serves p.port.confirms (bytes_of l.worked) marks };
-      lived = record { others = bytes_of l.unprocessed ++ others; prefix = prefix ∙ parts; works = l.works; unsent = l.unsent; sends = split ∙ begun };
-      came = came;
-      marks = marks;
-      part = part;
-      replied = replied;
+      life = record { received = run.received; sent = sent; worked = l.worked; settled = settled_in M.serves p.port.confirms (bytes_of l.worked) marks };
+      lived = record { others = bytes_of l.unprocessed ++ b.others; prefix = b.prefix ∙ parts; works = l.works; unsent = l.unsent; sends = split ∙ begun };
+      received = refl;
+      unprocessed = l.unprocessed;
+      parts = l.parts;
+      moments = timed_prefix M.serves w.deeds.moments l.worked l.unprocessed (subst (TimedFirst M.serves w.deeds.moments) l.parts b.moments);
       sent = refl;
+      slices = b.slices;
       settled_are = refl;
-      deeds = deeds;
-      done = done;
-      moments = timed_prefix M.serves deeds.moments l.worked l.unprocessed (subst (TimedFirst M.serves deeds.moments) l.parts moments);
       stands = l.stands;
     }
 
 pub run_is_lived : (M : Model) (p : Passage M) (ended : Ended) (run : Run p nothing_waits ended) → IsLived p ended run
 run_is_lived M p ended run =
     let b = run.broken in
-    let w = b.work in
     record {
-      ends = λ intact s h t stands within none. run_lived M (HoldsAt p.keeper') p s h t run.received w.timed b.others w.marks b.part w.deeds run.came b.prefix
-          w.done b.moments b.replied (b.life intact s h t stands within none);
+      ends = λ intact s h t stands within none. run_lived M (HoldsAt p.keeper') p ended run s h t (b.life intact s h t stands within none);
       crashes = λ honest firm s h t stands within none.
           let left = b.crash honest firm s h t stands within none in (
             left.0,
-            λ x r may. run_lived M (StandsAt M (record { rows = x; records = r })) p s h t run.received w.timed b.others w.marks b.part w.deeds run.came b.prefix
-                w.done b.moments b.replied (left.1 x r may),
+            λ x r may. run_lived M (StandsAt M (record { rows = x; records = r })) p ended run s h t (left.1 x r may),
           );
     }

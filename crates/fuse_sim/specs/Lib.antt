@@ -1,5 +1,6 @@
 pub mod AfterEvents
 pub mod Driving
+pub mod FileLives
 pub mod HandedOn
 pub mod KeptMessages
 pub mod LeftRecords

@@ -1,6 +1,5 @@
 -- Lives of a server within one mount, one after another, each over what the one before left (own profile).
 use Rattle.std.specs.Prelude.{◌≡◌, List, [], ◌∷◌, ◌++◌, ℕ}
-use Rattle.std.specs.Io.KnownBytes.{Consumes}
 use Rattle.fuse_request.specs.Opcodes.{OpcodeSet}
 use Rattle.fuse_request.specs.Stream.{cut, joined}
 use Rattle.fuse_keeper.specs.History.{History, grown}
@@ -9,12 +8,13 @@ use Rattle.fuse_keeper.specs.Stands.{Standing, StandsAt}
 use Rattle.fuse_keeper.specs.KeeperState.{Leaves, IsFirm}
 use Rattle.fuse_session.specs.declared.ended.Ended.{Ended}
 use Rattle.fuse_session.specs.Passage.{Passage}
-use Rattle.fuse_session.specs.Deeds.{Deeds, Hears}
 use Rattle.fuse_session.specs.Batches.{TimedFirst}
 use Rattle.fuse_session.specs.Ended.{IsIntact}
 use Rattle.fuse_session.specs.Exchange.{HoldsAt, IfNoneComesAgain}
 use Rattle.fuse_session.specs.Serving.{nothing_waits, Run, exchange}
-use Rattle.fuse_session.specs.Settling.{Mark, replies, settled_in, Replied}
+use Rattle.fuse_session.specs.Settling.{replies, settled_in}
+use Rattle.fuse_session.specs.Slices.{RestsOfSome}
+use Rattle.fuse_session.specs.Transcript.{handed_in}
 use Rattle.fuse_session.specs.Processed.{Timed, bytes_of, kept_in, out, Works}
 
 -- the bytes that came, those that were sent, the messages that were processed, and the ids that their answers settled
@@ -53,20 +53,20 @@ abbrev pub AllSend : (M : Model) → M.State → History → List Lifetime → T
 AllSend M s last [] = Unit {0}
 AllSend M s last (life ∷ lives) = ((unsent : List ℕ) × (out M s last life.worked ≡ life.sent ++ unsent)) × AllSend M s last lives
 
--- a run of a server was a life: the bytes that came to its port, the answers that it sent whole and the part of another
--- one, the ids that these settle, what was done, with the moments of the messages, and what is left
-pub record RanAsLife {M : Model} (p : Passage M) (at : Standing M) (Stood : Standing M → Type 0) : Type 0 where
+-- a run of a server was a life, of which its port was handed the answers slice by slice: these bytes came, the first messages were
+-- processed, with the moments that the clock gave, and the answers that were sent whole and the part of another one are the run's;
+-- and this is left
+pub record RanAsLife {M : Model} {p : Passage M} {ended : Ended} (run : Run p nothing_waits ended) (at : Standing M) (Stood : Standing M → Type 0)
+    : Type 0 where
   pub life : Lifetime
   pub lived : IsLife M at.state at.history life
-  pub came : Consumes p.port.coming p.port'.coming life.received
-  pub marks : List Mark
-  pub part : List ℕ
-  pub replied : Replied p.port p.port' marks part
-  pub sent : life.sent ≡ joined (replies marks) ++ part
-  pub settled_are : life.settled ≡ settled_in M.serves p.port.confirms (bytes_of life.worked) marks
-  pub deeds : Deeds
-  pub done : Hears p.did life.received deeds
-  pub moments : TimedFirst M.serves deeds.moments life.worked
+  pub received : life.received ≡ run.received
+  pub unprocessed : List Timed
+  pub parts : run.broken.work.timed ≡ life.worked ++ unprocessed
+  pub moments : TimedFirst M.serves run.broken.work.deeds.moments life.worked
+  pub sent : life.sent ≡ joined (replies run.broken.work.marks) ++ run.broken.part
+  pub slices : RestsOfSome run.broken.work.marks run.broken.part (handed_in run.broken.work.deeds.events)
+  pub settled_are : life.settled ≡ settled_in M.serves p.port.confirms (bytes_of life.worked) run.broken.work.marks
   pub stands : Stood (record { state = at.state; history = grown at.history (kept_in M.serves life.worked); settled = at.settled ++ life.settled })
 
 -- a run of `serve`, as the part `life` of its promise says, was such a life, whatever the keeper stood for and whatever was settled,
@@ -74,10 +74,10 @@ pub record RanAsLife {M : Model} (p : Passage M) (at : Standing M) (Stood : Stan
 pub record IsLived {M : Model} (p : Passage M) (ended : Ended) (run : Run p nothing_waits ended) : Type 0 where
   -- what the keeper holds stands for the history that the life leaves, where its store gave back what was written and, after a fault
   -- of the store, has no write open
-  pub ends : IsIntact p.keeper' ended → IfNoneComesAgain p.keeper [] (exchange run.broken.work) (λ at. RanAsLife p at (HoldsAt p.keeper'))
+  pub ends : IsIntact p.keeper' ended → IfNoneComesAgain p.keeper [] (exchange run.broken.work) (λ at. RanAsLife run at (HoldsAt p.keeper'))
   -- and so does whatever a crash then leaves, where the keeper was firm
   pub crashes : p.keeper'.is_honest → IsFirm p.keeper → IfNoneComesAgain p.keeper [] (exchange run.broken.work)
-      (λ at. Leaves p.keeper' (λ x r. RanAsLife p at (StandsAt M (record { rows = x; records = r }))))
+      (λ at. Leaves p.keeper' (λ x r. RanAsLife run at (StandsAt M (record { rows = x; records = r }))))
 
 -- so it is of each run, at whatever end
 abbrev pub RunsAreLives : {M : Model} → Passage M → Type 0
