@@ -85,6 +85,9 @@ begins_keeps old new n h =
     let ran = runs_as begin_text [] old new old.now.schema refl Begin (begin_is _) (begin_plain _) n h in
     record { was_open = λ _. ran.1.was_open; committed = λ _. ran.1.committed_is }
 
+begins_outside : (old new : State) (n : ℕ) → Executes begin_text [] old new (Ok n) → old.in_transaction ≡ false
+begins_outside old new n h = (runs_as begin_text [] old new old.now.schema refl Begin (begin_is _) (begin_plain _) n h).0
+
 commits_ok : (old new : State) (n : ℕ) → Executes commit_text [] old new (Ok n) → IsTrue new.is_open × (new.in_transaction ≡ false) × (new.now ≡ old.now)
     × (new.committed ≡ new.now)
 commits_ok old new n h =
@@ -142,11 +145,13 @@ begins old new (Ok x) runs survives = record {
   survives = survives_weaker old new _ _ (λ _ db. begin_commits_none old db) survives;
   kept = λ clean. begins_keeps old new (runs clean).0 (runs clean).1;
   begun = λ clean. begins_ok old new (runs clean).0 (runs clean).1;
+  outside = λ clean. begins_outside old new (runs clean).0 (runs clean).1;
 }
 begins old new (Err e) runs survives = record {
   survives = survives_weaker old new _ _ (λ _ db. begin_commits_none old db) survives;
   kept = λ clean. keeps_failed old new _ _ e (runs clean);
   begun = tt;
+  outside = tt;
 }
 
 pub ends : (old new : State) (r : Result (Unit {0}) Error) → (HasCleanDisk new → Ran commit_text [] old new r) → Survives old new (CommitsBy commit_text [] old)

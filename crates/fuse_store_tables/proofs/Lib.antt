@@ -36,3 +36,6 @@ pub mod Sayings
 pub mod OpenLemmas
 pub mod MigrationLemmas
 pub mod Fitting
+pub mod Selects
+pub mod Alone
+pub mod Within

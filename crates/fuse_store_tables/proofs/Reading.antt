@@ -25,7 +25,7 @@ use Rattle.sqlite_trees.proofs.ListLemmas.{map-map}
 use Rattle.fuse_store_tables.specs.Moves.{InsideAs, IsReady, Takes}
 use Rattle.fuse_store_tables.proofs.Control.{keeps_unchanged, keeps_not_run, keeps_command}
 
-keeps_query : (old new : State) (sql : List ℕ) (params : Row) (e : Error) → FailsToQuery sql params old new e → KeepsCommit old new
+pub keeps_query : (old new : State) (sql : List ℕ) (params : Row) (e : Error) → FailsToQuery sql params old new e → KeepsCommit old new
 unfolding FailsToQuery
 keeps_query old new sql params e (inl h) = keeps_not_run old new sql params e h
 keeps_query old new sql params e (inr h) = shown h.0.returning h.2

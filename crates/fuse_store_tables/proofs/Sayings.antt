@@ -1,18 +1,23 @@
 -- What the tables say.
-use Rattle.std.proofs.Common.{◌≡◌, ◌≢◌, ◌⊎◌, inl, inr, ℕ, List, [], Bool, true, false, cond, Some, None, Option, Ok, Err, Result, IfOk, refl, sym, ◌∙◌}
-use Rattle.sqlite.specs.Order.{Row}
-use Rattle.sqlite.specs.Effect.{Database, Reads}
-use Rattle.sqlite.specs.Listing.{reads_listing, IsSourceOf}
-use Rattle.sqlite_resolve.specs.declared.compiled.Compiled.{Compiled}
+use Rattle.std.proofs.Common.{◌≡◌, ◌≢◌, ◌⊎◌, ◌<◌, inl, inr, ℕ, pos, List, [], ◌∷◌, length, Bool, true, false, cond, Ok, Err, Result, IfOk, IfErr, refl, sym, ap, subst, arith}
+use Rattle.std.specs.Int.{w64, cast_signed}
+use Rattle.sqlite.specs.declared.types.Value.{Value}
+use Rattle.sqlite.specs.declared.types.Value.TheVariants.{Int}
+use Rattle.sqlite.specs.Values.{IsInt}
+use Rattle.sqlite.specs.Order.{Row, column}
+use Rattle.sqlite.specs.Effect.{Database}
 use Rattle.sqlite.specs.declared.error.Error.{Error}
-use Rattle.sqlite.specs.Clock.{timed}
-use Rattle.sqlite.specs.State.{State, HasCleanDisk, Shown, ShowsRows}
-use Rattle.sqlite_schema.specs.declared.command.Returning.{Returning}
+use Rattle.sqlite.specs.declared.error.Error.TheVariants.{SqliteFailure}
+use Rattle.sqlite.specs.declared.error.ErrorCode.TheVariants.{OutOfMemory}
+use Rattle.sqlite.specs.State.{State, HasCleanDisk, Shown}
+use Rattle.fuse_keeper.specs.declared.fault.StoreFault.{StoreFault}
 use Rattle.fuse_keeper.specs.declared.fault.StoreFault.TheVariants.{Memory, Sql, Damaged}
 use Rattle.fuse_keeper.specs.Faults.{fault_of, is_memory}
 use Rattle.fuse_store_tables.specs.Faults.{IsPlain}
 use Rattle.fuse_store_tables.specs.inner.Columns.{misread_as}
-use Rattle.fuse_store_tables.specs.Saying.{version_text, ShowsVersion}
+use Rattle.fuse_store_tables.specs.Saying.{version_text, ShowsVersion, IsOwn, Says}
+use Rattle.fuse_store_tables.specs.inner.Versions.{plain_says}
+use Rattle.fuse_store_tables.proofs.Selects.{returns_none, version_select}
 
 pub plain_fault : (e : Error) → IsPlain (fault_of e)
 plain_fault e = told (is_memory e)
@@ -28,20 +33,31 @@ plain_misread e = told (is_memory e)
     told true = tt
     told false = tt
 
-abbrev Rest : State → Compiled → List Row → Type 0
-Rest old c rows = (c.returning ≢ None) ⊎ ((now : ℕ) × (source : Database) × IsSourceOf (reads_listing old.now.schema version_text) old.now source
-    × Reads c.command source (timed [] c.formats now) rows)
-
-by_returning : (old new : State) (rows : List Row) (c : Compiled) (now : ℕ) (r : Option Returning) → c.returning ≡ r
-    → ShowsRows old new version_text c (timed [] c.formats now) rows r → Rest old c rows
-by_returning old new rows c now None is it = inr (now, it.0, it.1, it.2)
-by_returning old new rows c now (Some what) is it = inl (λ e. absurd (let no = sym is ∙ e in cc))
-
 shows : (old new : State) (rows : List Row) → Shown version_text [] old new rows → ShowsVersion old.now rows
 unfolding Shown
-shows old new rows h = (h.0, h.1.is, by_returning old new rows h.0 h.1.now h.0.returning refl h.2)
+shows old new rows h =
+    let none = returns_none version_text version_select old.now.schema h.0 h.1.is in
+    let it = rw none at h.2 in
+    (h.0, h.1.is, h.1.now, it.0, it.1, it.2)
 
 pub says_version : {X : Type 0} (items : X → List Row) (old new : State) (r : Result X Error)
     → (HasCleanDisk new → IfOk r (λ x. Shown version_text [] old new (items x))) → HasCleanDisk new → IfOk r (λ x. ShowsVersion old.now (items x))
 says_version items old new (Ok x) ok clean = shows old new (items x) (ok clean)
 says_version items old new (Err e) ok clean = tt
+
+-- ---- a value that is no version
+
+no_integer : (v : Value) → ¬ IsInt v → IsOwn v
+no_integer (Int n) none = absurd (none (n, refl))
+no_integer _ none = tt
+
+spared : (e : Error) → misread_as e ≡ Damaged → e ≢ SqliteFailure OutOfMemory
+spared e damaged memory = let clash = subst (λ x. misread_as x ≡ Damaged) memory damaged in absurd cc
+
+pub odd_own : (row : Row) (e : Error) → (e ≢ SqliteFailure OutOfMemory → 0 < length row → ¬ IsInt (column row 0)) → misread_as e ≡ Damaged → IsOwn (column row 0)
+odd_own [] e kind damaged = tt
+odd_own (v ∷ row) e kind damaged = no_integer v (kind (spared e damaged) (omega arith))
+
+pub says_if : {X : Type 0} (d : Database) (r : Result X StoreFault) → Says d Damaged → IfErr r IsPlain → IfErr r (Says d)
+says_if d (Ok x) damaged plain = tt
+says_if d (Err f) damaged plain = plain_says d f damaged plain

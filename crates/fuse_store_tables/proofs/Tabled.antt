@@ -11,7 +11,7 @@ use Rattle.fuse_store_tables.specs.inner.Following.{earlier}
 use Rattle.fuse_store_tables.specs.Faults.{IsOutside}
 use Rattle.fuse_store_tables.specs.Opening.{IsStored, IsSecond}
 use Rattle.fuse_store_tables.specs.Moves.{InsideAs, IsReady}
-use Rattle.fuse_store_tables.specs.Saying.{has_tables, first_names, second_names, ReportsVersion, IsTabled}
+use Rattle.fuse_store_tables.specs.Saying.{has_tables, first_names, second_names, ReportsVersion, IsTabled, IsToMigrate}
 
 -- ---- a store has them
 
@@ -49,6 +49,9 @@ module _ (a b : State) (s : Schema) (same : s ≡ a.now.schema) where
 
 module _ (a b d : State) (s : Schema) (same : s ≡ a.now.schema) (n : ℕ) (tells : HasCleanDisk b → ReportsVersion a.now n) {K : Trees → Type 0}
     (survives : Survives b d K) where
+  pub to_migrate : n ≡ 1 → has_tables first_names s ≡ true → HasCleanDisk d → IsToMigrate a.now
+  to_migrate one all clean = (subst (ReportsVersion a.now) one (tells (earlier b d _ survives clean)), sym (ap (has_tables first_names) same) ∙ all)
+
   pub tabled_first : n ≡ 1 → has_tables first_names s ≡ true → HasCleanDisk d → IsTabled a.now
   tabled_first one all clean = inl (subst (ReportsVersion a.now) one (tells (earlier b d _ survives clean)), sym (ap (has_tables first_names) same) ∙ all)
 

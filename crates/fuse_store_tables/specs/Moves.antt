@@ -55,6 +55,7 @@ pub record Begins {X E : Type 0} (old new : State) (result : Result X E) : Type 
   pub survives : Survives old new (λ _. ⊥)
   pub kept : HasCleanDisk new → KeepsCommit old new
   pub begun : OnOk result (HasCleanDisk new → IsTrue new.is_open × (new.in_transaction ≡ true) × (new.now ≡ old.now))
+  pub outside : OnOk result (HasCleanDisk new → old.in_transaction ≡ false)
 
 pub record Ends {X E : Type 0} (old new : State) (result : Result X E) : Type 0 where
   pub survives : Survives old new (λ db. db ≡ old.now.trees)
@@ -66,6 +67,12 @@ pub record Undoes (old new : State) : Type 0 where
   pub survives : Survives old new (λ _. ⊥)
   pub autocommit : HasCleanDisk new → new.in_transaction ≡ false
   pub undone : HasCleanDisk new → IsTrue new.is_open → IsTrue old.is_open × (new.now ≡ old.committed) × (new.committed ≡ old.committed)
+
+-- nothing was changed that the connection or a crash could see, and no transaction is open
+pub record LeavesAlone (old new : State) : Type 0 where
+  pub survives : Survives old new (λ _. ⊥)
+  pub autocommit : HasCleanDisk new → new.in_transaction ≡ false
+  pub same : HasCleanDisk new → IsTrue new.is_open → IsTrue old.is_open × (new.committed ≡ old.committed) × (new.now ≡ new.committed)
 
 -- a whole transaction that leaves the store as it was where it fails
 pub record ServesAs {C X E : Type 0} (P Q : C → Database → Type 0) (old new : State) (result : Result X E) : Type 0 where

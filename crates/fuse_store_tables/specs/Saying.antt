@@ -2,6 +2,8 @@
 use Rattle.std.specs.Prelude.{◌≡◌, ◌≢◌, ◌⊎◌, ℕ, pos, List, [], ◌∷◌, codes, None, Ok, ⊤, Bool, IsTrue}
 use Rattle.std.specs.List.{list_all}
 use Rattle.std.specs.Option.{is_some}
+use Rattle.std.specs.Int.{w64, cast_signed}
+use Rattle.sqlite.specs.declared.types.Value.{Value}
 use Rattle.sqlite.specs.declared.types.Value.TheVariants.{Int}
 use Rattle.sqlite.specs.Order.{Row, column}
 use Rattle.sqlite.specs.Schema.{Schema}
@@ -11,30 +13,47 @@ use Rattle.sqlite.specs.Listing.{understood, reads_listing, IsSourceOf}
 use Rattle.sqlite_resolve.specs.declared.compiled.Compiled.{Compiled}
 use Rattle.sqlite_schema.specs.Names.{table_named}
 use Rattle.fuse_keeper.specs.declared.fault.StoreFault.{StoreFault}
-use Rattle.fuse_keeper.specs.declared.fault.StoreFault.TheVariants.{NotAStore, Version}
+use Rattle.fuse_keeper.specs.declared.fault.StoreFault.TheVariants.{NotAStore, Version, Damaged}
 
 abbrev pub version_text : List ℕ
 version_text = codes "SELECT v FROM meta WHERE k = 1"
 
--- asked for its version, the database shows these rows, unless the text had a RETURNING
+-- asked for its version, the database shows these rows
 abbrev pub ShowsVersion : Database → List Row → Type 0
 ShowsVersion d rows =
-    (c : Compiled) × (understood d.schema version_text ≡ Ok c)
-    × ((c.returning ≢ None) ⊎ ((now : ℕ) × (source : Database) × IsSourceOf (reads_listing d.schema version_text) d source
-    × Reads c.command source (timed [] c.formats now) rows))
+    (c : Compiled) × (understood d.schema version_text ≡ Ok c) × (now : ℕ) × (source : Database) × IsSourceOf (reads_listing d.schema version_text) d source
+    × Reads c.command source (timed [] c.formats now) rows
 
+-- the version is this number of 64 bits
 abbrev pub HasFirst : ℕ → List Row → Type 0
 HasFirst n [] = ⊥
-HasFirst n (row ∷ rows) = column row 0 ≡ Int (pos n)
+HasFirst n (row ∷ rows) = column row 0 ≡ Int (cast_signed w64 n)
 
 abbrev pub ReportsVersion : Database → ℕ → Type 0
 ReportsVersion d n = (rows : List Row) × ShowsVersion d rows × HasFirst n rows
 
--- there is no `meta`, or no row of the version, or the version is neither 1 nor 2
+-- no version of another store: 1 or 2, or no integer
+abbrev pub IsOwn : Value → Type 0
+IsOwn (Int n) = (n ≡ pos 1) ⊎ (n ≡ pos 2)
+IsOwn _ = ⊤
+
+abbrev pub HasOwn : List Row → Type 0
+HasOwn [] = ⊥
+HasOwn (row ∷ rows) = IsOwn (column row 0)
+
+-- There is no `meta`, or no row of the version; or the version is neither 1 nor 2. A store is damaged only where neither is so.
 abbrev pub Says : Database → StoreFault → Type 0
 Says d NotAStore = (table_named d.schema (codes "meta") ≡ None) ⊎ ShowsVersion d []
 Says d (Version n) = (n ≢ 1) × (n ≢ 2) × ReportsVersion d n
+Says d Damaged = (rows : List Row) × ShowsVersion d rows × HasOwn rows
 Says d _ = ⊤
+
+-- a fault that refuses the database
+abbrev pub IsRefusal : StoreFault → Type 0
+IsRefusal NotAStore = ⊤
+IsRefusal (Version n) = ⊤
+IsRefusal Damaged = ⊤
+IsRefusal _ = ⊥
 
 -- ---- the tables beside `meta`
 
@@ -53,3 +72,7 @@ has_tables names schema = list_all (λ name. is_some (table_named schema name)) 
 -- it is of one of the two versions, and has all tables of that version
 abbrev pub IsTabled : Database → Type 0
 IsTabled d = (ReportsVersion d 1 × IsTrue (has_tables first_names d.schema)) ⊎ (ReportsVersion d 2 × IsTrue (has_tables second_names d.schema))
+
+-- of version 1, with all its tables: the only database that an opening changes
+abbrev pub IsToMigrate : Database → Type 0
+IsToMigrate d = ReportsVersion d 1 × IsTrue (has_tables first_names d.schema)

@@ -5,3 +5,4 @@ pub mod Performing
 pub mod Rows
 pub mod Steps
 pub mod Transaction
+pub mod Versions

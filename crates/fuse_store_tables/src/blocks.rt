@@ -9,6 +9,7 @@ ghost use Rattle.fuse_store_tables.specs.Moves.{Inside, Makes, Looked, Stays};
 ghost use Rattle.fuse_store_tables.specs.Blocks.{block_at, shown_block};
 ghost use Rattle.fuse_store_tables.specs.Content.{Content, with_block, without_block, put_block};
 ghost use Rattle.fuse_store_tables.specs.Content.{without_blocks_from};
+ghost use Rattle.fuse_store_tables.specs.inner.Performing.{StaysWithin};
 
 use crate::statements::run;
 use crate::values::pair;
@@ -87,8 +88,9 @@ pub fn delete_blocks_from<S: Alter>(
 ) -> Result<(), Error>
     requires node { node < 2 ^ 63 }
     requires from { from < 2 ^ 63 }
-    ensures { Makes (without_blocks_from node from) (state S.Store conn.old)
+    ensures made { Makes (without_blocks_from node from) (state S.Store conn.old)
         (state S.Store conn.new) result }
+    ensures within { StaysWithin (state S.Store conn.old) (state S.Store conn.new) result }
 {
     let values = pair(node, from);
     run(conn, DELETE_FROM, &values)

@@ -23,9 +23,9 @@ fn is_memory(e: &Error) -> bool
     matches!(e, Error::SqliteFailure(ErrorCode::OutOfMemory))
 }
 
-// The fault of a column of the wrong type.
+/// The fault of a column of the wrong type.
 #[tactic(auto, using(crate::proofs::Sayings::plain_misread))]
-fn misread(e: Error) -> StoreFault
+pub(crate) fn misread(e: Error) -> StoreFault
     ensures value { result ≡ misread_as e }
     ensures plain { IsPlain result }
 {

@@ -5,6 +5,7 @@ ghost use Rattle.sqlite.specs.Held.{state};
 ghost use Rattle.fuse_store_tables.specs.Moves.{Inside, Rests, Makes, Looked, Stays, Serves};
 ghost use Rattle.fuse_store_tables.specs.Moves.{StaysOpen};
 ghost use Rattle.fuse_store_tables.specs.Content.{Content, with_counter, set_counter, shown_counter};
+ghost use Rattle.fuse_store_tables.specs.inner.Performing.{StaysWithin};
 
 use crate::statements::run;
 use crate::values::pair;
@@ -59,6 +60,22 @@ pub(crate) fn insert_counter<S: Alter>(
 }
 
 /// Changes the value of the counter with this key.
+pub(crate) fn write_counter<S: Alter>(
+    conn: &mut Connection<S>,
+    key: u64,
+    number: u64,
+) -> Result<(), Error>
+    requires key { key < 2 ^ 63 }
+    requires number { number < 2 ^ 63 }
+    ensures made { Makes (set_counter key number) (state S.Store conn.old) (state S.Store conn.new)
+        result }
+    ensures within { StaysWithin (state S.Store conn.old) (state S.Store conn.new) result }
+{
+    let values = pair(key, number);
+    run(conn, UPDATE, &values)
+}
+
+/// Changes the value of the counter with this key.
 pub fn update_counter<S: Alter>(
     conn: &mut Connection<S>,
     key: u64,
@@ -69,8 +86,7 @@ pub fn update_counter<S: Alter>(
     ensures { Makes (set_counter key number) (state S.Store conn.old) (state S.Store conn.new)
         result }
 {
-    let values = pair(key, number);
-    run(conn, UPDATE, &values)
+    write_counter(conn, key, number)
 }
 
 /// The values of all counters, in the order of their keys.

@@ -1,5 +1,5 @@
 // A new store, made in one transaction.
-ghost use Rattle.std.specs.Prelude.{IsTrue, IfErr, OnOk};
+ghost use Rattle.std.specs.Prelude.{◌≡◌, false, IsTrue, IfErr, OnOk};
 ghost use Rattle.sqlite.specs.State.{HasCleanDisk};
 ghost use Rattle.sqlite.specs.Held.{state};
 ghost use Rattle.fuse_store_tables.specs.Faults.{IsPlain};
@@ -161,6 +161,8 @@ fn transact<S: Alter>(conn: &mut Connection<S>, now: Moment) -> Result<(), Store
     ensures plain { IfErr result IsPlain }
     ensures was { HasCleanDisk (state S.Store conn.new)
         → OnOk result (IsTrue (state S.Store conn.old).is_open) }
+    ensures ended { OnOk result (HasCleanDisk (state S.Store conn.new)
+        → (state S.Store conn.new).in_transaction ≡ false) }
 {
     begin(conn)?;
     make_all(conn, now)?;
@@ -178,6 +180,9 @@ pub fn make_store<S: Alter>(conn: &mut Connection<S>, now: Moment) -> Result<(),
     ensures plain { IfErr result IsPlain }
     ensures was { HasCleanDisk (state S.Store conn.new)
         → OnOk result (IsTrue (state S.Store conn.old).is_open) }
+    // No transaction is left open.
+    ensures ended { HasCleanDisk (state S.Store conn.new)
+        → (state S.Store conn.new).in_transaction ≡ false }
 {
     match transact(conn, now) {
         Ok(()) => Ok(()),

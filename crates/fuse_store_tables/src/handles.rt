@@ -10,6 +10,7 @@ ghost use Rattle.fuse_store_tables.specs.Moves.{Inside, Makes, Looked, Stays};
 ghost use Rattle.fuse_store_tables.specs.Content.{Content, access_code, fh_of, at_by, with_handle};
 ghost use Rattle.fuse_store_tables.specs.Content.{without_handle, shown_handle};
 ghost use Rattle.fuse_store_tables.specs.inner.Steps.{without_handles};
+ghost use Rattle.fuse_store_tables.specs.inner.Performing.{StaysWithin};
 
 use crate::statements::run;
 use crate::values::number;
@@ -70,7 +71,8 @@ pub fn delete_handle<S: Alter>(conn: &mut Connection<S>, fh: u64) -> Result<(), 
 
 /// Deletes every handle.
 pub(crate) fn delete_all_handles<S: Alter>(conn: &mut Connection<S>) -> Result<(), Error>
-    ensures { Makes without_handles (state S.Store conn.old) (state S.Store conn.new) result }
+    ensures made { Makes without_handles (state S.Store conn.old) (state S.Store conn.new) result }
+    ensures within { StaysWithin (state S.Store conn.old) (state S.Store conn.new) result }
 {
     run(conn, DELETE_ALL, &[])
 }

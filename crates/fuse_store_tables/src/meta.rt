@@ -1,20 +1,25 @@
 // The table `meta` of either version, as the opening of a store reads it.
-ghost use Rattle.std.specs.Prelude.{◌≡◌, ◌≤◌, ◌∷◌, [], List, map, IfOk, IfErr, OnOk};
+ghost use Rattle.std.specs.Prelude.{◌≡◌, ◌≤◌, ◌∷◌, [], ℕ, List, map, pos, IfOk, IfErr, OnOk};
+ghost use Rattle.std.specs.Int.{w64, cast_signed};
 ghost use Rattle.std.specs.Option.{option_to_list};
 ghost use Rattle.sqlite.specs.State.{HasCleanDisk};
 ghost use Rattle.sqlite.specs.Held.{state};
 ghost use Rattle.sqlite.specs.Effect.{Database};
+ghost use Rattle.sqlite.specs.Order.{column};
+ghost use Rattle.sqlite.specs.declared.types.Value.TheVariants.{Int};
+ghost use Rattle.fuse_keeper.specs.declared.fault.StoreFault.TheVariants.{Damaged};
 ghost use Rattle.fuse_store_tables.specs.Content.{Content, Counter, shown_counter, counter_key, at_by};
 ghost use Rattle.fuse_store_tables.specs.Content.{value_at};
 ghost use Rattle.fuse_store_tables.specs.Faults.{IsOutside, IsPlain};
-ghost use Rattle.fuse_store_tables.specs.Saying.{ShowsVersion, HasFirst, ReportsVersion, Says};
+ghost use Rattle.fuse_store_tables.specs.Saying.{ShowsVersion, HasFirst, IsOwn, ReportsVersion};
+ghost use Rattle.fuse_store_tables.specs.Saying.{Says};
 ghost use Rattle.fuse_store_tables.specs.Moves.{InsideAs, Takes};
-ghost use Rattle.fuse_store_tables.specs.inner.Performing.{IsSure};
+ghost use Rattle.fuse_store_tables.specs.inner.Performing.{IsSure, OnlyReads};
 ghost use Rattle.fuse_store_tables.specs.Opening.{IsStored, IsLaid, IsMetaFrom, IsMeta, most};
 ghost use Rattle.fuse_store_tables.specs.inner.Steps.{Tests};
 ghost use Rattle.fuse_store_tables.specs.inner.Columns.{shown_meta};
 
-use crate::columns::number_at;
+use crate::columns::{misread, number_at};
 use fuse_keeper::StoreFault;
 use sqlite::{Alter, Connection, Error, Row};
 
@@ -35,6 +40,7 @@ fn select_version<S: Alter>(conn: &mut Connection<S>) -> Result<Vec<Row>, Error>
     ensures shows { HasCleanDisk (state S.Store conn.new) → IfOk result (λ rows. (c : Content)
         → InsideAs (IsLaid c) (state S.Store conn.old)
         → rows.items ≡ map shown_counter (option_to_list (at_by counter_key 1 c.counters))) }
+    ensures reads { OnlyReads (state S.Store conn.old) (state S.Store conn.new) result }
 {
     conn.query_all(SELECT_VERSION, &[])
 }
@@ -48,8 +54,23 @@ fn select_meta<S: Alter>(conn: &mut Connection<S>) -> Result<Vec<Row>, Error>
     ensures laid { Takes IsLaid IsLaid (state S.Store conn.old) (state S.Store conn.new) result }
     ensures shows { HasCleanDisk (state S.Store conn.new) → IfOk result (λ rows. (c : Content)
         → InsideAs (IsLaid c) (state S.Store conn.old) → rows.items ≡ map shown_meta c.counters) }
+    ensures reads { OnlyReads (state S.Store conn.old) (state S.Store conn.new) result }
 {
     conn.query_all(SELECT_META, &[])
+}
+
+// The version in a row. One below 0 is the number with the same bits.
+fn version_in(row: &Row) -> Result<u64, StoreFault>
+    ensures bits { IfOk result (λ n. column row.now 0 ≡ Int (cast_signed w64 n)) }
+    ensures value { IfOk result (λ n. (v : ℕ) → column row.now 0 ≡ Int (pos v) → n ≡ v) }
+    ensures fault { IfErr result (λ f. (n : ℕ) → row.now ≡ Int (pos n) ∷ [] → IsOutside f) }
+    ensures plain { IfErr result IsPlain }
+    ensures odd { IfErr result (λ f. f ≡ Damaged → IsOwn (column row.now 0)) }
+{
+    match row.get::<i64>(0) {
+        Ok(value) => Ok(value.cast_unsigned()),
+        Err(e) => Err(misread(e)),
+    }
 }
 
 // The version in the row that was found.
@@ -64,7 +85,7 @@ fn read_version(rows: &[Row]) -> Result<u64, StoreFault>
 {
     match rows.first() {
         None => Err(StoreFault::NotAStore),
-        Some(row) => number_at(row, 0),
+        Some(row) => version_in(row),
     }
 }
 
@@ -82,6 +103,7 @@ pub(crate) fn find_version<S: Alter>(conn: &mut Connection<S>) -> Result<u64, St
     ensures laid { Takes IsLaid IsLaid (state S.Store conn.old) (state S.Store conn.new) result }
     ensures shows { HasCleanDisk (state S.Store conn.new) → IfOk result (λ n. (c : Content)
         → InsideAs (IsLaid c) (state S.Store conn.old) → n ≡ value_at 1 c) }
+    ensures reads { OnlyReads (state S.Store conn.old) (state S.Store conn.new) result }
 {
     let rows = select_version(conn)?;
     read_version(rows.as_slice())
@@ -156,6 +178,7 @@ pub(crate) fn check_meta<S: Alter>(conn: &mut Connection<S>, count: usize) -> Re
         → IsOutside f) }
     ensures plain { IfErr result IsPlain }
     ensures whole { Tests (IsMeta count) (state S.Store conn.old) (state S.Store conn.new) result }
+    ensures reads { OnlyReads (state S.Store conn.old) (state S.Store conn.new) result }
 {
     let rows = select_meta(conn)?;
     check_rows(rows.as_slice(), count)

@@ -1,5 +1,6 @@
 // The begin of a mount: all state of the last mount is deleted, in one transaction.
-ghost use Rattle.std.specs.Prelude.{◌≡◌, map, List, ℕ, IfErr};
+ghost use Rattle.std.specs.Prelude.{◌≡◌, map, false, List, ℕ, IfErr, OnOk};
+ghost use Rattle.sqlite.specs.State.{HasCleanDisk};
 ghost use Rattle.sqlite.specs.Held.{state};
 ghost use Rattle.fuse_store_tables.specs.Content.{Holds};
 ghost use Rattle.fuse_store_tables.specs.Faults.{IsOutside, IsPlain};
@@ -11,12 +12,14 @@ ghost use Rattle.fuse_store_tables.specs.inner.Steps.{without_all_handles, witho
 ghost use Rattle.fuse_store_tables.specs.Clearing.{cleared};
 ghost use Rattle.fuse_store_tables.specs.Opening.{IsSecond};
 ghost use Rattle.fuse_store_tables.specs.Moves.{Makes, Serves, ServesAs, IsSafe};
-ghost use Rattle.fuse_store_tables.specs.inner.Performing.{Performs, IsSure};
-ghost use Rattle.fuse_store_tables.specs.Moves.{StaysOpen};
+ghost use Rattle.fuse_store_tables.specs.inner.Performing.{Performs, IsSure, StaysWithin};
+ghost use Rattle.fuse_store_tables.specs.inner.Performing.{CommitsNothing};
+ghost use Rattle.fuse_store_tables.specs.Moves.{StaysOpen, LeavesAlone};
+ghost use Rattle.fuse_store_tables.specs.Saying.{IsRefusal};
 
 use crate::blocks::delete_blocks_from;
 use crate::columns::number_at;
-use crate::counters::{AGREED, FLAGS, HANDLES, MAX_READAHEAD, MINOR, NODES, update_counter};
+use crate::counters::{AGREED, FLAGS, HANDLES, MAX_READAHEAD, MINOR, NODES, write_counter};
 use crate::handles::delete_all_handles;
 use crate::nodes::{count_nodes, delete_unnamed, select_unnamed};
 use crate::records::{delete_all_kept, delete_all_lots};
@@ -31,6 +34,7 @@ fn delete_blocks_of<S: Alter>(conn: &mut Connection<S>, nodes: &[Row]) -> Result
     ensures fault { IfErr result (λ f. (ns : List ℕ) → nodes.now ≡ map shown_number ns
         → IsOutside f) }
     ensures plain { IfErr result IsPlain }
+    ensures within { StaysWithin (state S.Store conn.old) (state S.Store conn.new) result }
 {
     let mut at = 0;
     'nodes: while at < nodes.len() {
@@ -52,6 +56,7 @@ fn clear_blocks<S: Alter>(conn: &mut Connection<S>) -> Result<(), StoreFault>
         result }
     ensures fault { IsSure Holds (state S.Store conn.old) (state S.Store conn.new) result }
     ensures plain { IfErr result IsPlain }
+    ensures within { StaysWithin (state S.Store conn.old) (state S.Store conn.new) result }
 {
     let nodes = select_unnamed(conn)?;
     delete_blocks_of(conn, nodes.as_slice())
@@ -63,24 +68,27 @@ fn recount<S: Alter>(conn: &mut Connection<S>) -> Result<(), StoreFault>
         result }
     ensures fault { IsSure Holds (state S.Store conn.old) (state S.Store conn.new) result }
     ensures plain { IfErr result IsPlain }
+    ensures within { StaysWithin (state S.Store conn.old) (state S.Store conn.new) result }
 {
     let count = count_nodes(conn)?;
-    Ok(update_counter(conn, NODES, count)?)
+    Ok(write_counter(conn, NODES, count)?)
 }
 
 // Deletes the settings.
 fn clear_settings<S: Alter>(conn: &mut Connection<S>) -> Result<(), Error>
-    ensures { Makes without_settings (state S.Store conn.old) (state S.Store conn.new) result }
+    ensures made { Makes without_settings (state S.Store conn.old) (state S.Store conn.new) result }
+    ensures within { StaysWithin (state S.Store conn.old) (state S.Store conn.new) result }
 {
-    update_counter(conn, AGREED, 0)?;
-    update_counter(conn, MINOR, 0)?;
-    update_counter(conn, MAX_READAHEAD, 0)?;
-    update_counter(conn, FLAGS, 0)
+    write_counter(conn, AGREED, 0)?;
+    write_counter(conn, MINOR, 0)?;
+    write_counter(conn, MAX_READAHEAD, 0)?;
+    write_counter(conn, FLAGS, 0)
 }
 
 // Deletes all records and lots.
 fn clear_records<S: Alter>(conn: &mut Connection<S>) -> Result<(), Error>
-    ensures { Makes without_records (state S.Store conn.old) (state S.Store conn.new) result }
+    ensures made { Makes without_records (state S.Store conn.old) (state S.Store conn.new) result }
+    ensures within { StaysWithin (state S.Store conn.old) (state S.Store conn.new) result }
 {
     delete_all_kept(conn)?;
     delete_all_lots(conn)
@@ -88,10 +96,11 @@ fn clear_records<S: Alter>(conn: &mut Connection<S>) -> Result<(), Error>
 
 // Deletes all handles.
 fn clear_handles<S: Alter>(conn: &mut Connection<S>) -> Result<(), Error>
-    ensures { Makes without_all_handles (state S.Store conn.old) (state S.Store conn.new) result }
+    ensures made { Makes without_all_handles (state S.Store conn.old) (state S.Store conn.new) result }
+    ensures within { StaysWithin (state S.Store conn.old) (state S.Store conn.new) result }
 {
     delete_all_handles(conn)?;
-    update_counter(conn, HANDLES, 0)
+    write_counter(conn, HANDLES, 0)
 }
 
 // Deletes all nodes without a name.
@@ -100,6 +109,7 @@ fn clear_nodes<S: Alter>(conn: &mut Connection<S>) -> Result<(), StoreFault>
         result }
     ensures fault { IsSure Holds (state S.Store conn.old) (state S.Store conn.new) result }
     ensures plain { IfErr result IsPlain }
+    ensures within { StaysWithin (state S.Store conn.old) (state S.Store conn.new) result }
 {
     clear_blocks(conn)?;
     delete_unnamed(conn)?;
@@ -111,6 +121,7 @@ fn clear<S: Alter>(conn: &mut Connection<S>) -> Result<(), StoreFault>
     ensures made { Makes cleared (state S.Store conn.old) (state S.Store conn.new) result }
     ensures fault { IsSure Holds (state S.Store conn.old) (state S.Store conn.new) result }
     ensures plain { IfErr result IsPlain }
+    ensures within { StaysWithin (state S.Store conn.old) (state S.Store conn.new) result }
 {
     clear_records(conn)?;
     clear_handles(conn)?;
@@ -124,11 +135,19 @@ fn transact<S: Alter>(conn: &mut Connection<S>) -> Result<(), StoreFault>
     ensures open { StaysOpen (state S.Store conn.old) (state S.Store conn.new) result }
     ensures fault { IsSafe Holds (state S.Store conn.old) (state S.Store conn.new) result }
     ensures plain { IfErr result IsPlain }
+    ensures refused { IfErr result (λ f. IsRefusal f
+        → CommitsNothing (state S.Store conn.old) (state S.Store conn.new)) }
+    ensures ended { OnOk result (HasCleanDisk (state S.Store conn.new)
+        → (state S.Store conn.new).in_transaction ≡ false) }
 {
     begin(conn)?;
-    clear(conn)?;
-    commit(conn)?;
-    Ok(())
+    match clear(conn) {
+        Ok(()) => {
+            commit(conn)?;
+            Ok(())
+        }
+        Err(fault) => Err(fault),
+    }
 }
 
 /// Begins a mount: deletes records, lots, handles, settings, and nodes without a name with their
@@ -141,6 +160,11 @@ pub fn begin_mount<S: Alter>(conn: &mut Connection<S>) -> Result<(), StoreFault>
     ensures fault { IsSafe Holds (state S.Store conn.old) (state S.Store conn.new) result }
     // The fault is never `NotAStore` or `Version`.
     ensures plain { IfErr result IsPlain }
+    // Damage is found before the commit. No transaction is left open.
+    ensures refused { IfErr result (λ f. IsRefusal f
+        → LeavesAlone (state S.Store conn.old) (state S.Store conn.new)) }
+    ensures ended { HasCleanDisk (state S.Store conn.new)
+        → (state S.Store conn.new).in_transaction ≡ false }
 {
     match transact(conn) {
         Ok(()) => Ok(()),

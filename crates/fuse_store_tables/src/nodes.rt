@@ -6,7 +6,7 @@ ghost use Rattle.sqlite.specs.Held.{state};
 ghost use Rattle.sqlite.specs.Values.{bound};
 ghost use Rattle.fuse_tree.specs.Columns.{FitsNode};
 ghost use Rattle.fuse_store_tables.specs.Moves.{Inside, Makes, Looked, Stays};
-ghost use Rattle.fuse_store_tables.specs.inner.Performing.{IsSure};
+ghost use Rattle.fuse_store_tables.specs.inner.Performing.{IsSure, StaysWithin};
 ghost use Rattle.fuse_store_tables.specs.Content.{Content, Holds, node_columns, node_key};
 ghost use Rattle.fuse_store_tables.specs.inner.Columns.{given_node, shown_number};
 ghost use Rattle.fuse_store_tables.specs.Content.{at_by, with_node, set_node};
@@ -98,13 +98,15 @@ pub(crate) fn select_unnamed<S: Alter>(conn: &mut Connection<S>) -> Result<Vec<R
     ensures found { HasCleanDisk (state S.Store conn.new) → IfOk result (λ rows. (c : Content)
         → Inside c (state S.Store conn.old)
         → rows.items ≡ map shown_number (unnamed_numbers c.nodes)) }
+    ensures within { StaysWithin (state S.Store conn.old) (state S.Store conn.new) result }
 {
     conn.query_all(SELECT_UNNAMED, &[])
 }
 
 /// Deletes the nodes without a name, but never the root.
 pub(crate) fn delete_unnamed<S: Alter>(conn: &mut Connection<S>) -> Result<(), Error>
-    ensures { Makes without_unnamed (state S.Store conn.old) (state S.Store conn.new) result }
+    ensures made { Makes without_unnamed (state S.Store conn.old) (state S.Store conn.new) result }
+    ensures within { StaysWithin (state S.Store conn.old) (state S.Store conn.new) result }
 {
     run(conn, DELETE_UNNAMED, &[])
 }
@@ -114,6 +116,7 @@ fn select_count<S: Alter>(conn: &mut Connection<S>) -> Result<Vec<Row>, Error>
     ensures made { Makes (λ c. c) (state S.Store conn.old) (state S.Store conn.new) result }
     ensures found { HasCleanDisk (state S.Store conn.new) → IfOk result (λ rows. (c : Content)
         → Inside c (state S.Store conn.old) → rows.items ≡ shown_number (counted_to c.nodes) ∷ []) }
+    ensures within { StaysWithin (state S.Store conn.old) (state S.Store conn.new) result }
 {
     conn.query_all(COUNT, &[])
 }
@@ -126,6 +129,7 @@ pub(crate) fn count_nodes<S: Alter>(conn: &mut Connection<S>) -> Result<u64, Sto
     ensures small { IfOk result (λ n. n < 2 ^ 63) }
     ensures fault { IsSure Holds (state S.Store conn.old) (state S.Store conn.new) result }
     ensures plain { IfErr result IsPlain }
+    ensures within { StaysWithin (state S.Store conn.old) (state S.Store conn.new) result }
 {
     let rows = select_count(conn)?;
     the_number(rows.as_slice())

@@ -17,6 +17,7 @@ ghost use Rattle.fuse_store_tables.specs.inner.Steps.{without_all_kept, without_
 ghost use Rattle.fuse_store_tables.specs.Content.{shown_kept};
 ghost use Rattle.fuse_store_tables.specs.inner.Steps.{without_answers, with_copies};
 ghost use Rattle.fuse_store_tables.specs.Faults.{IsPlain};
+ghost use Rattle.fuse_store_tables.specs.inner.Performing.{StaysWithin};
 
 use crate::columns::the_count;
 use crate::statements::run;
@@ -97,14 +98,16 @@ pub fn delete_kept<S: Alter>(conn: &mut Connection<S>, id: u64) -> Result<(), Er
 
 /// Deletes every record.
 pub(crate) fn delete_all_kept<S: Alter>(conn: &mut Connection<S>) -> Result<(), Error>
-    ensures { Makes without_all_kept (state S.Store conn.old) (state S.Store conn.new) result }
+    ensures made { Makes without_all_kept (state S.Store conn.old) (state S.Store conn.new) result }
+    ensures within { StaysWithin (state S.Store conn.old) (state S.Store conn.new) result }
 {
     run(conn, DELETE_ALL, &[])
 }
 
 /// Deletes every lot.
 pub(crate) fn delete_all_lots<S: Alter>(conn: &mut Connection<S>) -> Result<(), Error>
-    ensures { Makes without_lots (state S.Store conn.old) (state S.Store conn.new) result }
+    ensures made { Makes without_lots (state S.Store conn.old) (state S.Store conn.new) result }
+    ensures within { StaysWithin (state S.Store conn.old) (state S.Store conn.new) result }
 {
     run(conn, DELETE_LOTS, &[])
 }

@@ -1,12 +1,13 @@
 // The opening of a store. A store of version 1 is migrated to version 2.
-ghost use Rattle.std.specs.Prelude.{IsTrue, OnOk, IfErr};
+ghost use Rattle.std.specs.Prelude.{◌≡◌, false, IsTrue, OnOk, IfErr};
 ghost use Rattle.sqlite.specs.State.{HasCleanDisk};
 ghost use Rattle.sqlite.specs.Held.{state};
 ghost use Rattle.fuse_store_tables.specs.Faults.{IsPlain};
-ghost use Rattle.fuse_store_tables.specs.Saying.{Says, IsTabled};
+ghost use Rattle.fuse_store_tables.specs.Saying.{Says, IsTabled, IsRefusal, IsToMigrate};
 ghost use Rattle.fuse_store_tables.specs.Content.{Content};
-ghost use Rattle.fuse_store_tables.specs.Moves.{RestsAs, Takes, ServesAs, IsSafe};
-ghost use Rattle.fuse_store_tables.specs.inner.Performing.{PerformsAs, IsSure};
+ghost use Rattle.fuse_store_tables.specs.Moves.{RestsAs, Takes, ServesAs, IsSafe, LeavesAlone};
+ghost use Rattle.fuse_store_tables.specs.inner.Performing.{PerformsAs, IsSure, CommitsNothing};
+ghost use Rattle.fuse_store_tables.specs.inner.Performing.{OnlyReads};
 ghost use Rattle.fuse_store_tables.specs.Opening.{IsStored, IsFirst, IsSecond, IsOpened, IsLaid};
 ghost use Rattle.fuse_store_tables.specs.Opening.{IsMeta, HasMeta};
 ghost use Rattle.fuse_store_tables.specs.inner.Steps.{Tests};
@@ -23,6 +24,8 @@ fn open_first<S: Alter>(conn: &mut Connection<S>) -> Result<(), StoreFault>
     ensures fault { IsSure IsFirst (state S.Store conn.old) (state S.Store conn.new) result }
     ensures plain { IfErr result IsPlain }
     ensures whole { Tests (IsMeta 10) (state S.Store conn.old) (state S.Store conn.new) result }
+    ensures refused { IfErr result (λ f. IsRefusal f
+        → CommitsNothing (state S.Store conn.old) (state S.Store conn.new)) }
 {
     check_meta(conn, 10)?;
     Ok(migrate(conn)?)
@@ -34,6 +37,7 @@ fn open_second<S: Alter>(conn: &mut Connection<S>) -> Result<(), StoreFault>
     ensures fault { IsSure IsSecond (state S.Store conn.old) (state S.Store conn.new) result }
     ensures plain { IfErr result IsPlain }
     ensures whole { Tests (IsMeta 11) (state S.Store conn.old) (state S.Store conn.new) result }
+    ensures reads { OnlyReads (state S.Store conn.old) (state S.Store conn.new) result }
 {
     check_meta(conn, 11)
 }
@@ -47,6 +51,11 @@ fn work<S: Alter>(conn: &mut Connection<S>) -> Result<(), StoreFault>
     ensures whole { Tests HasMeta (state S.Store conn.old) (state S.Store conn.new) result }
     ensures tabled { HasCleanDisk (state S.Store conn.new)
         → OnOk result (IsTabled (state S.Store conn.old).now) }
+    ensures alone { (HasCleanDisk (state S.Store conn.new)
+        → IsToMigrate (state S.Store conn.old).now → ⊥)
+        → OnlyReads (state S.Store conn.old) (state S.Store conn.new) result }
+    ensures refused { IfErr result (λ f. IsRefusal f
+        → CommitsNothing (state S.Store conn.old) (state S.Store conn.new)) }
 {
     let schema = conn.schema();
     let first = has_first(schema);
@@ -56,8 +65,10 @@ fn work<S: Alter>(conn: &mut Connection<S>) -> Result<(), StoreFault>
         if !first {
             return Err(StoreFault::Damaged);
         }
-        open_first(conn)?;
-        Ok(())
+        match open_first(conn) {
+            Ok(()) => Ok(()),
+            Err(fault) => Err(fault),
+        }
     } else if version == 2 {
         if !second {
             return Err(StoreFault::Damaged);
@@ -66,6 +77,15 @@ fn work<S: Alter>(conn: &mut Connection<S>) -> Result<(), StoreFault>
     } else {
         Err(StoreFault::Version(version))
     }
+}
+
+// Outside a transaction, what is seen is what was committed.
+fn law_of_rest<S: Alter>(conn: &Connection<S>)
+    ensures { (state S.Store conn.now).in_transaction ≡ false
+        → IsTrue (state S.Store conn.now).is_open
+        → (state S.Store conn.now).now ≡ (state S.Store conn.now).committed }
+{
+    let _ = conn.is_autocommit();
 }
 
 // The transaction. A fault may leave it open.
@@ -81,11 +101,23 @@ fn transact<S: Alter>(conn: &mut Connection<S>) -> Result<(), StoreFault>
         → RestsAs (IsLaid c) (state S.Store conn.old) → HasMeta c) }
     ensures tabled { HasCleanDisk (state S.Store conn.new)
         → OnOk result (IsTabled (state S.Store conn.old).now) }
+    ensures alone { (IsToMigrate (state S.Store conn.old).now → ⊥)
+        → CommitsNothing (state S.Store conn.old) (state S.Store conn.new) }
+    ensures refused { IfErr result (λ f. IsRefusal f
+        → CommitsNothing (state S.Store conn.old) (state S.Store conn.new)) }
+    ensures ended { OnOk result (HasCleanDisk (state S.Store conn.new)
+        → ((state S.Store conn.new).in_transaction ≡ false)
+        × ((state S.Store conn.new).now ≡ (state S.Store conn.new).committed)) }
 {
+    law_of_rest(conn);
     begin(conn)?;
-    work(conn)?;
-    commit(conn)?;
-    Ok(())
+    match work(conn) {
+        Ok(()) => {
+            commit(conn)?;
+            Ok(())
+        }
+        Err(fault) => Err(fault),
+    }
 }
 
 /// Tests `meta`, and migrates a store of version 1. The commit is its last call of the database.
@@ -102,6 +134,14 @@ pub fn set_up<S: Alter>(conn: &mut Connection<S>) -> Result<(), StoreFault>
         → RestsAs (IsLaid c) (state S.Store conn.old) → HasMeta c) }
     ensures tabled { HasCleanDisk (state S.Store conn.new)
         → OnOk result (IsTabled (state S.Store conn.old).now) }
+    // Only a store of version 1 with all its tables is changed, however the call ends,
+    ensures alone { (IsToMigrate (state S.Store conn.old).now → ⊥)
+        → LeavesAlone (state S.Store conn.old) (state S.Store conn.new) }
+    // and no database that is refused. No transaction is left open.
+    ensures refused { IfErr result (λ f. IsRefusal f
+        → LeavesAlone (state S.Store conn.old) (state S.Store conn.new)) }
+    ensures ended { HasCleanDisk (state S.Store conn.new)
+        → (state S.Store conn.new).in_transaction ≡ false }
 {
     match transact(conn) {
         Ok(()) => Ok(()),

@@ -1,5 +1,5 @@
 -- A statement, and a whole transaction whose rollback is the caller's (own profile).
-use Rattle.std.specs.Prelude.{ℕ, List, Result, Ok, Err, OnOk, OnErr, IfErr}
+use Rattle.std.specs.Prelude.{◌≡◌, ◌≢◌, true, ℕ, List, Result, Ok, Err, OnOk, OnErr, IfErr}
 use Rattle.sqlite.specs.Order.{Row}
 use Rattle.sqlite.specs.Effect.{Database}
 use Rattle.sqlite.specs.declared.error.Error.{Error}
@@ -26,3 +26,20 @@ Performs f = PerformsAs Holds (λ c. Holds (f c))
 -- of a call that began with one of these databases, a fault says nothing of the store
 abbrev pub IsSure : {C X : Type 0} → (C → Database → Type 0) → State → State → Result X StoreFault → Type 0
 IsSure P old new r = HasCleanDisk new → IfErr r (λ f. IsReady P old → IsOutside f)
+
+-- ---- of any database, whatever its tables
+
+pub record CommitsNothing (old new : State) : Type 0 where
+  pub survives : Survives old new (λ _. ⊥)
+  pub kept : HasCleanDisk new → KeepsCommit old new
+
+-- a call that only reads
+pub record OnlyReads {X E : Type 0} (old new : State) (result : Result X E) : Type 0 where
+  pub commits : CommitsNothing old new
+  pub same : OnOk result (HasCleanDisk new → new.now ≡ old.now)
+
+-- a call within a transaction: it commits nothing, and the transaction stays open where the call succeeded
+pub record StaysWithin {X E : Type 0} (old new : State) (result : Result X E) : Type 0 where
+  pub survives : Survives old new (λ _. old.in_transaction ≢ true)
+  pub kept : HasCleanDisk new → old.in_transaction ≡ true → KeepsCommit old new
+  pub within : OnOk result (HasCleanDisk new → old.in_transaction ≡ true → new.in_transaction ≡ true)

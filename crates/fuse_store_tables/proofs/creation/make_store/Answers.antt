@@ -13,3 +13,9 @@ pub returns-in-Err-clause-fault : goal.returns-in-Err-clause-fault
 returns-in-Err-clause-fault g c clean =
     let before = state g.S.Store c.transact.new.conn in
     c.in-Err.ensures.fault (earlier before (state g.S.Store c.undo.new.conn) _ c.undo.ensures.survives clean)
+
+pub returns-in-Ok-clause-ended : goal.returns-in-Ok-clause-ended
+returns-in-Ok-clause-ended g c = λ clean. c.in-Ok.ensures.ended clean
+
+pub returns-in-Err-clause-ended : goal.returns-in-Err-clause-ended
+returns-in-Err-clause-ended g c = λ clean. c.undo.ensures.autocommit clean

@@ -31,3 +31,6 @@ returns-in_err-commit-clause-performs g c =
 pub returns-clause-performs : goal.returns-clause-performs
 returns-clause-performs g c =
     committed (IsBare no_schema) (IsNew c.args.now) _ _ _ _ _ _ _ _ c.in_ok-begin.ensures c.in_ok-make_all.ensures c.in_ok-commit.ensures
+
+pub returns-clause-ended : goal.returns-clause-ended
+returns-clause-ended g c = λ clean. (c.in_ok-commit.ensures.ended clean).1

@@ -1,8 +1,10 @@
+use Rattle.std.proofs.Common.{[]}
 use Rattle.sqlite.specs.Held.{state}
 use Rattle.fuse_store_tables.specs.Layout.{with_answers}
 use Rattle.fuse_store_tables.specs.Content.{Holds, HoldsAs, stored}
 use Rattle.fuse_store_tables.specs.Opening.{IsFirst, IsSecond}
 use Rattle.fuse_store_tables.proofs.OpenLemmas.{meta_looks, meta_found, in_order, any_rows}
+use Rattle.fuse_store_tables.proofs.Selects.{only_reads, meta_select}
 use Rattle.fuse_store_tables.proofs.meta.select_meta.Goals as goal
 
 pub returns-clause-unchanged : goal.returns-clause-unchanged
@@ -25,3 +27,7 @@ pub returns-clause-shows : goal.returns-clause-shows
 returns-clause-shows g c =
     meta_found (λ k. HoldsAs with_answers (stored k)) Holds any_rows (λ rows. rows.items) (state g.S.Store c.args.conn.now)
     (state g.S.Store c.query_all.new.self) c.query_all.result c.query_all.ensures.ok
+
+pub returns-clause-reads : goal.returns-clause-reads
+returns-clause-reads g c = only_reads _ [] meta_select (λ rows. rows.items) (state g.S.Store c.args.conn.now) (state g.S.Store c.query_all.new.self)
+    c.query_all.result c.query_all.ensures.ok c.query_all.ensures.err c.query_all.ensures.survives

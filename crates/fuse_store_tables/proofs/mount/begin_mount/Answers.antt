@@ -7,6 +7,7 @@ use Rattle.fuse_store_tables.specs.Moves.{Serves}
 use Rattle.fuse_store_tables.proofs.Joining.{served, undone}
 use Rattle.fuse_store_tables.proofs.Fitting.{fit_cleared, second_serves}
 use Rattle.fuse_store_tables.specs.inner.Transaction.{open_undone}
+use Rattle.fuse_store_tables.proofs.Alone.{undone_alone}
 use Rattle.fuse_store_tables.proofs.mount.begin_mount.Goals as goal
 
 pub returns-in-Ok-clause-fit : goal.returns-in-Ok-clause-fit
@@ -24,3 +25,14 @@ pub returns-in-Err-clause-open : goal.returns-in-Err-clause-open
 returns-in-Err-clause-open g c =
     open_undone (state g.S.Store c.args.conn.now) (state g.S.Store c.transact.new.conn) (state g.S.Store c.undo.new.conn) _ c.in-Err.fault
     c.in-Err.ensures.open c.undo.ensures
+
+pub returns-in-Err-clause-refused : goal.returns-in-Err-clause-refused
+returns-in-Err-clause-refused g c = λ refused.
+    undone_alone (state g.S.Store c.args.conn.now) (state g.S.Store c.transact.new.conn) (state g.S.Store c.undo.new.conn) (c.in-Err.ensures.refused refused)
+    c.undo.ensures
+
+pub returns-in-Ok-clause-ended : goal.returns-in-Ok-clause-ended
+returns-in-Ok-clause-ended g c = λ clean. c.in-Ok.ensures.ended clean
+
+pub returns-in-Err-clause-ended : goal.returns-in-Err-clause-ended
+returns-in-Err-clause-ended g c = λ clean. c.undo.ensures.autocommit clean

@@ -6,6 +6,7 @@ use Rattle.fuse_store_tables.specs.inner.Columns.{number_of, shown_number}
 use Rattle.fuse_store_tables.specs.inner.Steps.{without_blocks_of, without_unnamed_blocks}
 use Rattle.fuse_store_tables.proofs.BlocksOf.{unnamed_blocks}
 use Rattle.fuse_store_tables.proofs.Joining.{makes_as_too, sure_after, told_of}
+use Rattle.fuse_store_tables.proofs.Within.{within_then, within_failed}
 use Rattle.fuse_store_tables.proofs.mount.clear_blocks.Goals as goal
 
 pub returns-clause-made : goal.returns-clause-made
@@ -21,3 +22,9 @@ returns-clause-fault g c =
     c.delete_blocks_of.result c.delete_blocks_of.ensures.made.stays.survives
     (λ clean k at. told_of (λ ns. c.as_slice.result.now ≡ map shown_number ns) c.delete_blocks_of.result c.delete_blocks_of.ensures.fault
     (unnamed_numbers k.nodes) (c.as_slice.ensures.value ∙ c.in_ok-nodes.ensures.found clean k at))
+
+pub returns-in_err-nodes-clause-within : goal.returns-in_err-nodes-clause-within
+returns-in_err-nodes-clause-within g c = within_failed _ _ _ _ c.in_err-nodes.ensures.within c.from_residual.ensures.0
+
+pub returns-clause-within : goal.returns-clause-within
+returns-clause-within g c = within_then _ _ _ _ _ c.in_ok-nodes.ensures.within c.delete_blocks_of.ensures.within

@@ -3,8 +3,10 @@ use Rattle.fuse_store_tables.specs.Content.{Holds}
 use Rattle.fuse_store_tables.specs.Clearing.{cleared}
 use Rattle.fuse_store_tables.specs.inner.Performing.{Performs}
 use Rattle.fuse_store_tables.proofs.Joining.{failed_first, failed_inside, failed_commit, committed, on_err}
-use Rattle.fuse_store_tables.specs.Moves.{StaysOpen}
+use Rattle.fuse_store_tables.specs.Moves.{RestsAs, StaysOpen}
 use Rattle.fuse_store_tables.specs.inner.Transaction.{open_first, open_inside, open_failed, open_committed}
+use Rattle.fuse_store_tables.proofs.Alone.{commits_then, begins_nothing, on_refusal, outside_err}
+use Rattle.fuse_store_tables.proofs.Within.{nothing_within}
 use Rattle.fuse_store_tables.proofs.mount.transact.Goals as goal
 
 pub returns-in_err-begin-clause-performs : goal.returns-in_err-begin-clause-performs
@@ -12,37 +14,50 @@ returns-in_err-begin-clause-performs g c =
     on_err (Performs cleared (state g.S.Store c.args.conn.now) (state g.S.Store c.begin.new.conn)) c.from_residual.result c.from_residual.ensures.0
     (λ e. failed_first Holds (λ k. Holds (cleared k)) _ _ _ e c.in_err-begin.ensures)
 
-pub returns-in_err-clear-clause-performs : goal.returns-in_err-clear-clause-performs
-returns-in_err-clear-clause-performs g c =
-    on_err (Performs cleared (state g.S.Store c.args.conn.now) (state g.S.Store c.clear.new.conn)) c.from_residual-in_err-clear.result
-    c.from_residual-in_err-clear.ensures.0
-    (λ e. failed_inside Holds (λ k. Holds (cleared k)) (λ k. Holds (cleared k)) _ _ _ _ _ e c.in_ok-begin.ensures c.in_err-clear.ensures.made)
+pub returns-in-Err-clause-performs : goal.returns-in-Err-clause-performs
+returns-in-Err-clause-performs g c =
+    failed_inside Holds (λ k. Holds (cleared k)) (λ k. Holds (cleared k)) _ _ _ _ _ c.in-Err.fault c.in_ok-begin.ensures c.in-Err.ensures.made
 
-pub returns-in_err-commit-clause-performs : goal.returns-in_err-commit-clause-performs
-returns-in_err-commit-clause-performs g c =
-    on_err (Performs cleared (state g.S.Store c.args.conn.now) (state g.S.Store c.commit.new.conn)) c.from_residual-in_err-commit.result
-    c.from_residual-in_err-commit.ensures.0
-    (λ e. failed_commit Holds (λ k. Holds (cleared k)) _ _ _ _ _ _ _ e c.in_ok-begin.ensures c.in_ok-clear.ensures.made c.in_err-commit.ensures)
+pub returns-in_err-commit-in-Ok-clause-performs : goal.returns-in_err-commit-in-Ok-clause-performs
+returns-in_err-commit-in-Ok-clause-performs g c =
+    on_err (Performs cleared (state g.S.Store c.args.conn.now) (state g.S.Store c.commit.new.conn)) c.from_residual-in_err-commit-in-Ok.result
+    c.from_residual-in_err-commit-in-Ok.ensures.0
+    (λ e. failed_commit Holds (λ k. Holds (cleared k)) _ _ _ _ _ _ _ e c.in_ok-begin.ensures c.in-Ok.ensures.made c.in_err-commit-in-Ok.ensures)
 
-pub returns-clause-performs : goal.returns-clause-performs
-returns-clause-performs g c = committed Holds (λ k. Holds (cleared k)) _ _ _ _ _ _ _ _ c.in_ok-begin.ensures c.in_ok-clear.ensures.made c.in_ok-commit.ensures
+pub returns-in_ok-commit-in-Ok-clause-performs : goal.returns-in_ok-commit-in-Ok-clause-performs
+returns-in_ok-commit-in-Ok-clause-performs g c = committed Holds (λ k. Holds (cleared k)) _ _ _ _ _ _ _ _ c.in_ok-begin.ensures c.in-Ok.ensures.made c.in_ok-commit-in-Ok.ensures
 
 pub returns-in_err-begin-clause-open : goal.returns-in_err-begin-clause-open
 returns-in_err-begin-clause-open g c =
     on_err (StaysOpen (state g.S.Store c.args.conn.now) (state g.S.Store c.begin.new.conn)) c.from_residual.result c.from_residual.ensures.0
     (λ e. open_first _ _ _ e c.in_err-begin.ensures)
 
-pub returns-in_err-clear-clause-open : goal.returns-in_err-clear-clause-open
-returns-in_err-clear-clause-open g c =
-    on_err (StaysOpen (state g.S.Store c.args.conn.now) (state g.S.Store c.clear.new.conn)) c.from_residual-in_err-clear.result
-    c.from_residual-in_err-clear.ensures.0
-    (λ e. open_inside _ _ _ _ e c.in_ok-begin.ensures c.in_err-clear.ensures.made.stays.survives)
+pub returns-in-Err-clause-open : goal.returns-in-Err-clause-open
+returns-in-Err-clause-open g c =
+    open_inside _ _ _ _ c.in-Err.fault c.in_ok-begin.ensures c.in-Err.ensures.made.stays.survives
 
-pub returns-in_err-commit-clause-open : goal.returns-in_err-commit-clause-open
-returns-in_err-commit-clause-open g c =
-    on_err (StaysOpen (state g.S.Store c.args.conn.now) (state g.S.Store c.commit.new.conn)) c.from_residual-in_err-commit.result
-    c.from_residual-in_err-commit.ensures.0
-    (λ e. open_failed _ _ _ _ _ _ e c.in_ok-begin.ensures c.in_ok-clear.ensures.made.stays.survives c.in_err-commit.ensures)
+pub returns-in_err-commit-in-Ok-clause-open : goal.returns-in_err-commit-in-Ok-clause-open
+returns-in_err-commit-in-Ok-clause-open g c =
+    on_err (StaysOpen (state g.S.Store c.args.conn.now) (state g.S.Store c.commit.new.conn)) c.from_residual-in_err-commit-in-Ok.result
+    c.from_residual-in_err-commit-in-Ok.ensures.0
+    (λ e. open_failed _ _ _ _ _ _ e c.in_ok-begin.ensures c.in-Ok.ensures.made.stays.survives c.in_err-commit-in-Ok.ensures)
 
-pub returns-clause-open : goal.returns-clause-open
-returns-clause-open g c = open_committed _ _ _ _ _ _ _ c.in_ok-begin.ensures c.in_ok-clear.ensures.made.stays.survives c.in_ok-commit.ensures
+pub returns-in_ok-commit-in-Ok-clause-open : goal.returns-in_ok-commit-in-Ok-clause-open
+returns-in_ok-commit-in-Ok-clause-open g c = open_committed _ _ _ _ _ _ _ c.in_ok-begin.ensures c.in-Ok.ensures.made.stays.survives c.in_ok-commit-in-Ok.ensures
+
+-- ---- of any database
+
+pub returns-in_err-begin-clause-refused : goal.returns-in_err-begin-clause-refused
+returns-in_err-begin-clause-refused g c =
+    on_refusal (state g.S.Store c.args.conn.now) (state g.S.Store c.begin.new.conn) c.from_residual.result (begins_nothing _ _ _ c.in_err-begin.ensures)
+
+pub returns-in-Err-clause-refused : goal.returns-in-Err-clause-refused
+returns-in-Err-clause-refused g c = λ refused.
+    commits_then _ _ _ (begins_nothing _ _ _ c.in_ok-begin.ensures) (nothing_within _ _ _ (λ clean. (c.in_ok-begin.ensures.begun clean).1) c.in-Err.ensures.within)
+
+pub returns-in_ok-commit-in-Ok-clause-ended : goal.returns-in_ok-commit-in-Ok-clause-ended
+returns-in_ok-commit-in-Ok-clause-ended g c = λ clean. (c.in_ok-commit-in-Ok.ensures.ended clean).1
+
+pub returns-in_err-commit-in-Ok-clause-fault : goal.returns-in_err-commit-in-Ok-clause-fault
+returns-in_err-commit-in-Ok-clause-fault g c = λ clean.
+    outside_err (λ k. RestsAs (Holds k) (state g.S.Store c.args.conn.now)) _ c.from_residual-in_err-commit-in-Ok.result c.from_residual-in_err-commit-in-Ok.ensures.1

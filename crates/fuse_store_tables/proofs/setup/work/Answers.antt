@@ -1,33 +1,39 @@
-use Rattle.std.proofs.Common.{Ok, sym, ◌∙◌}
+use Rattle.std.proofs.Common.{Ok, Err, inl, inr, sym, ◌∙◌}
 use Rattle.sqlite.specs.Held.{state}
 use Rattle.fuse_keeper.specs.declared.fault.StoreFault.{StoreFault}
 use Rattle.fuse_store_tables.specs.Opening.{IsStored, IsFirst, IsSecond, IsOpened}
 use Rattle.fuse_store_tables.specs.Moves.{Takes}
-use Rattle.fuse_store_tables.proofs.Joining.{then_as, fails_next}
+use Rattle.fuse_store_tables.proofs.Joining.{then_as, fails_as}
 use Rattle.fuse_store_tables.proofs.Either.{narrowed}
 use Rattle.fuse_store_tables.proofs.MigrationLemmas.{found_first, found_second}
 use Rattle.fuse_store_tables.proofs.OpenLemmas.{tested_second}
-use Rattle.fuse_store_tables.proofs.Tabled.{refused_first, refused_second, tabled_first, tabled_second}
+use Rattle.fuse_store_tables.proofs.Tabled.{refused_first, refused_second, tabled_first, tabled_second, to_migrate}
+use Rattle.fuse_store_tables.proofs.Alone.{on_refusal, commits_then, reads_told, reads_failed, reads_then, reads_never}
+use Rattle.sqlite.proofs.StateLemmas.{survives_then}
+use Rattle.fuse_store_tables.specs.inner.Following.{earlier}
+use Rattle.fuse_store_tables.specs.inner.Versions.{reported_damaged, plain_says}
+use Rattle.fuse_store_tables.proofs.Sayings.{says_if}
 use Rattle.fuse_store_tables.proofs.setup.work.Goals as goal
 
-pub returns-in_err-open_first-clause-opened : goal.returns-in_err-open_first-clause-opened
-returns-in_err-open_first-clause-opened g c =
+pub returns-in-Err-clause-opened : goal.returns-in-Err-clause-opened
+returns-in-Err-clause-opened g c =
     let a = state g.S.Store c.args.conn.now in
     let b = state g.S.Store c.find_version.new.conn in
     let v = c.in_ok-version.version in
     let first : Takes {E = StoreFault} IsStored IsFirst a b (Ok v) = narrowed IsStored IsStored IsFirst a b v v c.in_ok-version.ensures.unchanged
     (λ clean k at on. found_first a b v c.if-version-eq1.true (c.in_ok-version.ensures.value clean) k at on) in
-    fails_next IsStored IsFirst IsOpened IsOpened _ _ _ _ _ _ first c.in_err-open_first.ensures.made c.from_residual-in_err-open_first.ensures.0
+    fails_as IsStored IsOpened IsOpened a (state g.S.Store c.open_first.new.conn) c.in-Err.fault c.in-Err.fault
+    (then_as IsStored IsFirst IsOpened a b (state g.S.Store c.open_first.new.conn) v (Err c.in-Err.fault) first c.in-Err.ensures.made)
 
-pub returns-in_ok-open_first-clause-opened : goal.returns-in_ok-open_first-clause-opened
-returns-in_ok-open_first-clause-opened g c =
+pub returns-in-Ok-clause-opened : goal.returns-in-Ok-clause-opened
+returns-in-Ok-clause-opened g c =
     let a = state g.S.Store c.args.conn.now in
     let b = state g.S.Store c.find_version.new.conn in
     let v = c.in_ok-version.version in
     let first : Takes {E = StoreFault} IsStored IsFirst a b (Ok v) = narrowed IsStored IsStored IsFirst a b v v c.in_ok-version.ensures.unchanged
     (λ clean k at on. found_first a b v c.if-version-eq1.true (c.in_ok-version.ensures.value clean) k at on) in
     let all = then_as IsStored IsFirst IsOpened a b (state g.S.Store c.open_first.new.conn) v (Ok _) first
-    c.in_ok-open_first.ensures.made in
+    c.in-Ok.ensures.made in
     record { stays = all.stays; turns = all.turns }
 
 pub returns-else-not-second-clause-opened : goal.returns-else-not-second-clause-opened
@@ -57,10 +63,10 @@ returns-then-not-second-clause-fault g c =
     refused_second (state g.S.Store c.args.conn.now) (state g.S.Store c.find_version.new.conn) c.schema-schema.result.now c.schema-schema.ensures.value
     c.in_ok-version.version (sym c.has_second-second.ensures ∙ c.if-not-second.true) c.if-version-eq2.true c.in_ok-version.ensures.value
 
-pub returns-in_ok-open_first-clause-tabled : goal.returns-in_ok-open_first-clause-tabled
-returns-in_ok-open_first-clause-tabled g c =
+pub returns-in-Ok-clause-tabled : goal.returns-in-Ok-clause-tabled
+returns-in-Ok-clause-tabled g c =
     tabled_first (state g.S.Store c.args.conn.now) (state g.S.Store c.find_version.new.conn) (state g.S.Store c.open_first.new.conn) c.schema-schema.result.now
-    c.schema-schema.ensures.value c.in_ok-version.version c.in_ok-version.ensures.reports c.in_ok-open_first.ensures.made.stays.survives c.if-version-eq1.true
+    c.schema-schema.ensures.value c.in_ok-version.version c.in_ok-version.ensures.reports c.in-Ok.ensures.made.stays.survives c.if-version-eq1.true
     (sym c.has_first-first.ensures ∙ c.if-not-first.false)
 
 pub returns-else-not-second-clause-tabled : goal.returns-else-not-second-clause-tabled
@@ -69,3 +75,65 @@ returns-else-not-second-clause-tabled g c =
     c.schema-schema.result.now c.schema-schema.ensures.value
     c.in_ok-version.version c.in_ok-version.ensures.reports c.open_second.ensures.opened.stays.survives c.open_second.result
     c.if-version-eq2.true (sym c.has_second-second.ensures ∙ c.if-not-second.false)
+
+-- ---- of any database
+
+pub returns-in_err-version-clause-alone : goal.returns-in_err-version-clause-alone
+returns-in_err-version-clause-alone g c = λ other. reads_failed _ _ _ _ c.from_residual.ensures.0 c.in_err-version.ensures.reads
+
+pub returns-then-not-first-clause-alone : goal.returns-then-not-first-clause-alone
+returns-then-not-first-clause-alone g c = λ other. reads_told _ _ _ _ c.in_ok-version.ensures.reads
+
+pub returns-in-Ok-clause-alone : goal.returns-in-Ok-clause-alone
+returns-in-Ok-clause-alone g c = λ other.
+    let a = state g.S.Store c.args.conn.now in
+    let b = state g.S.Store c.find_version.new.conn in
+    let d = state g.S.Store c.open_first.new.conn in
+    reads_never a d (Ok _) (λ clean. other clean (to_migrate a b d c.schema-schema.result.now c.schema-schema.ensures.value c.in_ok-version.version
+    c.in_ok-version.ensures.reports c.in-Ok.ensures.made.stays.survives c.if-version-eq1.true (sym c.has_first-first.ensures ∙ c.if-not-first.false) clean))
+    (survives_then a b d _ _ (λ _. Unit {0}) (λ _ _ _. tt) (λ _ _ _. tt) c.in_ok-version.ensures.reads.commits.survives c.in-Ok.ensures.made.stays.survives)
+
+pub returns-in-Err-clause-alone : goal.returns-in-Err-clause-alone
+returns-in-Err-clause-alone g c = λ other.
+    let a = state g.S.Store c.args.conn.now in
+    let b = state g.S.Store c.find_version.new.conn in
+    let d = state g.S.Store c.open_first.new.conn in
+    reads_never a d (Err _) (λ clean. other clean (to_migrate a b d c.schema-schema.result.now c.schema-schema.ensures.value c.in_ok-version.version
+    c.in_ok-version.ensures.reports c.in-Err.ensures.made.stays.survives c.if-version-eq1.true (sym c.has_first-first.ensures ∙ c.if-not-first.false) clean))
+    (survives_then a b d _ _ (λ _. Unit {0}) (λ _ _ _. tt) (λ _ _ _. tt) c.in_ok-version.ensures.reads.commits.survives c.in-Err.ensures.made.stays.survives)
+
+pub returns-then-not-second-clause-alone : goal.returns-then-not-second-clause-alone
+returns-then-not-second-clause-alone g c = λ other. reads_told _ _ _ _ c.in_ok-version.ensures.reads
+
+pub returns-else-not-second-clause-alone : goal.returns-else-not-second-clause-alone
+returns-else-not-second-clause-alone g c = λ other. reads_then _ _ _ _ _ c.in_ok-version.ensures.reads c.open_second.ensures.reads
+
+pub returns-in-Err-clause-refused : goal.returns-in-Err-clause-refused
+returns-in-Err-clause-refused g c = λ refused. commits_then _ _ _ c.in_ok-version.ensures.reads.commits (c.in-Err.ensures.refused refused)
+
+pub returns-else-not-second-clause-refused : goal.returns-else-not-second-clause-refused
+returns-else-not-second-clause-refused g c =
+    on_refusal (state g.S.Store c.args.conn.now) (state g.S.Store c.open_second.new.conn) c.open_second.result
+    (commits_then _ (state g.S.Store c.find_version.new.conn) _ c.in_ok-version.ensures.reads.commits c.open_second.ensures.reads.commits)
+
+-- ---- what is damaged is of version 1 or 2
+
+pub returns-then-not-first-clause-says : goal.returns-then-not-first-clause-says
+returns-then-not-first-clause-says g c = λ clean. reported_damaged _ _ (c.in_ok-version.ensures.reports clean) (inl c.if-version-eq1.true)
+
+pub returns-in-Err-clause-says : goal.returns-in-Err-clause-says
+returns-in-Err-clause-says g c = λ clean.
+    let b = state g.S.Store c.find_version.new.conn in
+    let d = state g.S.Store c.open_first.new.conn in
+    plain_says _ c.in-Err.fault (reported_damaged _ _ (c.in_ok-version.ensures.reports (earlier b d _ c.in-Err.ensures.made.stays.survives clean))
+    (inl c.if-version-eq1.true)) c.in-Err.ensures.plain
+
+pub returns-then-not-second-clause-says : goal.returns-then-not-second-clause-says
+returns-then-not-second-clause-says g c = λ clean. reported_damaged _ _ (c.in_ok-version.ensures.reports clean) (inr c.if-version-eq2.true)
+
+pub returns-else-not-second-clause-says : goal.returns-else-not-second-clause-says
+returns-else-not-second-clause-says g c = λ clean.
+    let b = state g.S.Store c.find_version.new.conn in
+    let d = state g.S.Store c.open_second.new.conn in
+    says_if _ c.open_second.result (reported_damaged _ _ (c.in_ok-version.ensures.reports (earlier b d _ c.open_second.ensures.opened.stays.survives clean))
+    (inr c.if-version-eq2.true)) c.open_second.ensures.plain
