@@ -17,6 +17,10 @@ use Rattle.fuse_store.specs.TableState.{table_told}
 abbrev pub LiesInMemory : {S : Type 0} → Ghosts S → Type 0
 LiesInMemory {S} g = (conn : Held S) → HasCleanDisk (state g conn) × IsTrue (state g conn).is_open
 
+-- the connection of a keeper
+abbrev pub conn_of : {S : Type 0} → (g : Ghosts S) → TableKeeper S g → Held S
+conn_of g k = k.look.conn
+
 abbrev pub keeper_told : {S : Type 0} → (g : Ghosts S) → TableKeeper S g → KeeperState the_tree
 keeper_told g k = table_told (LiesInMemory g) (state g k.look.conn) k.lot k.failed
 

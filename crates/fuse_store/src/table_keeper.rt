@@ -36,12 +36,11 @@ impl<S: Alter> TableKeeper<S> {
     ghost use Rattle.sqlite.specs.State.{HasCleanDisk, Survives};
     ghost use Rattle.sqlite_schema.specs.Names.{table_named};
     ghost use Rattle.fuse_tree.specs.State.{new_store};
-    ghost use Rattle.fuse_tree.specs.Rows.{Rows, rowed};
+    ghost use Rattle.fuse_tree.specs.Rows.{rowed};
     ghost use Rattle.fuse_keeper.specs.declared.fault.StoreFault.TheVariants.{NotAStore};
     ghost use Rattle.fuse_keeper.specs.KeeperState.{IsFirm, StandsFor};
-    ghost use Rattle.fuse_keeper.specs.Stands.{Records};
     ghost use Rattle.fuse_keeper.specs.Lots.{SameLots};
-    ghost use Rattle.fuse_store_tables.specs.Content.{Content, LeftAs};
+    ghost use Rattle.fuse_store_tables.specs.Content.{Content};
     ghost use Rattle.fuse_store_tables.specs.Faults.{IsOutside, IsPlain};
     ghost use Rattle.fuse_store_tables.specs.Layout.{no_schema};
     ghost use Rattle.fuse_store_tables.specs.Making.{IsBare};
@@ -50,14 +49,12 @@ impl<S: Alter> TableKeeper<S> {
     ghost use Rattle.fuse_store_tables.specs.Saying.{Says, IsTabled};
     ghost use Rattle.fuse_store_tree.specs.Store.{records_of};
     ghost use Rattle.fuse_store_tree.specs.Holding.{lots_of};
-    ghost use Rattle.fuse_store_tree.specs.Lots.{lots_in};
     ghost use Rattle.fuse_store.specs.Creating.{IsBlank, LeavesNew, new_holding};
-    ghost use Rattle.fuse_store.specs.Opening.{Stored, StoredFor, OpenedFor, WasFor};
+    ghost use Rattle.fuse_store.specs.Opening.{Stored, WasFor};
     ghost use Rattle.fuse_store.specs.Opening.{OpenRefused, opened_for};
     ghost use Rattle.fuse_store.specs.Starting.{LeavesBegun, IsLeftOrOpened, begun_for};
     ghost use Rattle.fuse_store.specs.Starting.{BeginsAfter};
-    ghost use Rattle.fuse_store.specs.TableState.{HoldsIn, MayLeave};
-    ghost use Rattle.fuse_store.specs.TableKeeper.{keeper_told, SharesMedium};
+    ghost use Rattle.fuse_store.specs.TableKeeper.{keeper_told, conn_of, SharesMedium};
 
     /// A new store in a blank database, made at this moment in one transaction. A fault gives the
     /// connection back.
@@ -218,19 +215,7 @@ impl<S: Alter> TableKeeper<S> {
 
     /// The connection, for another opening. Allocates nothing.
     pub fn into_connection(self) -> Connection<S>
-        ensures held { (rows : Rows) (records : Records)
-            → (keeper_told S.Store self).holds rows records
-            → HoldsIn (state S.Store result) rows records }
-        ensures honest { HasCleanDisk (state S.Store result)
-            → (keeper_told S.Store self).is_honest }
-        ensures clean { (keeper_told S.Store self).is_honest
-            → HasCleanDisk (state S.Store result) }
-        ensures lots { SameLots (keeper_told S.Store self).lots
-            (lots_in (keeper_told S.Store self).lots.current (state S.Store result).now) }
-        // A crash may leave the same trees as before.
-        ensures left { (rows : Rows) (records : Records)
-            → MayLeave (state S.Store result) rows records
-            → (keeper_told S.Store self).may_leave rows records }
+        ensures same { result ≡ conn_of S.Store self }
     {
         let look = self.look;
         look.conn
