@@ -2,6 +2,7 @@ pub mod Simulations
 pub mod Scripted
 pub mod Dumps
 pub mod Faults
+pub mod Firmness
 pub mod Known
 pub mod Lines
 pub mod Printed

@@ -1,6 +1,8 @@
 ghost use Rattle.std.specs.Prelude.{◌≡◌, ◌≢◌, ◌≤◌, ◌<◌, ◌^◌, true, false, None};
 ghost use Rattle.std.specs.Prelude.{IfErr, OnOk};
+ghost use Rattle.fuse_keeper.specs.KeeperState.{WhereHeld};
 ghost use Rattle.fuse_session.specs.DevicePort.{device_told};
+ghost use Rattle.fuse_session.specs.Serving.{KeepsFirm};
 ghost use Rattle.fuse_commands.specs.Endings.{status_of};
 ghost use Rattle.fuse_commands.specs.ServingRuns.{views, between, ServesPort, OverDevice};
 ghost use Rattle.fuse_commands.specs.ServingRuns.{Begins, NotServed, resume_ending};
@@ -74,6 +76,9 @@ pub fn serve_port<K: Keeper, P: Port, C: Clock>(
     ensures served { ServesPort (views K.told K.performed P.told P.became)
         (C.gave clock.old clock.new) (between keeper.old keeper.new port.old port.new) begin
         result.0 result.1 }
+    // A keeper that has not failed is as firm as before, for the next session.
+    ensures firm { (K.told keeper.new).has_failed ≡ false → WhereHeld (K.told keeper.old)
+        (KeepsFirm (K.told keeper.old) (K.told keeper.new)) }
     ensures failed { (K.told keeper.new).has_failed ≡ true → 3 ≤ status_of result.0 }
     ensures usage { status_of result.0 ≢ 2 }
     ensures same { K.became keeper.old keeper.new 0 }
@@ -102,6 +107,9 @@ pub fn run_serve<K: Keeper, R: Source, W: Sink, C: Clock>(
         (views K.told K.performed device_told ⟦<DevicePort<R, W> as Port>⟧.became)
         (C.gave clock.old clock.new) (between keeper.old keeper.new port port') begin
         result.0 result.1) }
+    // A keeper that has not failed is as firm as before, for the next session.
+    ensures firm { (K.told keeper.new).has_failed ≡ false → WhereHeld (K.told keeper.old)
+        (KeepsFirm (K.told keeper.old) (K.told keeper.new)) }
     ensures failed { (K.told keeper.new).has_failed ≡ true → 3 ≤ status_of result.0 }
     ensures usage { status_of result.0 ≢ 2 }
     ensures same { K.became keeper.old keeper.new 0 }
