@@ -132,6 +132,10 @@ pub never_refuses : {X : Type 0} (a b : State) (e : Error) (r : Result X StoreFa
 never_refuses a b e (Ok x) same = tt
 never_refuses a b e (Err f) same = λ refused. absurd (unrefusing e (subst IsRefusal same refused))
 
+pub outside_is : {X : Type 0} (e : Error) (r : Result X StoreFault) → IsErrAnd r (λ f. f ≡ fault_of e) → IfErr r IsOutside
+outside_is e (Ok x) same = tt
+outside_is e (Err f) same = subst IsOutside (sym same) (outside e)
+
 pub outside_err : {C X : Type 0} (R : C → Type 0) (e : Error) (r : Result X StoreFault) → IsErrAnd r (λ f. f ≡ fault_of e)
     → IfErr r (λ f. (c : C) → R c → IsOutside f)
 outside_err R e (Ok x) same = tt

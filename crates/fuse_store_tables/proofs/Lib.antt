@@ -39,3 +39,4 @@ pub mod Fitting
 pub mod Selects
 pub mod Alone
 pub mod Within
+pub mod Renewed

@@ -1,5 +1,5 @@
 -- A statement within a transaction commits nothing and ends nothing, over any database.
-use Rattle.std.proofs.Common.{◌≡◌, ◌≢◌, ◌+◌, inl, inr, ℕ, Option, OnOk, List, [], length, ◌==◌, Bool, true, false, cond, Ok, Err, Result, IfOk, IfErr, sym, ap, subst, ◌∙◌}
+use Rattle.std.proofs.Common.{◌≡◌, ◌≢◌, ◌+◌, inl, inr, ℕ, Option, OnOk, List, [], length, ◌==◌, Bool, true, false, cond, not, ◌&&◌, Ok, Err, Result, IfOk, IfErr, sym, ap, subst, ◌∙◌}
 use Rattle.std.specs.Result.{IsErr}
 use Rattle.sqlite.specs.Tree.{Trees}
 use Rattle.sqlite.specs.Order.{Row}
@@ -12,13 +12,13 @@ use Rattle.sqlite_ast.specs.declared.Rows.{Rows}
 use Rattle.sqlite_ast.specs.declared.Upsert.{Upsert}
 use Rattle.sqlite_syntax.specs.declared.statement.Parsed.{Parsed}
 use Rattle.sqlite_schema.specs.declared.command.Command.{Command}
-use Rattle.sqlite_schema.specs.declared.command.Command.TheVariants.{Insert, InsertOr, Update, Delete}
+use Rattle.sqlite_schema.specs.declared.command.Command.TheVariants.{Insert, InsertOr, Update, Delete, CreateTable, CreateIndex, Nothing}
 use Rattle.sqlite_schema.specs.declared.command.Conflict.{Conflict}
 use Rattle.sqlite_schema.specs.declared.command.Conflict.TheVariants as how
 use Rattle.sqlite_schema.specs.declared.command.Returning.{Returning}
 use Rattle.sqlite_resolve.specs.declared.compiled.Compiled.{Compiled}
 use Rattle.sqlite_resolve.specs.declared.error.CompileError.{CompileError}
-use Rattle.sqlite_resolve.specs.declared.error.CompileError.TheVariants.{NoSuchTable}
+use Rattle.sqlite_resolve.specs.declared.error.CompileError.TheVariants.{NoSuchTable, Misuse, Unsupported}
 use Rattle.sqlite_resolve.specs.Lowering.{Checked, and_then}
 use Rattle.sqlite_resolve.specs.Scope.{Name}
 use Rattle.sqlite_resolve.specs.Body.{table_at}
@@ -26,6 +26,12 @@ use Rattle.sqlite_resolve.specs.Program.{program}
 use Rattle.sqlite_resolve.specs.Write.{updated, deleted}
 use Rattle.sqlite_resolve.specs.Given.{upserts}
 use Rattle.sqlite_resolve.specs.Compile.{first, compiled, planned, meaning, returning, command, target, new_rows, insert, insert_or, insert_or_abort, update, delete}
+use Rattle.sqlite_resolve.specs.Compile.{create_table, create_index, creates, is_attached, is_reserved}
+use Rattle.sqlite_resolve.specs.Define as define
+use Rattle.sqlite_schema.specs.Names.{table_named, index_named, view_named}
+use Rattle.std.specs.Option.{option_or}
+use Rattle.sqlite_ast.specs.declared.CreateTable.{CreateTable as WrittenTable}
+use Rattle.sqlite_ast.specs.declared.CreateIndex.{CreateIndex as WrittenIndex}
 use Rattle.sqlite_resolve.specs.Compile.{timed as formats_at, small, with_command}
 use Rattle.sqlite.specs.declared.error.Error.{Error}
 use Rattle.sqlite.specs.Listing.{understood, reads_listing, if_select, is_select, listing_schema}
@@ -35,25 +41,33 @@ use Rattle.sqlite.proofs.InsideLemmas.{executes_inside, commits_nothing, inside_
 use Rattle.fuse_store_tables.specs.inner.Following.{earlier}
 use Rattle.fuse_store_tables.specs.inner.Performing.{Ran, CommitsNothing, StaysWithin}
 use Rattle.fuse_store_tables.proofs.Control.{keeps_failed}
-use Rattle.fuse_store_tables.proofs.Emptied.{all_kept_text, lots_text, handles_text}
+use Rattle.fuse_store_tables.proofs.Emptied.{all_kept_text, lots_text, handles_text, answers_text}
 use Rattle.fuse_store_tables.proofs.Unnamed.{gone_text}
 use Rattle.fuse_store_tables.proofs.BlockRows.{blocks_text}
 use Rattle.fuse_store_tables.proofs.CounterRows.{update_text}
+use Rattle.fuse_store_tables.proofs.LotRows.{insert_text}
+use Rattle.fuse_store_tables.proofs.Refills.{copy_text, counter_text}
+use Rattle.fuse_store_tables.proofs.SchemaLemmas.{lots_text as lots_made_text, kept_text as kept_made_text, entries_in_order_text}
 use Rattle.sqlite_tied.specs.Compute.{everything}
 
--- ---- a text that is an INSERT, UPDATE or DELETE, whatever the schema
+-- ---- a text that changes rows, or makes a table or an index, whatever the schema
 
 abbrev pub IsEdit : Command → Type 0
 IsEdit (Insert at from) = Unit {0}
 IsEdit (InsertOr at way from clauses) = Unit {0}
 IsEdit (Update at q) = Unit {0}
 IsEdit (Delete at q) = Unit {0}
+IsEdit CreateTable = Unit {0}
+IsEdit (CreateIndex at) = Unit {0}
+IsEdit Nothing = Unit {0}
 IsEdit _ = ⊥
 
 abbrev IsWritten : Statement → Type 0
 IsWritten (written.Insert way name columns rows clauses shown) = Unit {0}
 IsWritten (written.Update name sets test shown) = Unit {0}
 IsWritten (written.Delete name test shown) = Unit {0}
+IsWritten (written.CreateTable def) = Unit {0}
+IsWritten (written.CreateIndex def) = Unit {0}
 IsWritten _ = ⊥
 
 abbrev pub IsEditText : Checked Parsed → Type 0
@@ -109,6 +123,20 @@ edits_delete schema name test =
     every_then IsEdit (target schema name) _ (λ at. every_then IsEdit (table_at schema at) _ (λ table.
     every_then IsEdit (deleted schema at table test) _ (λ d. every_then IsEdit (program schema [] d) _ (λ p. tt))))
 
+edits_create_table : (schema : Schema) (formats : List Name) (def : WrittenTable) → Every IsEdit (create_table schema formats def)
+unfolding create_table
+edits_create_table schema formats def =
+    either IsEdit (is_attached schema def.name) (Err Unsupported) _ tt (every_then IsEdit (creates def.if_missing def.name (option_or (table_named schema def.name)
+    (view_named schema def.name)) (index_named schema def.name)) _ (λ is_new. either IsEdit is_new _ (Ok Nothing) (every_then IsEdit (define.table formats def) _
+    (λ t. either IsEdit (length t.computed == length t.stamps.places && not def.resolves) (Ok CreateTable) (Err Unsupported) tt tt)) tt))
+
+edits_create_index : (schema : Schema) (def : WrittenIndex) → Every IsEdit (create_index schema def)
+unfolding create_index
+edits_create_index schema def =
+    either IsEdit (is_reserved def.table) (Err Misuse) _ tt (every_then IsEdit (target schema def.table) _ (λ at. every_then IsEdit (table_at schema at) _
+    (λ table. every_then IsEdit (creates def.if_missing def.name (index_named schema def.name) (option_or (table_named schema def.name)
+    (view_named schema def.name))) _ (λ is_new. either IsEdit is_new _ (Ok Nothing) (every_then IsEdit (define.index table def) _ (λ _. tt)) tt))))
+
 edits_command : (schema : Schema) (formats : List Name) (base : ℕ) (st : Statement) → IsWritten st → Every IsEdit (command schema formats base st)
 unfolding command
 edits_command schema formats base (written.Insert conflict.Abort name columns rows clauses shown) is = edits_insert_or_abort schema base name columns rows clauses
@@ -118,6 +146,8 @@ edits_command schema formats base (written.Insert conflict.Replace name columns 
     edits_insert_or schema base how.Replace name columns rows clauses
 edits_command schema formats base (written.Update name sets test shown) is = edits_update schema name sets test
 edits_command schema formats base (written.Delete name test shown) is = edits_delete schema name test
+edits_command schema formats base (written.CreateTable def) is = edits_create_table schema formats def
+edits_command schema formats base (written.CreateIndex def) is = edits_create_index schema def
 edits_command schema formats base _ is = absurd is
 
 abbrev Found : Command × Option Returning → Type 0
@@ -191,6 +221,34 @@ blocks_edit = tt
 pub update_edit : IsEditText (first update_text)
 unfolding first everything
 update_edit = tt
+
+pub answers_edit : IsEditText (first answers_text)
+unfolding first everything
+answers_edit = tt
+
+pub copy_edit : IsEditText (first copy_text)
+unfolding first everything
+copy_edit = tt
+
+pub counter_edit : IsEditText (first counter_text)
+unfolding first everything
+counter_edit = tt
+
+pub lot_edit : IsEditText (first insert_text)
+unfolding first everything
+lot_edit = tt
+
+pub lots_made_edit : IsEditText (first lots_made_text)
+unfolding first everything
+lots_made_edit = tt
+
+pub kept_made_edit : IsEditText (first kept_made_text)
+unfolding first everything
+kept_made_edit = tt
+
+pub index_made_edit : IsEditText (first entries_in_order_text)
+unfolding first everything
+index_made_edit = tt
 
 -- ---- so it stays within
 

@@ -3,7 +3,9 @@ use Rattle.std.specs.Prelude.{ℕ, Bool, not, List, [], map, filter, length, min
 use Rattle.std.specs.List.{list_any}
 use Rattle.std.specs.Ordering.{is_eq, nat_cmp}
 use Rattle.fuse_tree.specs.declared.rows.NodeRow.{NodeRow}
+use Rattle.sqlite.specs.Effect.{Database}
 use Rattle.fuse_store_tables.specs.Content.{Content, is_unnamed, set_counter}
+use Rattle.fuse_store_tables.specs.Opening.{IsSecond, opened}
 
 abbrev pub unnamed_numbers : List NodeRow → List ℕ
 unnamed_numbers nodes = map (λ n. n.node) (filter is_unnamed nodes)
@@ -39,3 +41,7 @@ cleared c = record c {
   lots = [];
   kept = [];
 }
+
+-- opened, and a mount of it begun
+abbrev pub IsBegun : Content → Database → Type 0
+IsBegun c = IsSecond (cleared (opened c))

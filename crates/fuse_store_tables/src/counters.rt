@@ -52,8 +52,9 @@ pub(crate) fn insert_counter<S: Alter>(
 ) -> Result<(), Error>
     requires key { key < 2 ^ 63 }
     requires value { value < 2 ^ 63 }
-    ensures { Makes (with_counter key value) (state S.Store conn.old) (state S.Store conn.new)
+    ensures made { Makes (with_counter key value) (state S.Store conn.old) (state S.Store conn.new)
         result }
+    ensures within { StaysWithin (state S.Store conn.old) (state S.Store conn.new) result }
 {
     let values = pair(key, value);
     run(conn, INSERT, &values)

@@ -2,7 +2,7 @@
 ghost use Rattle.std.specs.Prelude.{◌≡◌, false, IsTrue, IfErr, OnOk};
 ghost use Rattle.sqlite.specs.State.{HasCleanDisk};
 ghost use Rattle.sqlite.specs.Held.{state};
-ghost use Rattle.fuse_store_tables.specs.Faults.{IsPlain};
+ghost use Rattle.fuse_store_tables.specs.Faults.{IsOutside};
 ghost use Rattle.fuse_store_tables.specs.Layout.{no_schema, with_meta, with_nodes, with_entries};
 ghost use Rattle.fuse_store_tables.specs.Layout.{with_blocks, with_handles, with_answers, with_lots};
 ghost use Rattle.fuse_store_tables.specs.Layout.{with_kept, store_schema};
@@ -158,7 +158,7 @@ fn transact<S: Alter>(conn: &mut Connection<S>, now: Moment) -> Result<(), Store
         (state S.Store conn.new) result }
     ensures fault { IsSafe (IsBare no_schema) (state S.Store conn.old) (state S.Store conn.new)
         result }
-    ensures plain { IfErr result IsPlain }
+    ensures outside { IfErr result IsOutside }
     ensures was { HasCleanDisk (state S.Store conn.new)
         → OnOk result (IsTrue (state S.Store conn.old).is_open) }
     ensures ended { OnOk result (HasCleanDisk (state S.Store conn.new)
@@ -176,8 +176,8 @@ pub fn make_store<S: Alter>(conn: &mut Connection<S>, now: Moment) -> Result<(),
         (state S.Store conn.new) result }
     ensures fault { IsSafe (IsBare no_schema) (state S.Store conn.old) (state S.Store conn.new)
         result }
-    // The fault is never `NotAStore` or `Version`.
-    ensures plain { IfErr result IsPlain }
+    // The fault is that of a statement, and says nothing of the tables.
+    ensures outside { IfErr result IsOutside }
     ensures was { HasCleanDisk (state S.Store conn.new)
         → OnOk result (IsTrue (state S.Store conn.old).is_open) }
     // No transaction is left open.

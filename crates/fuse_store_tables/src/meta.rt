@@ -18,6 +18,7 @@ ghost use Rattle.fuse_store_tables.specs.inner.Performing.{IsSure, OnlyReads};
 ghost use Rattle.fuse_store_tables.specs.Opening.{IsStored, IsLaid, IsMetaFrom, IsMeta, most};
 ghost use Rattle.fuse_store_tables.specs.inner.Steps.{Tests};
 ghost use Rattle.fuse_store_tables.specs.inner.Columns.{shown_meta};
+ghost use Rattle.fuse_store_tables.specs.inner.Performing.{StaysWithin};
 
 use crate::columns::{misread, number_at};
 use fuse_keeper::StoreFault;
@@ -41,6 +42,7 @@ fn select_version<S: Alter>(conn: &mut Connection<S>) -> Result<Vec<Row>, Error>
         → InsideAs (IsLaid c) (state S.Store conn.old)
         → rows.items ≡ map shown_counter (option_to_list (at_by counter_key 1 c.counters))) }
     ensures reads { OnlyReads (state S.Store conn.old) (state S.Store conn.new) result }
+    ensures within { StaysWithin (state S.Store conn.old) (state S.Store conn.new) result }
 {
     conn.query_all(SELECT_VERSION, &[])
 }
@@ -55,6 +57,7 @@ fn select_meta<S: Alter>(conn: &mut Connection<S>) -> Result<Vec<Row>, Error>
     ensures shows { HasCleanDisk (state S.Store conn.new) → IfOk result (λ rows. (c : Content)
         → InsideAs (IsLaid c) (state S.Store conn.old) → rows.items ≡ map shown_meta c.counters) }
     ensures reads { OnlyReads (state S.Store conn.old) (state S.Store conn.new) result }
+    ensures within { StaysWithin (state S.Store conn.old) (state S.Store conn.new) result }
 {
     conn.query_all(SELECT_META, &[])
 }
@@ -104,6 +107,7 @@ pub(crate) fn find_version<S: Alter>(conn: &mut Connection<S>) -> Result<u64, St
     ensures shows { HasCleanDisk (state S.Store conn.new) → IfOk result (λ n. (c : Content)
         → InsideAs (IsLaid c) (state S.Store conn.old) → n ≡ value_at 1 c) }
     ensures reads { OnlyReads (state S.Store conn.old) (state S.Store conn.new) result }
+    ensures within { StaysWithin (state S.Store conn.old) (state S.Store conn.new) result }
 {
     let rows = select_version(conn)?;
     read_version(rows.as_slice())
@@ -179,6 +183,7 @@ pub(crate) fn check_meta<S: Alter>(conn: &mut Connection<S>, count: usize) -> Re
     ensures plain { IfErr result IsPlain }
     ensures whole { Tests (IsMeta count) (state S.Store conn.old) (state S.Store conn.new) result }
     ensures reads { OnlyReads (state S.Store conn.old) (state S.Store conn.new) result }
+    ensures within { StaysWithin (state S.Store conn.old) (state S.Store conn.new) result }
 {
     let rows = select_meta(conn)?;
     check_rows(rows.as_slice(), count)

@@ -4,21 +4,24 @@ ghost use Rattle.fuse_store_tables.specs.Moves.{Takes, Makes};
 ghost use Rattle.fuse_store_tables.specs.Opening.{IsFirst, IsOpened};
 ghost use Rattle.fuse_store_tables.specs.inner.Steps.{HasLots, HasKept, HasTables, moved};
 ghost use Rattle.fuse_store_tables.specs.Opening.{marked};
+ghost use Rattle.fuse_store_tables.specs.inner.Performing.{StaysWithin};
 
-use crate::counters::{NEXT_LOT, VERSION, insert_counter, update_counter};
+use crate::counters::{NEXT_LOT, VERSION, insert_counter, write_counter};
 use crate::creation::{ENTRIES_IN_ORDER, KEPT, LOTS};
-use crate::records::{copy_answers, delete_answers, insert_lot};
+use crate::records::{copy_answers, delete_answers, write_lot};
 use crate::statements::run;
 use sqlite::{Alter, Connection, Error};
 
 fn add_lots<S: Alter>(conn: &mut Connection<S>) -> Result<(), Error>
-    ensures { Takes IsFirst HasLots (state S.Store conn.old) (state S.Store conn.new) result }
+    ensures made { Takes IsFirst HasLots (state S.Store conn.old) (state S.Store conn.new) result }
+    ensures within { StaysWithin (state S.Store conn.old) (state S.Store conn.new) result }
 {
     run(conn, LOTS, &[])
 }
 
 fn add_kept<S: Alter>(conn: &mut Connection<S>) -> Result<(), Error>
-    ensures { Takes IsFirst HasKept (state S.Store conn.old) (state S.Store conn.new) result }
+    ensures made { Takes IsFirst HasKept (state S.Store conn.old) (state S.Store conn.new) result }
+    ensures within { StaysWithin (state S.Store conn.old) (state S.Store conn.new) result }
 {
     add_lots(conn)?;
     run(conn, KEPT, &[])
@@ -26,7 +29,8 @@ fn add_kept<S: Alter>(conn: &mut Connection<S>) -> Result<(), Error>
 
 // The index is made after all tables, as in a new store.
 fn add_tables<S: Alter>(conn: &mut Connection<S>) -> Result<(), Error>
-    ensures { Takes IsFirst HasTables (state S.Store conn.old) (state S.Store conn.new) result }
+    ensures made { Takes IsFirst HasTables (state S.Store conn.old) (state S.Store conn.new) result }
+    ensures within { StaysWithin (state S.Store conn.old) (state S.Store conn.new) result }
 {
     add_kept(conn)?;
     run(conn, ENTRIES_IN_ORDER, &[])
@@ -34,24 +38,27 @@ fn add_tables<S: Alter>(conn: &mut Connection<S>) -> Result<(), Error>
 
 // Puts the records under lot 0.
 fn move_records<S: Alter>(conn: &mut Connection<S>) -> Result<(), Error>
-    ensures { Makes moved (state S.Store conn.old) (state S.Store conn.new) result }
+    ensures made { Makes moved (state S.Store conn.old) (state S.Store conn.new) result }
+    ensures within { StaysWithin (state S.Store conn.old) (state S.Store conn.new) result }
 {
-    insert_lot(conn, 0)?;
+    write_lot(conn, 0)?;
     copy_answers(conn)?;
     delete_answers(conn)
 }
 
 // Sets the next lot and the version.
 fn mark<S: Alter>(conn: &mut Connection<S>) -> Result<(), Error>
-    ensures { Makes marked (state S.Store conn.old) (state S.Store conn.new) result }
+    ensures made { Makes marked (state S.Store conn.old) (state S.Store conn.new) result }
+    ensures within { StaysWithin (state S.Store conn.old) (state S.Store conn.new) result }
 {
     insert_counter(conn, NEXT_LOT, 1)?;
-    update_counter(conn, VERSION, 2)
+    write_counter(conn, VERSION, 2)
 }
 
 /// The whole migration, within a transaction.
 pub(crate) fn migrate<S: Alter>(conn: &mut Connection<S>) -> Result<(), Error>
-    ensures { Takes IsFirst IsOpened (state S.Store conn.old) (state S.Store conn.new) result }
+    ensures made { Takes IsFirst IsOpened (state S.Store conn.old) (state S.Store conn.new) result }
+    ensures within { StaysWithin (state S.Store conn.old) (state S.Store conn.new) result }
 {
     add_tables(conn)?;
     move_records(conn)?;

@@ -116,8 +116,8 @@ fn clear_nodes<S: Alter>(conn: &mut Connection<S>) -> Result<(), StoreFault>
     recount(conn)
 }
 
-// Deletes all state of the last mount.
-fn clear<S: Alter>(conn: &mut Connection<S>) -> Result<(), StoreFault>
+/// Deletes all state of the last mount.
+pub(crate) fn clear<S: Alter>(conn: &mut Connection<S>) -> Result<(), StoreFault>
     ensures made { Makes cleared (state S.Store conn.old) (state S.Store conn.new) result }
     ensures fault { IsSure Holds (state S.Store conn.old) (state S.Store conn.new) result }
     ensures plain { IfErr result IsPlain }

@@ -79,12 +79,21 @@ pub fn insert_kept<S: Alter>(
 }
 
 /// Adds a new lot.
+pub(crate) fn write_lot<S: Alter>(conn: &mut Connection<S>, lot: u64) -> Result<(), Error>
+    requires { lot < 2 ^ 63 }
+    ensures made { Makes (with_lot lot) (state S.Store conn.old) (state S.Store conn.new) result }
+    ensures within { StaysWithin (state S.Store conn.old) (state S.Store conn.new) result }
+{
+    let values = number(lot);
+    run(conn, INSERT_LOT, &values)
+}
+
+/// Adds a new lot.
 pub fn insert_lot<S: Alter>(conn: &mut Connection<S>, lot: u64) -> Result<(), Error>
     requires { lot < 2 ^ 63 }
     ensures { Makes (with_lot lot) (state S.Store conn.old) (state S.Store conn.new) result }
 {
-    let values = number(lot);
-    run(conn, INSERT_LOT, &values)
+    write_lot(conn, lot)
 }
 
 /// Deletes the record of this id, if there is one.
@@ -178,14 +187,16 @@ pub fn count_lots<S: Alter>(conn: &mut Connection<S>) -> Result<u64, StoreFault>
 
 /// Copies the records of version 1 under lot 0.
 pub(crate) fn copy_answers<S: Alter>(conn: &mut Connection<S>) -> Result<(), Error>
-    ensures { Makes with_copies (state S.Store conn.old) (state S.Store conn.new) result }
+    ensures made { Makes with_copies (state S.Store conn.old) (state S.Store conn.new) result }
+    ensures within { StaysWithin (state S.Store conn.old) (state S.Store conn.new) result }
 {
     run(conn, COPY_ANSWERS, &[])
 }
 
 /// Deletes the records of version 1.
 pub(crate) fn delete_answers<S: Alter>(conn: &mut Connection<S>) -> Result<(), Error>
-    ensures { Makes without_answers (state S.Store conn.old) (state S.Store conn.new) result }
+    ensures made { Makes without_answers (state S.Store conn.old) (state S.Store conn.new) result }
+    ensures within { StaysWithin (state S.Store conn.old) (state S.Store conn.new) result }
 {
     run(conn, DELETE_ANSWERS, &[])
 }

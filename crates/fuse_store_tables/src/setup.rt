@@ -11,6 +11,7 @@ ghost use Rattle.fuse_store_tables.specs.inner.Performing.{OnlyReads};
 ghost use Rattle.fuse_store_tables.specs.Opening.{IsStored, IsFirst, IsSecond, IsOpened, IsLaid};
 ghost use Rattle.fuse_store_tables.specs.Opening.{IsMeta, HasMeta};
 ghost use Rattle.fuse_store_tables.specs.inner.Steps.{Tests};
+ghost use Rattle.fuse_store_tables.specs.inner.Performing.{StaysWithin};
 
 use crate::meta::{check_meta, find_version};
 use crate::migration::migrate;
@@ -26,6 +27,7 @@ fn open_first<S: Alter>(conn: &mut Connection<S>) -> Result<(), StoreFault>
     ensures whole { Tests (IsMeta 10) (state S.Store conn.old) (state S.Store conn.new) result }
     ensures refused { IfErr result (λ f. IsRefusal f
         → CommitsNothing (state S.Store conn.old) (state S.Store conn.new)) }
+    ensures within { StaysWithin (state S.Store conn.old) (state S.Store conn.new) result }
 {
     check_meta(conn, 10)?;
     Ok(migrate(conn)?)
@@ -38,11 +40,13 @@ fn open_second<S: Alter>(conn: &mut Connection<S>) -> Result<(), StoreFault>
     ensures plain { IfErr result IsPlain }
     ensures whole { Tests (IsMeta 11) (state S.Store conn.old) (state S.Store conn.new) result }
     ensures reads { OnlyReads (state S.Store conn.old) (state S.Store conn.new) result }
+    ensures within { StaysWithin (state S.Store conn.old) (state S.Store conn.new) result }
 {
     check_meta(conn, 11)
 }
 
-fn work<S: Alter>(conn: &mut Connection<S>) -> Result<(), StoreFault>
+/// Tests the store, and migrates one of version 1, within a transaction.
+pub(crate) fn work<S: Alter>(conn: &mut Connection<S>) -> Result<(), StoreFault>
     ensures opened { Takes IsStored IsOpened (state S.Store conn.old) (state S.Store conn.new)
         result }
     ensures fault { IsSure IsStored (state S.Store conn.old) (state S.Store conn.new) result }
@@ -56,6 +60,7 @@ fn work<S: Alter>(conn: &mut Connection<S>) -> Result<(), StoreFault>
         → OnlyReads (state S.Store conn.old) (state S.Store conn.new) result }
     ensures refused { IfErr result (λ f. IsRefusal f
         → CommitsNothing (state S.Store conn.old) (state S.Store conn.new)) }
+    ensures within { StaysWithin (state S.Store conn.old) (state S.Store conn.new) result }
 {
     let schema = conn.schema();
     let first = has_first(schema);
@@ -79,8 +84,8 @@ fn work<S: Alter>(conn: &mut Connection<S>) -> Result<(), StoreFault>
     }
 }
 
-// Outside a transaction, what is seen is what was committed.
-fn law_of_rest<S: Alter>(conn: &Connection<S>)
+/// Outside a transaction, what is seen is what was committed.
+pub(crate) fn law_of_rest<S: Alter>(conn: &Connection<S>)
     ensures { (state S.Store conn.now).in_transaction ≡ false
         → IsTrue (state S.Store conn.now).is_open
         → (state S.Store conn.now).now ≡ (state S.Store conn.now).committed }

@@ -1,4 +1,4 @@
--- A database of version 1 or 2 is never damaged before it is of another version (own profile). The proofs are here because the crates above cite them.
+-- What a fault says of a database whose version is known (own profile). The proofs are here because the crates above cite them.
 use Rattle.std.proofs.Common.{subst}
 use Rattle.std.specs.Prelude.{◌≡◌, ◌⊎◌, ℕ, pos, List, [], ◌∷◌}
 use Rattle.std.proofs.Common.{inl, inr, refl, sym}

@@ -3,6 +3,7 @@ use Rattle.fuse_store_tables.specs.Layout.{no_schema}
 use Rattle.fuse_store_tables.specs.Making.{IsBare, IsNew}
 use Rattle.fuse_store_tables.specs.inner.Performing.{PerformsAs}
 use Rattle.fuse_store_tables.proofs.Joining.{failed_first, failed_inside, failed_commit, committed, on_err}
+use Rattle.fuse_store_tables.proofs.Alone.{outside_is}
 use Rattle.fuse_store_tables.proofs.creation.transact.Goals as goal
 
 pub returns-in_err-begin-clause-performs : goal.returns-in_err-begin-clause-performs
@@ -34,3 +35,12 @@ returns-clause-performs g c =
 
 pub returns-clause-ended : goal.returns-clause-ended
 returns-clause-ended g c = λ clean. (c.in_ok-commit.ensures.ended clean).1
+
+pub returns-in_err-begin-clause-outside : goal.returns-in_err-begin-clause-outside
+returns-in_err-begin-clause-outside g c = outside_is _ c.from_residual.result c.from_residual.ensures.1
+
+pub returns-in_err-make_all-clause-outside : goal.returns-in_err-make_all-clause-outside
+returns-in_err-make_all-clause-outside g c = outside_is _ c.from_residual-in_err-make_all.result c.from_residual-in_err-make_all.ensures.1
+
+pub returns-in_err-commit-clause-outside : goal.returns-in_err-commit-clause-outside
+returns-in_err-commit-clause-outside g c = outside_is _ c.from_residual-in_err-commit.result c.from_residual-in_err-commit.ensures.1

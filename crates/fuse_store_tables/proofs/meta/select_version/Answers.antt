@@ -5,7 +5,7 @@ use Rattle.fuse_store_tables.specs.Content.{Holds, HoldsAs, stored}
 use Rattle.fuse_store_tables.specs.Opening.{IsFirst, IsSecond}
 use Rattle.fuse_store_tables.proofs.OpenLemmas.{version_looks, version_found, in_order, any_rows}
 use Rattle.fuse_store_tables.proofs.Sayings.{says_version}
-use Rattle.fuse_store_tables.proofs.Selects.{only_reads, version_select}
+use Rattle.fuse_store_tables.proofs.Selects.{only_reads, reads_within, version_select}
 use Rattle.fuse_store_tables.proofs.meta.select_version.Goals as goal
 
 pub returns-clause-unchanged : goal.returns-clause-unchanged
@@ -35,4 +35,8 @@ returns-clause-shows g c =
 
 pub returns-clause-reads : goal.returns-clause-reads
 returns-clause-reads g c = only_reads _ [] version_select (λ rows. rows.items) (state g.S.Store c.args.conn.now) (state g.S.Store c.query_all.new.self)
+    c.query_all.result c.query_all.ensures.ok c.query_all.ensures.err c.query_all.ensures.survives
+
+pub returns-clause-within : goal.returns-clause-within
+returns-clause-within g c = reads_within _ [] version_select (λ rows. rows.items) (state g.S.Store c.args.conn.now) (state g.S.Store c.query_all.new.self)
     c.query_all.result c.query_all.ensures.ok c.query_all.ensures.err c.query_all.ensures.survives

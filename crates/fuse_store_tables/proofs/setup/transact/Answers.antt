@@ -83,3 +83,9 @@ returns-in-Err-clause-says g c = λ clean.
     let b = state g.S.Store c.begin.new.conn in
     let d = state g.S.Store c.work.new.conn in
     subst (λ db. Says db c.in-Err.fault) (c.in_ok-begin.ensures.begun (earlier b d _ c.in-Err.ensures.opened.stays.survives clean)).2 (c.in-Err.ensures.says clean)
+
+pub returns-in-Err-clause-fault : goal.returns-in-Err-clause-fault
+returns-in-Err-clause-fault g c = λ clean k at.
+    let mid = earlier (state g.S.Store c.begin.new.conn) (state g.S.Store c.work.new.conn) _ c.in-Err.ensures.opened.stays.survives clean in
+    let on = c.in_ok-begin.ensures.begun mid in
+    c.in-Err.ensures.fault clean (k, record { is_open = on.0; in_transaction = on.1; holds = subst (IsStored k) (sym on.2) at.holds })

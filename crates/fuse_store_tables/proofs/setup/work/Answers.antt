@@ -3,7 +3,7 @@ use Rattle.sqlite.specs.Held.{state}
 use Rattle.fuse_keeper.specs.declared.fault.StoreFault.{StoreFault}
 use Rattle.fuse_store_tables.specs.Opening.{IsStored, IsFirst, IsSecond, IsOpened}
 use Rattle.fuse_store_tables.specs.Moves.{Takes}
-use Rattle.fuse_store_tables.proofs.Joining.{then_as, fails_as}
+use Rattle.fuse_store_tables.proofs.Joining.{then_as, fails_as, sure_next}
 use Rattle.fuse_store_tables.proofs.Either.{narrowed}
 use Rattle.fuse_store_tables.proofs.MigrationLemmas.{found_first, found_second}
 use Rattle.fuse_store_tables.proofs.OpenLemmas.{tested_second}
@@ -13,6 +13,7 @@ use Rattle.sqlite.proofs.StateLemmas.{survives_then}
 use Rattle.fuse_store_tables.specs.inner.Following.{earlier}
 use Rattle.fuse_store_tables.specs.inner.Versions.{reported_damaged, plain_says}
 use Rattle.fuse_store_tables.proofs.Sayings.{says_if}
+use Rattle.fuse_store_tables.proofs.Within.{within_then, within_failed, within_told}
 use Rattle.fuse_store_tables.proofs.setup.work.Goals as goal
 
 pub returns-in-Err-clause-opened : goal.returns-in-Err-clause-opened
@@ -137,3 +138,33 @@ returns-else-not-second-clause-says g c = λ clean.
     let d = state g.S.Store c.open_second.new.conn in
     says_if _ c.open_second.result (reported_damaged _ _ (c.in_ok-version.ensures.reports (earlier b d _ c.open_second.ensures.opened.stays.survives clean))
     (inr c.if-version-eq2.true)) c.open_second.ensures.plain
+
+-- ---- within a transaction
+
+pub returns-in_err-version-clause-within : goal.returns-in_err-version-clause-within
+returns-in_err-version-clause-within g c = within_failed _ _ _ _ c.in_err-version.ensures.within c.from_residual.ensures.0
+
+pub returns-then-not-first-clause-within : goal.returns-then-not-first-clause-within
+returns-then-not-first-clause-within g c = within_told _ _ _ _ c.in_ok-version.ensures.within
+
+pub returns-in-Ok-clause-within : goal.returns-in-Ok-clause-within
+returns-in-Ok-clause-within g c = within_then _ _ _ _ (Ok _) c.in_ok-version.ensures.within c.in-Ok.ensures.within
+
+pub returns-in-Err-clause-within : goal.returns-in-Err-clause-within
+returns-in-Err-clause-within g c = within_then _ _ _ _ (Err _) c.in_ok-version.ensures.within c.in-Err.ensures.within
+
+pub returns-then-not-second-clause-within : goal.returns-then-not-second-clause-within
+returns-then-not-second-clause-within g c = within_told _ _ _ _ c.in_ok-version.ensures.within
+
+pub returns-else-not-second-clause-within : goal.returns-else-not-second-clause-within
+returns-else-not-second-clause-within g c = within_then _ _ _ _ _ c.in_ok-version.ensures.within c.open_second.ensures.within
+
+pub returns-in-Err-clause-fault : goal.returns-in-Err-clause-fault
+returns-in-Err-clause-fault g c =
+    let a = state g.S.Store c.args.conn.now in
+    let b = state g.S.Store c.find_version.new.conn in
+    let v = c.in_ok-version.version in
+    let first : Takes {E = StoreFault} IsStored IsFirst a b (Ok v) = narrowed IsStored IsStored IsFirst a b v v c.in_ok-version.ensures.unchanged
+    (λ clean k at on. found_first a b v c.if-version-eq1.true (c.in_ok-version.ensures.value clean) k at on) in
+    sure_next {Y = Unit {0}} IsStored IsFirst a b (state g.S.Store c.open_first.new.conn) v (Err c.in-Err.fault) first c.in-Err.ensures.made.stays.survives
+    c.in-Err.ensures.fault

@@ -1,0 +1,23 @@
+use Rattle.sqlite.specs.Held.{state}
+use Rattle.fuse_store_tables.proofs.Alone.{left_alone, undone_alone}
+use Rattle.fuse_store_tables.proofs.fresh.set_up_fresh.Goals as goal
+
+pub returns-in-Ok-clause-alone : goal.returns-in-Ok-clause-alone
+returns-in-Ok-clause-alone g c = λ other.
+    left_alone (state g.S.Store c.args.conn.now) (state g.S.Store c.transact.new.conn) (c.in-Ok.ensures.alone other) c.in-Ok.ensures.ended
+
+pub returns-in-Err-clause-alone : goal.returns-in-Err-clause-alone
+returns-in-Err-clause-alone g c = λ other.
+    undone_alone (state g.S.Store c.args.conn.now) (state g.S.Store c.transact.new.conn) (state g.S.Store c.undo.new.conn) (c.in-Err.ensures.alone other)
+    c.undo.ensures
+
+pub returns-in-Err-clause-refused : goal.returns-in-Err-clause-refused
+returns-in-Err-clause-refused g c = λ refused.
+    undone_alone (state g.S.Store c.args.conn.now) (state g.S.Store c.transact.new.conn) (state g.S.Store c.undo.new.conn) (c.in-Err.ensures.refused refused)
+    c.undo.ensures
+
+pub returns-in-Ok-clause-ended : goal.returns-in-Ok-clause-ended
+returns-in-Ok-clause-ended g c = λ clean. (c.in-Ok.ensures.ended clean).0
+
+pub returns-in-Err-clause-ended : goal.returns-in-Err-clause-ended
+returns-in-Err-clause-ended g c = λ clean. c.undo.ensures.autocommit clean

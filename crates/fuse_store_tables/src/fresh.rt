@@ -1,0 +1,104 @@
+// The opening of a store for a mount that begins, in one transaction.
+ghost use Rattle.std.specs.Prelude.{◌≡◌, false, IsTrue, OnOk, IfErr};
+ghost use Rattle.sqlite.specs.State.{HasCleanDisk};
+ghost use Rattle.sqlite.specs.Held.{state};
+ghost use Rattle.fuse_store_tables.specs.Saying.{Says, IsTabled, IsRefusal};
+ghost use Rattle.fuse_store_tables.specs.Content.{Content};
+ghost use Rattle.fuse_store_tables.specs.Clearing.{IsBegun};
+ghost use Rattle.fuse_store_tables.specs.Moves.{RestsAs, Takes, ServesAs, IsSafe, LeavesAlone};
+ghost use Rattle.fuse_store_tables.specs.inner.Performing.{PerformsAs, IsSure, CommitsNothing};
+ghost use Rattle.fuse_store_tables.specs.inner.Performing.{OnlyReads, StaysWithin};
+ghost use Rattle.fuse_store_tables.specs.Opening.{IsStored, IsLaid, HasMeta};
+ghost use Rattle.fuse_store_tables.specs.inner.Steps.{Tests};
+
+use crate::mount::clear;
+use crate::setup::{law_of_rest, work};
+use crate::statements::{begin, commit, undo};
+use fuse_keeper::StoreFault;
+use sqlite::{Alter, Connection};
+
+// Opens the store, and deletes all state of the last mount.
+fn renew<S: Alter>(conn: &mut Connection<S>) -> Result<(), StoreFault>
+    ensures begun { Takes IsStored IsBegun (state S.Store conn.old) (state S.Store conn.new)
+        result }
+    ensures fault { IsSure IsStored (state S.Store conn.old) (state S.Store conn.new) result }
+    ensures says { HasCleanDisk (state S.Store conn.new)
+        → IfErr result (Says (state S.Store conn.old).now) }
+    ensures whole { Tests HasMeta (state S.Store conn.old) (state S.Store conn.new) result }
+    ensures tabled { HasCleanDisk (state S.Store conn.new)
+        → OnOk result (IsTabled (state S.Store conn.old).now) }
+    ensures alone { (HasCleanDisk (state S.Store conn.new)
+        → IsTabled (state S.Store conn.old).now → ⊥)
+        → OnlyReads (state S.Store conn.old) (state S.Store conn.new) result }
+    ensures within { StaysWithin (state S.Store conn.old) (state S.Store conn.new) result }
+{
+    match work(conn) {
+        Ok(()) => clear(conn),
+        Err(fault) => Err(fault),
+    }
+}
+
+// The transaction. A fault may leave it open.
+fn transact<S: Alter>(conn: &mut Connection<S>) -> Result<(), StoreFault>
+    ensures performs { PerformsAs IsStored IsBegun (state S.Store conn.old)
+        (state S.Store conn.new) result }
+    ensures fault { IsSafe IsStored (state S.Store conn.old) (state S.Store conn.new) result }
+    ensures was { HasCleanDisk (state S.Store conn.new)
+        → OnOk result (IsTrue (state S.Store conn.old).is_open) }
+    ensures says { HasCleanDisk (state S.Store conn.new)
+        → IfErr result (Says (state S.Store conn.old).now) }
+    ensures whole { HasCleanDisk (state S.Store conn.new) → OnOk result ((c : Content)
+        → RestsAs (IsLaid c) (state S.Store conn.old) → HasMeta c) }
+    ensures tabled { HasCleanDisk (state S.Store conn.new)
+        → OnOk result (IsTabled (state S.Store conn.old).now) }
+    ensures alone { (IsTabled (state S.Store conn.old).now → ⊥)
+        → CommitsNothing (state S.Store conn.old) (state S.Store conn.new) }
+    ensures refused { IfErr result (λ f. IsRefusal f
+        → CommitsNothing (state S.Store conn.old) (state S.Store conn.new)) }
+    ensures ended { OnOk result (HasCleanDisk (state S.Store conn.new)
+        → ((state S.Store conn.new).in_transaction ≡ false)
+        × ((state S.Store conn.new).now ≡ (state S.Store conn.new).committed)) }
+{
+    law_of_rest(conn);
+    begin(conn)?;
+    match renew(conn) {
+        Ok(()) => {
+            commit(conn)?;
+            Ok(())
+        }
+        Err(fault) => Err(fault),
+    }
+}
+
+/// Opens a store as `set_up` does, and begins a mount of it in the same transaction. The commit is
+/// its last call of the database.
+pub fn set_up_fresh<S: Alter>(conn: &mut Connection<S>) -> Result<(), StoreFault>
+    ensures serves { ServesAs IsStored IsBegun (state S.Store conn.old) (state S.Store conn.new)
+        result }
+    ensures fault { IsSafe IsStored (state S.Store conn.old) (state S.Store conn.new) result }
+    ensures was { HasCleanDisk (state S.Store conn.new)
+        → OnOk result (IsTrue (state S.Store conn.old).is_open) }
+    ensures says { HasCleanDisk (state S.Store conn.new)
+        → IfErr result (Says (state S.Store conn.old).now) }
+    // A store with a damaged `meta` or without one of its tables is never opened.
+    ensures whole { HasCleanDisk (state S.Store conn.new) → OnOk result ((c : Content)
+        → RestsAs (IsLaid c) (state S.Store conn.old) → HasMeta c) }
+    ensures tabled { HasCleanDisk (state S.Store conn.new)
+        → OnOk result (IsTabled (state S.Store conn.old).now) }
+    // Only a store with all its tables is changed, however the call ends,
+    ensures alone { (IsTabled (state S.Store conn.old).now → ⊥)
+        → LeavesAlone (state S.Store conn.old) (state S.Store conn.new) }
+    // and no database that is refused. No transaction is left open.
+    ensures refused { IfErr result (λ f. IsRefusal f
+        → LeavesAlone (state S.Store conn.old) (state S.Store conn.new)) }
+    ensures ended { HasCleanDisk (state S.Store conn.new)
+        → (state S.Store conn.new).in_transaction ≡ false }
+{
+    match transact(conn) {
+        Ok(()) => Ok(()),
+        Err(fault) => {
+            undo(conn);
+            Err(fault)
+        }
+    }
+}
