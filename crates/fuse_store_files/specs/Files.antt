@@ -1,17 +1,40 @@
--- What the two files of a store hold, and what a crash leaves of them (own profile).
-use Rattle.sqlite_disk.specs.declared.Disk.{Ghosts}
+-- What the two files of a store hold: its database file and its log, as an open finds them (own profile).
+use Rattle.std.specs.Prelude.{◌≡◌, ◌⊎◌}
 use Rattle.sqlite_wal.specs.Recovery.{Image}
-use Rattle.sqlite_trees.specs.Tree.{Trees}
-use Rattle.sqlite_store.specs.declared.store.FileStore.{FileStore}
-use Rattle.sqlite_store.specs.FileStore.{state}
-use Rattle.sqlite.specs.Files.{HoldsDatabase}
+use Rattle.sqlite.specs.Tree.{Trees}
+use Rattle.sqlite.specs.Files.{HoldsDatabase, IsNothing, IsEmpty, AreFoundIn}
+use Rattle.fuse_tree.specs.Rows.{Rows, rowed}
+use Rattle.fuse_tree.specs.TheTree.{the_tree}
+use Rattle.fuse_keeper.specs.Stands.{Records, Standing, StandsAt}
+use Rattle.fuse_store_tables.specs.Content.{LeftAs}
+use Rattle.fuse_store_tree.specs.Store.{records_of}
+use Rattle.fuse_store.specs.Opening.{Stored, StoredFor, opened_for}
 
--- the two files hold a database, and its trees are so
+-- the files hold a database, and its trees are so
 pub record HoldSome (P : Trees → Type 0) (image : Image) : Type 0 where
   pub trees : Trees
   pub held : ∥ HoldsDatabase image trees ∥₁
   pub so : P trees
 
--- whatever a crash leaves of the files of a store, where the disk returned what was written, they hold a database of this kind
-abbrev pub LeavesOf : {D : Type 0} {g : Ghosts D} → (Trees → Type 0) → FileStore D g → Type 0
-LeavesOf P it = (image : Image) → (state it).may_leave image → HoldSome P image
+-- the files hold this store
+abbrev pub FilesHold : Image → Stored → Type 0
+FilesHold image z = HoldSome (LeftAs (StoredFor z)) image
+
+-- these trees are those of a store of either version, and its rows and records are so once it is opened
+pub record TreesTell (P : Rows → Records → Type 0) (db : Trees) : Type 0 where
+  pub store : Stored
+  pub left : LeftAs (StoredFor store) db
+  pub so : P (rowed (opened_for store).tree) (records_of (opened_for store).kept)
+
+-- the files hold a store that stands for this history, with these ids settled, from this start
+abbrev pub FilesStand : Image → Standing the_tree → Type 0
+FilesStand image at = HoldSome (TreesTell (λ x r. StandsAt the_tree (record { rows = x; records = r }) at)) image
+
+-- there is no database yet, or an empty one
+abbrev pub HoldNothing : Image → Type 0
+HoldNothing image = IsNothing image ⊎ HoldSome IsEmpty image
+
+-- these trees are what an open of the files finds: those that they hold, or none
+pub record AreTheirs (image : Image) (db : Trees) : Type 0 where
+  pub holds : (d : Trees) → HoldsDatabase image d → db ≡ d
+  pub reads : AreFoundIn image db

@@ -1,8 +1,13 @@
-// The end of a run: the files of a connection are given back.
+// The end of a run: the files of a keeper are given back.
 ghost use Rattle.std.specs.Prelude.{IfOk, IfErr};
-ghost use Rattle.sqlite_disk.specs.declared.Files.{Files as Both};
-ghost use Rattle.fuse_store_files.specs.inner.Connections.{Ends, IsCopiedTo, MayRecover};
+ghost use Rattle.sqlite_wal.specs.Reads.{AreClean};
+ghost use Rattle.sqlite.specs.Files.{over_files};
+ghost use Rattle.sqlite.specs.Closing.{IsCopied};
+ghost use Rattle.fuse_store.specs.TableKeeper.{keeper_told, conn_of};
+ghost use Rattle.fuse_store_files.specs.Left.{Closes};
+ghost use Rattle.fuse_store_files.specs.inner.Connections.{Ends, IsClosedAs, IsCopiedTo, IsUncopied};
 
+use fuse_store::TableKeeper;
 use sqlite::{Connection, FileStore, Files};
 use sqlite_disk::Disk;
 use sqlite_trees::store::Store;
@@ -13,8 +18,9 @@ pub(crate) fn close_connection<D: Disk + Drop>(
     conn: Connection<FileStore<D>>,
 ) -> Result<Files<D>, FileStore<D>>
     ensures ended { Ends conn }
-    ensures closed { IfOk result (IsCopiedTo conn) }
-    ensures unclosed { IfErr result (MayRecover conn) }
+    ensures closed { IfOk result (IsClosedAs conn) }
+    ensures copied { IfOk result (IsCopiedTo conn) }
+    ensures unclosed { IfErr result (IsUncopied conn) }
 {
     let mut store = conn.into_store();
     store.rollback();
@@ -22,4 +28,17 @@ pub(crate) fn close_connection<D: Disk + Drop>(
         Ok(()) => Ok(store.close()),
         Err(_) => Err(store),
     }
+}
+
+/// Closes the files of a keeper: rolls back, copies the log into the database file, and gives both
+/// back. Where the copying fails, the store is given back; the log then holds what is committed.
+pub fn close_store<D: Disk + Drop>(
+    keeper: TableKeeper<FileStore<D>>,
+) -> Result<Files<D>, FileStore<D>>
+    ensures closes { Closes (keeper_told over_files keeper) result }
+    // What was committed last is in the database file alone.
+    ensures copied { IfOk result (λ files. AreClean D.Disk files.log files.db
+        → IsCopied (conn_of over_files keeper) files) }
+{
+    close_connection(keeper.into_connection())
 }

@@ -2,4 +2,12 @@
 #![tactic(auto)]
 
 mod closing;
+mod crash_keeper;
 mod crashing;
+mod files;
+mod opening;
+
+pub use closing::close_store;
+pub use crash_keeper::CrashKeeper;
+pub use crashing::Crashing;
+pub use files::{Opening, StoreFiles, open_store};

@@ -21,6 +21,7 @@ returns-in-Ok-clause-ended g c =
           let clean : IsClean (view store) = no_doubt _ (clean_if_left store.pool left may) in
           let h = holds_some store left may (c.into_store-store.ensures.numbered clean) (c.into_store-store.ensures.sound clean) in
           record { trees = h.trees; held = h.held; so = c.into_store-store.ensures.quiet.outcomes h.trees h.so };
+      honest = λ clean. omega (arith, clean, c.into_store-store.ensures.quiet.clean);
     }
 
 pub returns-in-Err-clause-ended : goal.returns-in-Err-clause-ended
@@ -32,14 +33,43 @@ returns-in-Err-clause-ended g c =
           let clean : IsClean (view store) = no_doubt _ (clean_if_left store.pool left may) in
           let h = holds_some store left may (c.into_store-store.ensures.numbered clean) (c.into_store-store.ensures.sound clean) in
           record { trees = h.trees; held = h.held; so = c.into_store-store.ensures.quiet.outcomes h.trees h.so };
+      honest = λ clean. omega (arith, clean, c.into_store-store.ensures.quiet.clean);
     }
 
 pub returns-in-Err-clause-unclosed : goal.returns-in-Err-clause-unclosed
-returns-in-Err-clause-unclosed g c = λ db may.
-    c.into_store-store.ensures.quiet.outcomes db (c.rollback.ensures.quiet.outcomes db (c.checkpoint.ensures.quiet.outcomes db may))
+returns-in-Err-clause-unclosed g c = record {
+  leaves = λ db may.
+      c.into_store-store.ensures.quiet.outcomes db (c.rollback.ensures.quiet.outcomes db (c.checkpoint.ensures.quiet.outcomes db may));
+  honest = λ clean.
+      omega (arith, clean, c.checkpoint.ensures.quiet.clean, c.rollback.ensures.quiet.clean, c.into_store-store.ensures.quiet.clean);
+}
 
 pub returns-in-Ok-clause-closed : goal.returns-in-Ok-clause-closed
-returns-in-Ok-clause-closed g c = λ honest.
+returns-in-Ok-clause-closed g c =
+    let before = c.rollback.new.self in
+    let last = c.checkpoint.new.self in
+    let q = c.checkpoint.ensures.quiet in
+    let first = c.into_store-store.ensures in
+    record {
+      leaves = λ clean image may.
+          let sure_now = subst (λ p. AreClean g.D.Disk p.0 p.1) c.close.ensures clean in
+          let none : IsClean (view last) = no_doubt _ (clean_is last.pool ∙ sure_now) in
+          let middle : IsClean (view before) = omega (arith, none, q.clean) in
+          let early : IsClean (view c.into_store-store.result) = omega (arith, middle, c.rollback.ensures.quiet.clean) in
+          let numbered : IsTrue (view last).is_numbered =
+          ap (λ (v : View). v.is_numbered) (c.checkpoint.ensures.same (c.in-Ok.ensures.open none)) ∙ (c.rollback.ensures.undone.kept middle).numbered
+          ∙ first.numbered early in
+          let h = holds_some last image (may_leave_is last.pool image sure_now (subst (λ p. outcomes g.D.Disk p.0 p.1 image) c.close.ensures may)) numbered
+          (λ db found. first.sound early db (c.rollback.ensures.quiet.outcomes db (q.outcomes db found))) in
+          record { trees = h.trees; held = h.held; so = first.quiet.outcomes h.trees (c.rollback.ensures.quiet.outcomes h.trees (q.outcomes h.trees h.so)) };
+      honest = λ clean.
+          let sure_now = subst (λ p. AreClean g.D.Disk p.0 p.1) c.close.ensures clean in
+          let none : IsClean (view last) = no_doubt _ (clean_is last.pool ∙ sure_now) in
+          omega (arith, none, q.clean, c.rollback.ensures.quiet.clean, first.quiet.clean);
+    }
+
+pub returns-in-Ok-clause-copied : goal.returns-in-Ok-clause-copied
+returns-in-Ok-clause-copied g c = λ honest.
     let back = c.into_store-store.result in
     let before = c.rollback.new.self in
     let last = c.checkpoint.new.self in

@@ -1,0 +1,154 @@
+-- What an open finds in the files of a store, and what it makes of it.
+use Rattle.std.proofs.Common.{◌≡◌, ◌≤◌, inl, inr, sym, ap, subst, arith, ◌∙◌}
+use Rattle.std.proofs.Math.Logic.{∥∥₁_elim}
+use Rattle.sqlite_disk.specs.declared.Disk.{Ghosts}
+use Rattle.sqlite_disk.specs.declared.Files.{Files}
+use Rattle.sqlite_wal.proofs.LogLemmas.{SeenMayStay}
+use Rattle.sqlite_wal.specs.Recovery.{Image}
+use Rattle.sqlite_pool.proofs.StateLemmas.{clean_if_left}
+use Rattle.sqlite_trees.specs.Props.{Trees-set}
+use Rattle.sqlite_trees.specs.Objects.{catalog_tree}
+use Rattle.sqlite_trees.specs.View.{IsClean, doubt}
+use Rattle.sqlite_trees.specs.declared.error.StoreError.{StoreError}
+use Rattle.sqlite_trees.specs.declared.error.StoreError.TheVariants.{OutOfMemory, Io, Corrupt, Full, Broken, Unstorable}
+use Rattle.sqlite_trees.proofs.Doubt.{no_doubt}
+use Rattle.sqlite_catalog.proofs.ReadLemmas.{lists_once}
+use Rattle.sqlite_store.specs.declared.store.FileStore.{FileStore}
+use Rattle.sqlite_store.specs.FileStore.{view, recovers}
+use Rattle.sqlite_store.specs.Laws.{settled_at}
+use Rattle.sqlite.specs.Tree.{Trees}
+use Rattle.sqlite.specs.Effect.{Database}
+use Rattle.sqlite.specs.State.{State, HasCleanDisk, IsLive, Opens, Survives, store_error}
+use Rattle.sqlite.specs.Held.{Held}
+use Rattle.sqlite.specs.Files.{file_state, IsOpened, IsEmpty, IsCleanLeft, AreFoundIn, FailsToOpenFiles, HoldsDatabase, image_of}
+use Rattle.sqlite.specs.Start.{FindsIn}
+use Rattle.sqlite.specs.declared.error.Error.{Error}
+use Rattle.sqlite.specs.declared.file.Leftover.{Leftover}
+use Rattle.sqlite.specs.declared.file.Leftover.TheVariants as left
+use Rattle.sqlite.proofs.ListingLemmas.{empty_is_sound}
+use Rattle.fuse_tree.specs.Rows.{Rows, rowed}
+use Rattle.fuse_tree.specs.TheTree.{the_tree}
+use Rattle.fuse_keeper.specs.Stands.{Records}
+use Rattle.fuse_keeper.specs.KeeperState.{KeeperState}
+use Rattle.fuse_store_tables.specs.Content.{LeftAs}
+use Rattle.fuse_store_tables.specs.Faults.{IsOutside}
+use Rattle.fuse_store_tables.specs.Layout.{no_schema}
+use Rattle.fuse_store_tree.specs.Store.{records_of}
+use Rattle.fuse_store.specs.Creating.{IsBlank}
+use Rattle.fuse_store.specs.Opening.{Stored, StoredFor, WasFor, opened_for}
+use Rattle.fuse_store.specs.Storing.{opening_fault}
+use Rattle.fuse_store_files.specs.declared.files.Opening.{Opening}
+use Rattle.fuse_store_files.specs.declared.files.Opening.TheVariants.{Existing, Any, Fresh}
+use Rattle.fuse_store_files.specs.Files.{HoldSome, FilesHold, HoldNothing, TreesTell, AreTheirs}
+use Rattle.fuse_store_files.specs.Starting.{OpensAs, KeepsStore}
+use Rattle.fuse_store_files.specs.Left.{LeavesOpening, IsMadeBy}
+use Rattle.fuse_store_files.specs.inner.Opened.{OpensOver, LeavesOver, IsNotOpened}
+use Rattle.fuse_store_files.proofs.Nothing.{found_nothing}
+
+-- ---- of a database that an open found
+
+module _ (image : Image) (s : State) (opens : Opens s) (live : IsLive s) (finds : FindsIn image s) where
+  -- what the files hold is found
+  same_trees : (P : Trees → Type 0) (held : HoldSome P image) → s.committed.trees ≡ held.trees
+  same_trees P held = ∥∥₁_elim held.held (Trees-set _ _) (λ it. finds.holds held.trees it)
+
+  pub was_for : (z : Stored) → FilesHold image z → WasFor z s
+  was_for z held = (opens.is_open, opens.autocommit, subst (LeftAs (StoredFor z)) (sym (same_trees _ held)) held.so)
+
+  empty : HoldNothing image → IsEmpty s.committed.trees
+  empty (inl nothing) = found_nothing image s.committed.trees nothing finds.reads
+  empty (inr held) = subst IsEmpty (sym (same_trees IsEmpty held)) held.so
+
+  blank : HoldNothing image → IsBlank s
+  blank nothing =
+      let none = (empty nothing).1 in
+      let sound = (live opens.is_open).1 in
+      let listed = lists_once (s.committed.trees catalog_tree) s.committed.schema no_schema sound.lists (empty_is_sound s.committed.trees none).lists in
+      (opens.autocommit, ap (λ (d : Database). d.schema) opens.clean ∙ listed)
+
+  -- the store that stands so
+  stored : (P : Rows → Records → Type 0) (held : HoldSome (TreesTell P) image) → FilesHold image held.so.store
+  stored P held = record { trees = held.trees; held = held.held; so = held.so.left }
+
+  pub keeps : (how : Opening) (k : KeeperState the_tree) → OpensOver how s k → (z : Stored) → FilesHold image z → KeepsStore how z k
+  keeps how k over z held = over.keeps z (was_for z held)
+
+  pub opens_as : (how : Opening) (k : KeeperState the_tree) → OpensOver how s k → OpensAs how image k
+  opens_as Existing k over = (
+    λ at held.
+        let z = held.so.store in
+        record { rows = rowed (opened_for z).tree; records = records_of (opened_for z).kept; held = (keeps Existing k over z (stored _ held)).held; stands = held.so.so },
+    λ nothing. over.makes (blank nothing) opens.is_open,
+  )
+  opens_as (Any now) k over = (
+    λ at held.
+        let z = held.so.store in
+        record { rows = rowed (opened_for z).tree; records = records_of (opened_for z).kept; held = (keeps (Any now) k over z (stored _ held)).held; stands = held.so.so },
+    λ nothing. over.makes (blank nothing) opens.is_open,
+  )
+  opens_as (Fresh now) k over = (
+    λ at held. over.begins held.so.store (was_for held.so.store (stored _ held)) at.state at.history at.settled held.so.so,
+    λ nothing. over.makes (blank nothing) opens.is_open,
+  )
+
+  pub made_by : (how : Opening) (db : Trees) → LeavesOver how s db → IsMadeBy how image db
+  made_by Existing db made = λ z held. made z (was_for z held)
+  made_by (Any now) db made = (λ z held. made.opened z (was_for z held), λ nothing. made.made (blank nothing) opens.is_open)
+  made_by (Fresh now) db made = (λ z held. made.begun z (was_for z held), λ nothing. made.made (blank nothing) opens.is_open)
+
+-- ---- of an opening that failed
+
+module _ {D : Type 0} {g : Ghosts D} (image : Image) (how : Opening) where
+  pub left_open : (conn : Held (FileStore D g)) → SeenMayStay g → (HasCleanDisk (file_state conn) → IsOpened conn)
+      → (HasCleanDisk (file_state conn) → FindsIn image (file_state conn)) → (new : State) (it : FileStore D g)
+      → Survives (file_state conn) new (LeavesOver how (file_state conn)) → doubt new.is_clean ≤ doubt (view it).is_clean
+      → ((db : Trees) → recovers it db → new.may_leave db) → LeavesOpening how image (left.Store it)
+  left_open conn stays opened found new it survives later outcomes db may =
+      let last : IsClean (view it) = no_doubt _ (clean_if_left it.pool may.0 may.2) in
+      let clean_new : HasCleanDisk new = omega (arith, last, later) in
+      let clean : HasCleanDisk (file_state conn) = omega (arith, clean_new, survives.clean) in
+      let live = opened clean in
+      let finds = found clean in
+      elim (survives.crash clean_new db (outcomes db may)) [
+        | inl old ↦
+            let same = settled_at conn.store stays db live.0.is_open old in
+            inl (subst (AreTheirs image) (sym same) (record { holds = finds.holds; reads = finds.reads }))
+        | inr made ↦ inr (made_by image (file_state conn) live.0 live.1 finds how db made)
+      ]
+
+  pub not_opened : (it : Leftover D g) (e : Error) → IsNotOpened image it e → LeavesOpening how image it
+  not_opened (left.Files files) e not = not.left
+  not_opened (left.Unopened files) e not = not.left
+  not_opened (left.Store it) e not = λ db may.
+      let found = not.left.kept (clean_if_left it.pool may.0 may.2) db may in
+      inl (record {
+        holds = λ d held. found.1 d (subst (λ (i : Image). HoldsDatabase i d) (sym not.left.held) held);
+        reads = subst (λ (i : Image). AreFoundIn i db) not.left.held found.0;
+      })
+
+store_outside : (kind : StoreError) → IsOutside (opening_fault (store_error kind))
+store_outside OutOfMemory = tt
+store_outside Io = tt
+store_outside Corrupt = tt
+store_outside Full = tt
+store_outside Broken = tt
+store_outside Unstorable = tt
+
+-- files that hold a database are not taken for others
+pub wanting : {D : Type 0} {g : Ghosts D} (files : Files D) (it : Leftover D g) (e : Error) → FailsToOpenFiles files it e
+    → (P : Trees → Type 0) → HoldSome P (image_of g files) → IsOutside (opening_fault e)
+wanting files it e fails P held = elim fails [
+  | inl memory ↦ subst (λ (x : Error). IsOutside (opening_fault x)) (sym memory) tt
+  | inr other ↦ elim other [
+    | inl refused ↦ absurd (∥∥₁_elim held.held (λ x. absurd x) (λ it. refused.1 (inl (held.trees, it))))
+    | inr fault ↦ elim fault [
+      | inl named ↦ subst (λ (x : Error). IsOutside (opening_fault x)) (sym named.0) (store_outside _)
+      | inr full ↦ subst (λ (x : Error). IsOutside (opening_fault x)) (sym full.0) tt
+    ]
+  ]
+]
+
+pub not_wanting : {D : Type 0} {g : Ghosts D} (image : Image) (it : Leftover D g) (e : Error) → IsNotOpened image it e → IsCleanLeft it
+    → (P : Trees → Type 0) → HoldSome P image → IsOutside (opening_fault e)
+not_wanting image it e not clean P held =
+    wanting not.left.files it e (not.cause clean) P (subst (HoldSome P) (sym not.left.held) held)

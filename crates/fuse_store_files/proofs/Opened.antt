@@ -1,0 +1,66 @@
+-- A store that is opened over any database.
+use Rattle.std.proofs.Common.{◌≡◌, false, true, IsTrue, [], None, Result, Ok, Err, IfOk, inl, inr, subst}
+use Rattle.sqlite_tied.specs.Compute.{everything}
+use Rattle.sqlite.specs.Schema.{Schema}
+use Rattle.sqlite.specs.Effect.{Database}
+use Rattle.sqlite.specs.State.{State}
+use Rattle.fuse_wire.specs.declared.moment.Moment.{Moment}
+use Rattle.fuse_tree.specs.State.{new_store}
+use Rattle.fuse_tree.specs.Rows.{rowed}
+use Rattle.fuse_tree.specs.TheTree.{the_tree}
+use Rattle.fuse_keeper.specs.KeeperState.{KeeperState, StandsFor}
+use Rattle.fuse_keeper.specs.Lots.{SameLots}
+use Rattle.fuse_store_tables.specs.Layout.{no_schema}
+use Rattle.fuse_store_tables.specs.Saying.{IsTabled, has_tables, first_names, second_names}
+use Rattle.fuse_store_tree.specs.Store.{records_of}
+use Rattle.fuse_store_tree.specs.Holding.{lots_of}
+use Rattle.fuse_store.specs.Creating.{IsBlank, new_holding}
+use Rattle.fuse_store.specs.Opening.{Stored, WasFor, opened_for}
+use Rattle.fuse_store.specs.Starting.{BeginsAfter, begun_for}
+use Rattle.fuse_store_files.specs.declared.files.Opening.TheVariants.{Existing, Any, Fresh}
+use Rattle.fuse_store_files.specs.inner.Opened.{OpensOver}
+
+-- a database with tables isn't blank
+pub tabled_is_not_blank : (d : Database) → d.schema ≡ no_schema → IsTabled d → ⊥
+unfolding everything
+tabled_is_not_blank d none (inl it) = let e : false ≡ true = subst (λ (s : Schema). IsTrue (has_tables first_names s)) none it.1 in absurd (cc)
+tabled_is_not_blank d none (inr it) = let e : false ≡ true = subst (λ (s : Schema). IsTrue (has_tables second_names s)) none it.1 in absurd (cc)
+
+module _ (s : State) (k : KeeperState the_tree) where
+  pub over_existing : ((z : Stored) → WasFor z s → k.holds (rowed (opened_for z).tree) (records_of (opened_for z).kept))
+      → ((z : Stored) → WasFor z s → SameLots (lots_of None (opened_for z)) k.lots) → IsTabled s.now → OpensOver Existing s k
+  over_existing holds lots tabled = record {
+    keeps = λ z was. record { held = holds z was; lots = lots z was };
+    begins = λ z was. tt;
+    makes = λ blank is_open. tabled_is_not_blank s.now blank.1 tabled;
+  }
+
+  pub over_any : (now : Moment) → ((z : Stored) → WasFor z s → k.holds (rowed (opened_for z).tree) (records_of (opened_for z).kept))
+      → ((z : Stored) → WasFor z s → SameLots (lots_of None (opened_for z)) k.lots) → (IsBlank s → IsTrue s.is_open → StandsFor k (new_store now) [] [])
+      → (IsBlank s → IsTrue s.is_open → SameLots (lots_of None (new_holding now)) k.lots) → OpensOver (Any now) s k
+  over_any now holds lots stands new_lots = record {
+    keeps = λ z was. record { held = holds z was; lots = lots z was };
+    begins = λ z was. tt;
+    makes = λ blank is_open. record { stands = stands blank is_open; lots = new_lots blank is_open };
+  }
+
+  pub over_fresh : (now : Moment) → ((z : Stored) → WasFor z s → k.holds (rowed (begun_for z).tree) (records_of (begun_for z).kept))
+      → ((z : Stored) → WasFor z s → SameLots (lots_of None (begun_for z)) k.lots) → ((z : Stored) → WasFor z s → BeginsAfter z k)
+      → (IsBlank s → IsTrue s.is_open → StandsFor k (new_store now) [] [])
+      → (IsBlank s → IsTrue s.is_open → SameLots (lots_of None (new_holding now)) k.lots) → OpensOver (Fresh now) s k
+  over_fresh now holds lots begins stands new_lots = record {
+    keeps = λ z was. record { held = holds z was; lots = lots z was };
+    begins = begins;
+    makes = λ blank is_open. record { stands = stands blank is_open; lots = new_lots blank is_open };
+  }
+
+-- ---- several claims of one result
+
+pub ok_of_3 : {X E : Type 0} (r : Result X E) (A B C Z : X → Type 0) → ((x : X) → A x → B x → C x → Z x) → IfOk r A → IfOk r B → IfOk r C → IfOk r Z
+ok_of_3 (Ok x) A B C Z f a b c = f x a b c
+ok_of_3 (Err e) A B C Z f a b c = tt
+
+pub ok_of_5 : {X E : Type 0} (r : Result X E) (A B C D F Z : X → Type 0) → ((x : X) → A x → B x → C x → D x → F x → Z x)
+    → IfOk r A → IfOk r B → IfOk r C → IfOk r D → IfOk r F → IfOk r Z
+ok_of_5 (Ok x) A B C D F Z f a b c d e = f x a b c d e
+ok_of_5 (Err e) A B C D F Z f a b c d e' = tt

@@ -1,0 +1,48 @@
+use Rattle.std.proofs.Common.{sym, subst, inl, refl, arith}
+use Rattle.sqlite_trees.proofs.Doubt.{no_doubt}
+use Rattle.sqlite_wal.specs.Files.{image_at}
+use Rattle.sqlite.specs.State.{HasCleanDisk}
+use Rattle.sqlite.specs.Files.{file_state, over_files}
+use Rattle.fuse_store_tables.specs.Faults.{IsOutside}
+use Rattle.fuse_store.specs.TableKeeper.{keeper_told}
+use Rattle.fuse_store_files.proofs.Fresh.{some_weaker}
+use Rattle.fuse_store_files.proofs.Found.{keeps, opens_as, was_for, left_open, not_opened, not_wanting}
+use Rattle.fuse_store_files.proofs.files.open_store.Goals as goal
+
+pub returns-in-Err-clause-crash : goal.returns-in-Err-clause-crash
+returns-in-Err-clause-crash g c =
+    some_weaker c.in-Err.left _ _ (λ it not. not_opened (image_at g.S.Start) c.args.how it c.in-Err.error not) c.in-Err.ensures.left
+
+pub returns-in-Err-clause-fault : goal.returns-in-Err-clause-fault
+returns-in-Err-clause-fault g c =
+    some_weaker c.in-Err.left _ _
+    (λ it not clean z held. subst IsOutside (sym c.opening_fault.ensures) (not_wanting (image_at g.S.Start) it c.in-Err.error not clean _ held))
+    c.in-Err.ensures.left
+
+pub returns-in-Ok-open_as-clause-opened : goal.returns-in-Ok-open_as-clause-opened
+returns-in-Ok-open_as-clause-opened g c = λ honest.
+    let clean = c.in-Ok-open_as.ensures.honest honest in
+    let live = c.in-Ok.ensures.opened clean in
+    opens_as (image_at g.S.Start) (file_state c.in-Ok.conn) live.0 live.1 (c.in-Ok.ensures.found clean) c.args.how
+    (keeper_told over_files c.in-Ok-open_as.keeper) (c.in-Ok-open_as.ensures.opens honest)
+
+pub returns-in-Ok-open_as-clause-holds : goal.returns-in-Ok-open_as-clause-holds
+returns-in-Ok-open_as-clause-holds g c = λ honest.
+    let clean = c.in-Ok-open_as.ensures.honest honest in
+    let live = c.in-Ok.ensures.opened clean in
+    keeps (image_at g.S.Start) (file_state c.in-Ok.conn) live.0 live.1 (c.in-Ok.ensures.found clean) c.args.how
+    (keeper_told over_files c.in-Ok-open_as.keeper) (c.in-Ok-open_as.ensures.opens honest)
+
+pub returns-in-Err-open_as-clause-crash : goal.returns-in-Err-open_as-clause-crash
+returns-in-Err-open_as-clause-crash g c =
+    left_open (image_at g.S.Start) c.args.how c.in-Ok.conn (λ f. inl refl) c.in-Ok.ensures.opened c.in-Ok.ensures.found
+    (file_state c.in-Err-open_as.conn) c.into_store.result c.in-Err-open_as.ensures.crash c.into_store.ensures.quiet.clean
+    c.into_store.ensures.quiet.outcomes
+
+pub returns-in-Err-open_as-clause-fault : goal.returns-in-Err-open_as-clause-fault
+returns-in-Err-open_as-clause-fault g c = λ is_clean z held.
+    let last = no_doubt _ is_clean in
+    let after : HasCleanDisk (file_state c.in-Err-open_as.conn) = omega (arith, last, c.into_store.ensures.quiet.clean) in
+    let clean : HasCleanDisk (file_state c.in-Ok.conn) = omega (arith, after, c.in-Err-open_as.ensures.crash.clean) in
+    let live = c.in-Ok.ensures.opened clean in
+    c.in-Err-open_as.ensures.fault after z (was_for (image_at g.S.Start) (file_state c.in-Ok.conn) live.0 live.1 (c.in-Ok.ensures.found clean) z held)

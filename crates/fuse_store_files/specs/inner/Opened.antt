@@ -1,0 +1,48 @@
+-- A store that is opened over any database, and files that are not opened (own profile).
+use Rattle.std.specs.Prelude.{IsTrue}
+use Rattle.sqlite_disk.specs.declared.Disk.{Ghosts}
+use Rattle.sqlite_wal.specs.Recovery.{Image}
+use Rattle.sqlite.specs.Tree.{Trees}
+use Rattle.sqlite.specs.State.{State}
+use Rattle.sqlite.specs.declared.error.Error.{Error}
+use Rattle.sqlite.specs.declared.file.Leftover.{Leftover}
+use Rattle.sqlite.specs.Files.{IsCleanLeft, FailsToOpenFiles}
+use Rattle.fuse_tree.specs.TheTree.{the_tree}
+use Rattle.fuse_keeper.specs.KeeperState.{KeeperState}
+use Rattle.fuse_store_tables.specs.Content.{LeftAs}
+use Rattle.fuse_store.specs.Creating.{IsBlank}
+use Rattle.fuse_store.specs.Opening.{Stored, OpenedFor, WasFor}
+use Rattle.fuse_store.specs.Starting.{BeginsAfter, LeavesStarted, LeavesFresh}
+use Rattle.fuse_store_files.specs.declared.files.Opening.{Opening}
+use Rattle.fuse_store_files.specs.declared.files.Opening.TheVariants.{Existing, Any, Fresh}
+use Rattle.fuse_store_files.specs.Starting.{IsNewStore, KeepsStore}
+use Rattle.fuse_store_files.specs.Left.{LeavesAsFound}
+
+-- what an opening makes of a blank database
+abbrev pub MakesNew : Opening → KeeperState the_tree → Type 0
+MakesNew Existing k = ⊥
+MakesNew (Any now) k = IsNewStore now k
+MakesNew (Fresh now) k = IsNewStore now k
+
+-- a mount of this store begins, where the opening begins one
+abbrev pub MayBegin : Opening → Stored → KeeperState the_tree → Type 0
+MayBegin Existing z k = Unit {0}
+MayBegin (Any now) z k = Unit {0}
+MayBegin (Fresh now) z k = BeginsAfter z k
+
+-- a keeper was opened so over this database
+pub record OpensOver (how : Opening) (s : State) (k : KeeperState the_tree) : Type 0 where
+  pub keeps : (z : Stored) → WasFor z s → KeepsStore how z k
+  pub begins : (z : Stored) → WasFor z s → MayBegin how z k
+  pub makes : IsBlank s → IsTrue s.is_open → MakesNew how k
+
+-- what a crash may leave of an opening that failed, beside what it could leave before
+abbrev pub LeavesOver : Opening → State → Trees → Type 0
+LeavesOver Existing s = λ db. (z : Stored) → WasFor z s → LeftAs (OpenedFor z) db
+LeavesOver (Any now) s = LeavesStarted now s
+LeavesOver (Fresh now) s = LeavesFresh now s
+
+-- the files were not opened, for this error
+pub record IsNotOpened {D : Type 0} {g : Ghosts D} (image : Image) (it : Leftover D g) (e : Error) : Type 0 where
+  pub left : LeavesAsFound image it
+  pub cause : IsCleanLeft it → FailsToOpenFiles left.files it e

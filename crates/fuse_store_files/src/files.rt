@@ -1,0 +1,112 @@
+// The files at a path, and how a store in them is opened.
+ghost use Rattle.std.specs.Prelude.{◌≡◌, ◌⊎◌, None, false, codes, IfOk, IfErr, IfSome, IsErrAnd};
+ghost use Rattle.sqlite.specs.declared.error.Error.TheVariants.{SqliteFailure};
+ghost use Rattle.sqlite.specs.declared.error.ErrorCode.TheVariants.{CannotOpen, OutOfMemory, DatabaseBusy};
+ghost use Rattle.sqlite.specs.State.{HasCleanDisk};
+ghost use Rattle.sqlite.specs.Files.{file_state, over_files, IsOpened, IsCleanLeft};
+ghost use Rattle.sqlite.specs.Start.{FindsIn};
+ghost use Rattle.sqlite_wal.specs.Files.{image_at};
+ghost use Rattle.fuse_keeper.specs.KeeperState.{IsFirm};
+ghost use Rattle.fuse_store_tables.specs.Faults.{IsOutside};
+ghost use Rattle.fuse_store.specs.Opening.{Stored};
+ghost use Rattle.fuse_store.specs.TableKeeper.{keeper_told, SharesMedium};
+ghost use Rattle.fuse_store_files.specs.Files.{FilesHold};
+ghost use Rattle.fuse_store_files.specs.Starting.{path_of, OpensAs, KeepsStore};
+ghost use Rattle.fuse_store_files.specs.Left.{LeavesOpening};
+ghost use Rattle.fuse_store_files.specs.inner.Opened.{IsNotOpened};
+
+use crate::opening::open_as;
+use fuse_store::{StoreFault, TableKeeper, opening_fault};
+use fuse_wire::Moment;
+use sqlite::{Connection, Error, FileFrom, FileStore, Leftover, Start};
+use std::fs;
+
+/// How a store is opened.
+#[derive(Clone, Copy)]
+pub enum Opening {
+    /// A store that is there.
+    Existing,
+    /// One that is there or, where nothing is, a new one, made at this moment.
+    Any(Moment),
+    /// The same, and a mount of one that is there begins.
+    Fresh(Moment),
+}
+
+/// The files at a path: a database file and its log. What takes this value opens them.
+#[derive(Drop)]
+pub struct StoreFiles<'r, 'p, S: Start> {
+    rt: &'r HostRuntime,
+    path: &'p str,
+    start: S,
+}
+
+impl<'r, 'p, S: Start> StoreFiles<'r, 'p, S> {
+    /// The files at this path, of which `start` says what they hold. Nothing is opened yet.
+    pub fn at(rt: &'r HostRuntime, path: &'p str, start: S) -> StoreFiles<'r, 'p, S>
+        ensures { path_of result ≡ path.now }
+    {
+        StoreFiles { rt, path, start }
+    }
+
+    // Whether there is no file with this name.
+    fn are_missing(&self) -> bool {
+        matches!(fs::exists(self.rt, self.path), Ok(false))
+    }
+
+    // The connection to these files, which are made if they are missing.
+    fn connect(
+        self,
+    ) -> Result<Connection<FileStore<FileFrom<S>>>, (Error, Option<Leftover<FileFrom<S>>>)>
+        ensures memory { path_of self.entry ≡ codes ":memory:"
+            → IsErrAnd result (λ e. e.0 ≡ SqliteFailure CannotOpen) }
+        ensures opened { IfOk result (λ c. HasCleanDisk (file_state c) → IsOpened c) }
+        ensures found { IfOk result (λ c. HasCleanDisk (file_state c)
+            → FindsIn (image_at S.Start) (file_state c)) }
+        ensures none { IfErr result (λ e. e.1 ≡ None → (e.0 ≡ SqliteFailure CannotOpen)
+            ⊎ ((e.0 ≡ SqliteFailure OutOfMemory) ⊎ (e.0 ≡ SqliteFailure DatabaseBusy))) }
+        ensures left { IfErr result (λ e. IfSome e.1
+            (λ it. IsNotOpened (image_at S.Start) it e.0)) }
+    {
+        let StoreFiles { rt, path, start } = self;
+        match Connection::open_from(rt, path, false, start) {
+            Ok(conn) => Ok(conn),
+            Err(left) => Err(left),
+        }
+    }
+}
+
+/// The keeper of the store in these files. An error comes with what is left of the files, once they
+/// were opened. A store that must be there is not made: without a file there is none.
+pub fn open_store<S: Start>(
+    files: StoreFiles<'_, '_, S>,
+    how: Opening,
+) -> Result<TableKeeper<FileStore<FileFrom<S>>>, (StoreFault, Option<Leftover<FileFrom<S>>>)>
+    ensures memory { path_of files.entry ≡ codes ":memory:" → IsErrAnd result (λ e. Unit {0}) }
+    // What the files held is what the keeper stands for.
+    ensures opened { IfOk result (λ k. (keeper_told over_files k).is_honest
+        → OpensAs how (image_at S.Start) (keeper_told over_files k)) }
+    ensures holds { IfOk result (λ k. (keeper_told over_files k).is_honest → (z : Stored)
+        → FilesHold (image_at S.Start) z → KeepsStore how z (keeper_told over_files k)) }
+    ensures firm { IfOk result (λ k. (keeper_told over_files k).is_honest
+        → IsFirm (keeper_told over_files k)) }
+    ensures going { IfOk result (λ k. (keeper_told over_files k).has_failed ≡ false) }
+    ensures medium { IfOk result (SharesMedium over_files) }
+    // A crash leaves what was found, or what the opening makes of it.
+    ensures crash { IfErr result (λ e. IfSome e.1 (LeavesOpening how (image_at S.Start))) }
+    // The fault says nothing of a sound store.
+    ensures fault { IfErr result (λ e. IfSome e.1 (λ it. IsCleanLeft it → (z : Stored)
+        → FilesHold (image_at S.Start) z → IsOutside e.0)) }
+{
+    if matches!(how, Opening::Existing) && files.are_missing() {
+        return Err((StoreFault::NotAStore, None));
+    }
+    let alloc = files.rt.alloc();
+    let conn = match files.connect() {
+        Ok(conn) => conn,
+        Err((error, left)) => return Err((opening_fault(error), left)),
+    };
+    match open_as(alloc, conn, how) {
+        Ok(keeper) => Ok(keeper),
+        Err((fault, conn)) => Err((fault, Some(Leftover::Store(conn.into_store())))),
+    }
+}

@@ -1,0 +1,40 @@
+// The store of a database is opened, as it is asked.
+ghost use Rattle.std.specs.Prelude.{◌≡◌, false, IfOk, IfErr};
+ghost use Rattle.sqlite.specs.State.{HasCleanDisk, Survives};
+ghost use Rattle.sqlite.specs.Held.{state};
+ghost use Rattle.fuse_keeper.specs.KeeperState.{IsFirm};
+ghost use Rattle.fuse_store_tables.specs.Faults.{IsOutside};
+ghost use Rattle.fuse_store.specs.Opening.{Stored, WasFor};
+ghost use Rattle.fuse_store.specs.TableKeeper.{keeper_told, SharesMedium};
+ghost use Rattle.fuse_store_files.specs.inner.Opened.{OpensOver, LeavesOver};
+
+use crate::files::Opening;
+use fuse_store::{StoreFault, TableKeeper, open_fresh, open_or_create};
+use sqlite::{Alter, Connection};
+use std::alloc::Global;
+
+/// A fault gives the connection back.
+pub(crate) fn open_as<S: Alter>(
+    alloc: Global,
+    conn: Connection<S>,
+    how: Opening,
+) -> Result<TableKeeper<S>, (StoreFault, Connection<S>)>
+    ensures opens { IfOk result (λ k. (keeper_told S.Store k).is_honest
+        → OpensOver how (state S.Store conn) (keeper_told S.Store k)) }
+    ensures honest { IfOk result (λ k. (keeper_told S.Store k).is_honest
+        → HasCleanDisk (state S.Store conn)) }
+    ensures firm { IfOk result (λ k. (keeper_told S.Store k).is_honest
+        → IsFirm (keeper_told S.Store k)) }
+    ensures going { IfOk result (λ k. (keeper_told S.Store k).has_failed ≡ false) }
+    ensures medium { IfOk result (SharesMedium S.Store) }
+    ensures crash { IfErr result (λ r. Survives (state S.Store conn) (state S.Store r.1)
+        (LeavesOver how (state S.Store conn))) }
+    ensures fault { IfErr result (λ r. HasCleanDisk (state S.Store r.1) → (z : Stored)
+        → WasFor z (state S.Store conn) → IsOutside r.0) }
+{
+    match how {
+        Opening::Existing => TableKeeper::open(alloc, conn),
+        Opening::Any(now) => open_or_create(alloc, conn, now),
+        Opening::Fresh(now) => open_fresh(alloc, conn, now),
+    }
+}
