@@ -1,5 +1,7 @@
 // A group of requests as a whole transaction.
-ghost use Rattle.std.specs.Prelude.{◌≡◌, ◌<◌, ◌^◌, None, length, IfOk, IfErr, IfSome};
+ghost use Rattle.std.specs.Prelude.{◌≡◌, ◌<◌, ◌^◌, None, false, length};
+ghost use Rattle.std.specs.Prelude.{IfOk, IfErr, IfSome, OnOk};
+ghost use Rattle.sqlite.specs.State.{HasCleanDisk};
 ghost use Rattle.sqlite.specs.Held.{state};
 ghost use Rattle.fuse_keeper.specs.Group.{entries_of, ids_of};
 ghost use Rattle.fuse_store_tables.specs.Moves.{ServesAs, StaysOpen};
@@ -33,6 +35,8 @@ fn transact<S: Alter>(
         (λ y. HeldFor (performed lot (ids_of settled.now) (entries_of group.now) y))
         (state S.Store look.old.conn) (state S.Store look.new.conn) result }
     ensures open { StaysOpen (state S.Store look.old.conn) (state S.Store look.new.conn) result }
+    ensures ended { OnOk result (HasCleanDisk (state S.Store look.new.conn)
+        → (state S.Store look.new.conn).in_transaction ≡ false) }
     ensures lot { IfOk result (λ p. ReportsAfter (state S.Store look.old.conn)
         (state S.Store look.new.conn) (λ y. p.lot ≡ lot_for lot y)) }
     ensures low { IfOk result (λ p. p.lot < 2 ^ 62) }
@@ -74,6 +78,9 @@ pub fn perform<S: Alter>(
         (λ y. HeldFor (performed lot (ids_of settled.now) (entries_of group.now) y))
         (state S.Store look.old.conn) (state S.Store look.new.conn) result }
     ensures open { StaysOpen (state S.Store look.old.conn) (state S.Store look.new.conn) result }
+    // No transaction is left open, whether it succeeds or not.
+    ensures ended { HasCleanDisk (state S.Store look.new.conn)
+        → (state S.Store look.new.conn).in_transaction ≡ false }
     ensures lot { IfOk result (λ p. ReportsAfter (state S.Store look.old.conn)
         (state S.Store look.new.conn) (λ y. p.lot ≡ lot_for lot y)) }
     ensures low { IfOk result (λ p. p.lot < 2 ^ 62) }

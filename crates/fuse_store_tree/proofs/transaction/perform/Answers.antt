@@ -28,3 +28,9 @@ pub returns-in-Err-clause-open : goal.returns-in-Err-clause-open
 returns-in-Err-clause-open g c =
     open_undone (state g.S.Store c.args.look.now.conn) (state g.S.Store c.transact.new.look.conn) (state g.S.Store c.undo.new.conn) c.in-Err.fault
     c.in-Err.fault c.in-Err.ensures.open c.undo.ensures
+
+pub returns-in-Ok-clause-ended : goal.returns-in-Ok-clause-ended
+returns-in-Ok-clause-ended g c = c.in-Ok.ensures.ended
+
+pub returns-in-Err-clause-ended : goal.returns-in-Err-clause-ended
+returns-in-Err-clause-ended g c = c.undo.ensures.autocommit

@@ -82,3 +82,6 @@ returns-in-Ok-commit-clause-open g c =
     open_committed (state g.S.Store c.args.look.now.conn) (state g.S.Store c.begin.new.conn) (state g.S.Store c.perform_in.new.look.conn)
     (state g.S.Store c.commit.new.conn) _ _ c.in-Ok-perform_in.performed c.in-Ok.ensures c.in-Ok-perform_in.ensures.turned.stays.survives
     c.in-Ok-commit.ensures
+
+pub returns-in-Ok-commit-clause-ended : goal.returns-in-Ok-commit-clause-ended
+returns-in-Ok-commit-clause-ended g c = λ clean. (c.in-Ok-commit.ensures.ended clean).1
