@@ -1,10 +1,11 @@
 -- What is left of rows, and of the blocks of their nodes.
-use Rattle.std.proofs.Common.{◌≡◌, ◌≤◌, ◌<◌, ℕ, ◌==◌, ◌&&◌, ◌||◌, List, [], ◌∷◌, map, filter, find, Bool, true, false, not, cond}
-use Rattle.std.proofs.Common.{Some, None, Option, inl, inr, refl, sym, ap, arith, ◌∙◌}
+use Rattle.std.proofs.Common.{◌≡◌, ◌≤◌, ◌<◌, ◌*◌, ℕ, ◌==◌, ◌&&◌, ◌||◌, List, [], ◌∷◌, map, filter, find, Bool, true, false, not, cond}
+use Rattle.std.proofs.Common.{Some, None, Option, inl, inr, refl, sym, ap, subst, arith, ◌∙◌}
 use Rattle.std.specs.List.{AllByRecursion, list_any}
 use Rattle.std.specs.Ordering.{is_eq, is_gt, nat_cmp}
 use Rattle.std.proofs.lemmas.Bool.{cases_Bool}
 use Rattle.std.proofs.lemmas.Bool.Decides.{nat_tests}
+use Rattle.fuse_tree.specs.Bounds.{block_bytes}
 use Rattle.fuse_tree.specs.declared.rows.NodeRow.{NodeRow}
 use Rattle.fuse_tree.specs.declared.rows.Full.{Full}
 use Rattle.fuse_tree.specs.State.{State, Node, IsNode, Apart}
@@ -13,7 +14,7 @@ use Rattle.fuse_tree.specs.Clearing.{is_named_row}
 use Rattle.fuse_store_tables.specs.Blocks.{Block, block_at, is_at}
 use Rattle.fuse_store_tables.specs.Content.{is_unnamed}
 use Rattle.fuse_store_tables.specs.Clearing.{named, has_unnamed}
-use Rattle.fuse_store_tree.specs.Store.{byte_at, bytes_of}
+use Rattle.fuse_store_tree.specs.Store.{byte_at, bytes_of, AreWithin}
 
 -- ---- tests
 
@@ -181,3 +182,14 @@ pub bytes_left : (t : Bool) (o : Option Block) (f : Option Full) (i j : ℕ) →
     → byte_at (bytes_of (cond t None o)) i ≡ byte_at (content_of (cond t None f)) j
 bytes_left true o f i j same = none_at i ∙ sym (none_at j)
 bytes_left false o f i j same = same
+
+-- the blocks of nodes that stay begin before the ends that stay
+pub blocks_within : (gone : ℕ → Bool) (e f : ℕ → ℕ) → ((node : ℕ) → gone node ≡ false → e node ≡ f node) → (bs : List Block) → AreWithin e bs
+    → AreWithin f (filter (λ b. not (gone b.node)) bs)
+blocks_within gone e f same [] all = tt
+blocks_within gone e f same (b ∷ bs) all = by (gone b.node) (same b.node) (blocks_within gone e f same bs all.1)
+  where
+    by : (t : Bool) → (t ≡ false → e b.node ≡ f b.node) → AreWithin f (filter (λ x. not (gone x.node)) bs)
+        → AreWithin f (cond (not t) (b ∷ filter (λ x. not (gone x.node)) bs) (filter (λ x. not (gone x.node)) bs))
+    by true stays more = more
+    by false stays more = (subst (λ n. b.block * block_bytes < n) (stays refl) all.0, more)

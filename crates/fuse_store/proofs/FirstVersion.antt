@@ -61,6 +61,7 @@ describes_migrated tree answers c told = record {
   lots = refl;
   kept = ap (map (under 0)) told.answers;
   bytes = told.bytes;
+  within = told.within;
   settings = told.settings;
   fits = record {
     nodes = told.fits.nodes;

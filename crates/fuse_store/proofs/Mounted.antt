@@ -10,12 +10,12 @@ use Rattle.fuse_tree.specs.Clearing as trees
 use Rattle.fuse_store_tables.specs.Content.{Content, Holds, node_key, is_unnamed, set_counter}
 use Rattle.fuse_store_tables.specs.Clearing.{cleared, named, has_unnamed, counted_to, without_settings}
 use Rattle.fuse_store_tree.specs.Fits.{KeepsNode, IsWhole}
-use Rattle.fuse_store_tree.specs.Store.{counters_of, in_order, byte_at, bytes_of}
+use Rattle.fuse_store_tree.specs.Store.{counters_of, in_order, byte_at, bytes_of, rows_ends, AreWithin}
 use Rattle.fuse_store_tree.specs.inner.Reading.{Describes}
 use Rattle.fuse_store_tree.specs.Holding.{Holding, HeldFor, TreesAreInOrder, store_of}
 use Rattle.fuse_store.specs.Mounting.{cleared_for}
 use Rattle.fuse_store.proofs.Fitting.{filter_length, all_filter}
-use Rattle.fuse_store.proofs.Clearing.{named_rows, found_left, block_left, bytes_left}
+use Rattle.fuse_store.proofs.Clearing.{named_rows, found_left, block_left, bytes_left, blocks_within}
 use Rattle.fuse_store.proofs.Retelling.{Retold}
 
 small_count : (n m : ℕ) → n ≤ m → m ≤ 65536 → min n 9223372036854775807 ≡ n
@@ -61,6 +61,14 @@ module _ (clearing : trees.Clearing) (ordered : TreesAreInOrder) (y : Holding) (
       ∙ sym (ap (λ f. byte_at (content_of f) i) (found_left y.tree node y.tree.next_node y.tree.nodes tree.nodes tree.nodes_rise
       ∙ ap (λ ns. cond (has_unnamed ns node) None (full_at (rowed y.tree) node)) (sym nodes_are)))
 
+  -- a block that is left is of a node that is left, whose content is as it was
+  within_is : AreWithin (rows_ends (trees.cleared_rows (rowed y.tree))) (cleared c).blocks
+  unfolding rowed
+  within_is = blocks_within (has_unnamed c.nodes) (rows_ends (rowed y.tree)) (rows_ends (trees.cleared_rows (rowed y.tree)))
+      (λ node stays. sym (ap (λ f. length (content_of f)) (found_left y.tree node y.tree.next_node y.tree.nodes tree.nodes tree.nodes_rise
+      ∙ ap (λ ns. cond (has_unnamed ns node) None (full_at (rowed y.tree) node)) (sym nodes_are)
+      ∙ ap (λ t. cond t None (full_at (rowed y.tree) node)) stays))) c.blocks told.within
+
   pub describes_cleared : Describes (store_of (cleared_for y)) (cleared c)
   describes_cleared =
       subst (λ (r : Rows). Describes (record { rows = r; kept = []; lots = []; next_lot = y.next_lot }) (cleared c)) (sym (clearing y.tree tree).1)
@@ -73,6 +81,7 @@ module _ (clearing : trees.Clearing) (ordered : TreesAreInOrder) (y : Holding) (
         lots = refl;
         kept = refl;
         bytes = bytes_are;
+        within = within_is;
         settings = record { minor = omega arith; readahead = omega arith; flags = omega arith };
         fits = record {
           nodes = all_filter KeepsNode (λ n. not (is_unnamed n)) c.nodes told.fits.nodes;

@@ -34,6 +34,7 @@ new_told now low = record {
   lots = refl;
   kept = refl;
   bytes = λ node i. no_bytes (full_of (new_tree now) (root_node now)) (i % block_bytes) i refl (1 == node);
+  within = tt;
   settings = record { minor = omega arith; readahead = omega arith; flags = omega arith };
   fits = record {
     nodes = (record { node = omega arith; seconds = record { atime = low; mtime = low; ctime = low } }, tt);

@@ -15,7 +15,7 @@ use Rattle.fuse_store_tables.specs.Moves.{RestsAs}
 use Rattle.fuse_store_tables.specs.Opening.{under}
 use Rattle.fuse_store_tables.specs.Saying.{Says}
 use Rattle.fuse_store_tree.specs.Fits.{Fits, KeepsRecord}
-use Rattle.fuse_store_tree.specs.Store.{FitsSettings, in_order, counter, is_there, minor_of, readahead_of, flags_of, byte_in, rows_bytes}
+use Rattle.fuse_store_tree.specs.Store.{FitsSettings, in_order, counter, is_there, minor_of, readahead_of, flags_of, byte_in, rows_bytes, rows_ends, AreWithin}
 use Rattle.fuse_store_tree.specs.Holding.{Holding, HeldFor}
 
 -- ---- version 1
@@ -37,6 +37,7 @@ pub record DescribesFirst (rows : Rows) (records : List Answer) (c : Content) : 
   pub lots : c.lots ≡ []
   pub kept : c.kept ≡ []
   pub bytes : (node i : ℕ) → byte_in c.blocks node i ≡ rows_bytes rows node i
+  pub within : AreWithin (rows_ends rows) c.blocks
   pub settings : FitsSettings rows.settings
   pub fits : Fits c
   pub keeps : AllByRecursion (λ a. KeepsRecord (under 0 a)) records

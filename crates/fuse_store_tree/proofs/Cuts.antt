@@ -1,5 +1,5 @@
 -- The bytes of a node after a place, cut off.
-use Rattle.std.proofs.Common.{◌≡◌, ◌≤◌, ◌+◌, ◌-◌, ◌*◌, ◌/◌, ◌%◌, ◌==◌, ◌&&◌, inl, inr, ℕ, List, [], ◌∷◌, filter, find, length, replicate, not, nat_lt}
+use Rattle.std.proofs.Common.{◌≡◌, ◌≤◌, ◌<◌, ◌+◌, ◌-◌, ◌*◌, ◌/◌, ◌%◌, ◌==◌, ◌&&◌, inl, inr, ℕ, List, [], ◌∷◌, filter, find, length, replicate, not, nat_lt, min}
 use Rattle.std.proofs.Common.{Bool, true, false, cond, None, Ok, refl, sym, ap, subst, arith, ◌∙◌}
 use Rattle.std.specs.List.{list_any}
 use Rattle.std.specs.Ordering.{is_eq, is_ge, nat_cmp}
@@ -16,11 +16,12 @@ use Rattle.fuse_store_tables.specs.Content.{Content, without_blocks_from, node_k
 use Rattle.fuse_store_tables.specs.Moves.{Makes}
 use Rattle.fuse_store_tables.specs.inner.Following.{earlier}
 use Rattle.fuse_store_tree.specs.Fits.{IsWhole}
-use Rattle.fuse_store_tree.specs.Store.{Store, DescribesAs, byte_at, bytes_of, byte_in, rows_bytes, in_order}
+use Rattle.fuse_store_tree.specs.Store.{Store, DescribesAs, byte_at, bytes_of, byte_in, rows_bytes, rows_ends, bodies_of, AreWithin, in_order}
 use Rattle.fuse_store_tree.specs.inner.Reading.{Describes}
-use Rattle.fuse_store_tree.specs.inner.Writing.{cut, overlay, with_change}
-use Rattle.fuse_store_tree.specs.inner.Changing.{Changed, Cut, Overlaid, KeepsBytes}
+use Rattle.fuse_store_tree.specs.inner.Writing.{cut, overlay, cut_in, zeros_in, shortened, with_change}
+use Rattle.fuse_store_tree.specs.inner.Changing.{Changed, Cut, Zeroed, KeepsBytes}
 use Rattle.fuse_store_tree.proofs.Orders.{all_filter}
+use Rattle.fuse_store_tree.proofs.Within.{within_more, within_left, left_short, shorter}
 use Rattle.fuse_store_tree.proofs.BlockBytes.{lower, upper, others_left}
 use Rattle.fuse_store_tree.proofs.Overlays.{byte_sized, sized_length, zero_at, beyond, low_test, high_test}
 use Rattle.fuse_store_tree.proofs.Steps.{bytes_keep, bytes_then}
@@ -101,7 +102,9 @@ blocks_cut a b x node k p = record {
             answers = was.answers;
             lots = was.lots;
             kept = was.kept;
-            bytes = λ n i. cut_bytes node k c.blocks n i ∙ same_cut node (k * block_bytes) (byte_in c.blocks) w.1 was.bytes n i;
+            bytes = λ n i. cut_bytes node k c.blocks n i ∙ same_cut node (k * block_bytes) (byte_in c.blocks) w.1.byte was.bytes n i;
+            within = within_left (λ b. not (is_from node k b)) w.1.ends (shortened node (k * block_bytes) w.1.ends)
+                (λ b stays low. left_short node k w.1.ends b stays low) c.blocks was.within;
             settings = was.settings;
             fits = record {
               nodes = was.fits.nodes;
@@ -116,7 +119,7 @@ blocks_cut a b x node k p = record {
 }
 
 pub cut_keeps : (node at : ℕ) (a b d : State) → Cut node at a b → KeepsBytes b d → KeepsBytes a d
-cut_keeps node at a b d p q = bytes_then a b d p.stays (λ clean w now. ((w.0, cut node at w.1), p.turns clean w now)) q
+cut_keeps node at a b d p q = bytes_then a b d p.stays (λ clean w now. ((w.0, cut_in node at w.1), p.turns clean w now)) q
 
 -- ---- the rest of a block set to 0
 
@@ -144,22 +147,23 @@ zeroed node size end g n i high = elim (cases_Bool (n == node)) [
 ]
 
 pub cut_then : (node size end : ℕ) (zeros : List ℕ) (a b d : State) → Cut node end a b → zeros ≡ replicate (end - size) 0 → size ≤ end
-    → Overlaid node size zeros b d → Cut node size a d
-cut_then node size end zeros a b d p are high q =
-    let second : Overlaid node size (replicate (end - size) 0) b d = subst (λ z. Overlaid node size z b d) are q in
+    → ((k : ℕ) → k * block_bytes < end → k * block_bytes < size) → Zeroed node size zeros b d → Cut node size a d
+cut_then node size end zeros a b d p are high none q =
+    let second : Zeroed node size (replicate (end - size) 0) b d = subst (λ z. Zeroed node size z b d) are q in
     record {
       stays = cut_keeps node end a b d p second.stays;
       turns = λ clean w now.
           let mid = p.turns (earlier b d _ second.stays.survives clean) w now in
-          let last = second.turns clean (w.0, cut node end w.1) mid in
-          let same = λ (n i : ℕ). zeroed node size end w.1 n i high in
+          let last = second.turns clean (w.0, cut_in node end w.1) mid in
+          let same = λ (n i : ℕ). zeroed node size end w.1.byte n i high in
           record {
             is_open = last.is_open;
             in_transaction = last.in_transaction;
             holds = (
               last.holds.0,
               last.holds.1,
-              describes_same w.0 (overlay node size (replicate (end - size) 0) (cut node end w.1)) (cut node size w.1) last.holds.0 same last.holds.2,
+              describes_same w.0 (zeros_in node size (replicate (end - size) 0) (cut_in node end w.1)) (cut_in node size w.1) last.holds.0 same
+                  (λ n k low. shorter node end size w.1.ends n k (none k) low) last.holds.2,
             );
           };
     }
@@ -176,7 +180,7 @@ either_zero : (b : Bool) → ◌≡◌ {A = ℕ} (cond b 0 0) 0
 either_zero true = refl
 either_zero false = refl
 
-sized_byte : (x : Store) (node size : ℕ) (c : Content) → DescribesAs x (cut node size (rows_bytes x.rows)) c → (n i : ℕ)
+sized_byte : (x : Store) (node size : ℕ) (c : Content) → DescribesAs x (cut_in node size (bodies_of x.rows)) c → (n i : ℕ)
     → byte_in c.blocks n i ≡ rows_bytes (with_change (changes.Sized node size) x).rows n i
 sized_byte x node size c told n i = elim (cases_Bool (n == node)) [
   | inr other ↦ told.bytes n i ∙ (rw other (ap (λ l. byte_at l i) (sym (content_other node (sized size) n x.rows.nodes other))))
@@ -195,7 +199,31 @@ sized_byte x node size c told n i = elim (cases_Bool (n == node)) [
       ]
 ]
 
-sized_told : (x : Store) (node size : ℕ) (c : Content) → DescribesAs x (cut node size (rows_bytes x.rows)) c
+sized_within : (x : Store) (node size : ℕ) (bs : List Block) → AreWithin (shortened node size (rows_ends x.rows)) bs
+    → AreWithin (rows_ends (with_change (changes.Sized node size) x).rows) bs
+sized_within x node size bs all = within_more (shortened node size (rows_ends x.rows)) after (λ n k low. each n (k * block_bytes) low) bs all
+  where
+    after : ℕ → ℕ
+    after = rows_ends (with_change (changes.Sized node size) x).rows
+
+    here : (k : ℕ) → k < rows_ends x.rows node → k < size → k < after node
+    here k less low = elim (cases_Bool (list_any (λ f. f.row.node == node) x.rows.nodes)) [
+      | inl there ↦
+          let long = ap length (content_here node (sized size) x.rows.nodes there) ∙ sized_length size (content_of (full_at x.rows node)) in
+          omega (arith, long, low)
+      | inr none ↦ absurd (let e = ap (λ o. length (content_of o)) (none_there node x.rows.nodes none) in omega (arith, e, less))
+    ]
+
+    each : (n k : ℕ) → k < shortened node size (rows_ends x.rows) n → k < after n
+    each n k low = elim (cases_Bool (n == node)) [
+      | inl its ↦
+          let m = same_number n node its in
+          let short : k < min (rows_ends x.rows n) size = rw its at low in
+          subst (λ z. k < after z) (sym m) (here k (subst (λ z. k < rows_ends x.rows z) m (omega (arith, short))) (omega (arith, short)))
+      | inr other ↦ subst (λ l. k < length l) (sym (content_other node (sized size) n x.rows.nodes other)) (rw other at low)
+    ]
+
+sized_told : (x : Store) (node size : ℕ) (c : Content) → DescribesAs x (cut_in node size (bodies_of x.rows)) c
     → Describes (with_change (changes.Sized node size) x) c
 sized_told x node size c told = record {
   counters = told.counters;
@@ -206,6 +234,7 @@ sized_told x node size c told = record {
   lots = told.lots;
   kept = told.kept;
   bytes = sized_byte x node size c told;
+  within = sized_within x node size c.blocks told.within;
   settings = told.settings;
   fits = told.fits;
 }
@@ -214,7 +243,7 @@ pub sized_changed : (node size : ℕ) (a d : State) → Cut node size a d → Ch
 sized_changed node size a d p = record {
   stays = held_of a d p.stays;
   turns = λ clean s now.
-      let w = p.turns clean (s, rows_bytes s.rows) now in
+      let w = p.turns clean (s, bodies_of s.rows) now in
       record {
         is_open = w.is_open;
         in_transaction = w.in_transaction;

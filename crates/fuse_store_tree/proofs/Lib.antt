@@ -1,4 +1,5 @@
 pub mod Looks
+pub mod Within
 pub mod Described
 pub mod Keys
 pub mod Ranges

@@ -11,6 +11,7 @@ use Rattle.fuse_tree.specs.Rows.{sized, written}
 use Rattle.fuse_store_tree.specs.Store.{byte_at}
 use Rattle.fuse_store_tree.specs.inner.Writing.{overlay}
 use Rattle.fuse_store_tree.proofs.BlockBytes.{lower, upper}
+use Rattle.fuse_store_tree.proofs.Ranges.{drop_length}
 
 nothing_between : (at i : ℕ) → (not (nat_lt i at) && nat_lt i (at + 0)) ≡ false
 nothing_between at i = elim (cases_Bool (nat_lt i at)) [
@@ -108,6 +109,16 @@ byte_sized n xs i low = elim (cases_Bool (nat_lt i (length (take n xs)))) [
       get_or-append_right (take n xs) (replicate (n - length xs) 0) i 0 far ∙ zero_at (n - length xs) (i - length (take n xs))
       ∙ sym (sym (byte_taken n xs i low) ∙ beyond (take n xs) i far)
 ]
+
+pub written_length : (at : ℕ) (bytes xs : List ℕ) → length (written at bytes xs) ≡ at + length bytes + (length xs - (at + length bytes))
+written_length at bytes xs =
+    omega (
+      arith,
+      length-append (sized at xs ++ bytes) (drop (at + length bytes) xs),
+      length-append (sized at xs) bytes,
+      sized_length at xs,
+      drop_length (at + length bytes) xs,
+    )
 
 -- the bytes of a content that is written to
 pub byte_written : (at : ℕ) (bytes xs : List ℕ) (i : ℕ) → byte_at (written at bytes xs) i ≡ cond (not (nat_lt i at) && nat_lt i (at + length bytes))

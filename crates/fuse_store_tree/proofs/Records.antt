@@ -40,6 +40,7 @@ record_gone id x c at = record {
   lots = at.lots;
   kept = ap (without_by kept_key id) at.kept;
   bytes = at.bytes;
+  within = at.within;
   settings = at.settings;
   fits = record {
     nodes = at.fits.nodes;
@@ -78,6 +79,7 @@ record_comes k fits x c at = record {
   lots = at.lots;
   kept = ap (put_by kept_key k) at.kept;
   bytes = at.bytes;
+  within = at.within;
   settings = at.settings;
   fits = record {
     nodes = at.fits.nodes;
@@ -148,6 +150,7 @@ lot_comes n x c at is =
       lots = ap (put_by (λ m. m) n) at.lots ∙ ap (λ k. put_by (λ m. m) k x.lots) same;
       kept = at.kept;
       bytes = at.bytes;
+      within = at.within;
       settings = at.settings;
       fits = record { nodes = at.fits.nodes; entries = at.fits.entries; handles = at.fits.handles; blocks = at.fits.blocks; kept = at.fits.kept };
     }

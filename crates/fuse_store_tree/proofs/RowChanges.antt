@@ -1,9 +1,10 @@
 -- Rows that are added, changed and deleted, as the tables describe them.
 use Rattle.std.proofs.Common.{◌≡◌, inl, inr, ℕ, List, [], ◌∷◌, ◌++◌, ◌==◌, map, Bool, true, false}
-use Rattle.std.proofs.Common.{not, cond, Some, None, refl, sym, ap, subst, arith, ◌∙◌, find, ◌||◌}
+use Rattle.std.proofs.Common.{not, cond, Some, None, refl, sym, ap, subst, arith, ◌∙◌, find, ◌||◌, ◌<◌, ◌*◌, length}
 use Rattle.std.specs.List.{list_any}
 use Rattle.std.proofs.lemmas.Bool.{cases_Bool}
 use Rattle.std.proofs.lemmas.Bool.Decides.{nat_tests}
+use Rattle.fuse_tree.specs.Bounds.{block_bytes}
 use Rattle.fuse_tree.specs.declared.rows.Full.{Full}
 use Rattle.fuse_tree.specs.declared.rows.NodeRow.{NodeRow}
 use Rattle.fuse_tree.specs.Rows.{with_row, put_node, content_of}
@@ -20,6 +21,7 @@ use Rattle.fuse_store_tree.specs.Store.{Store, in_order, byte_at, FitsSettings}
 use Rattle.fuse_store_tree.specs.inner.Reading.{Describes}
 use Rattle.fuse_store_tree.specs.inner.Writing.{with_change}
 use Rattle.fuse_store_tree.proofs.Described.{Rises, same_test, filter_same}
+use Rattle.fuse_store_tree.proofs.Within.{within_more}
 use Rattle.fuse_store_tree.proofs.Orders.{all_put, all_filter, one_more, one_gone, one_replaced, repl, rises_in_order, set_is_put}
 
 -- ---- nodes
@@ -104,6 +106,7 @@ node_put row fits s c at = record {
   lots = at.lots;
   kept = at.kept;
   bytes = λ node i. at.bytes node i ∙ ap (λ l. byte_at l i) (contents_put row node s.rows.nodes);
+  within = within_more _ _ (λ n k low. subst (λ l. k * block_bytes < length l) (contents_put row n s.rows.nodes) low) c.blocks at.within;
   settings = at.settings;
   fits = record {
     nodes = all_put node_key KeepsNode row c.nodes fits at.fits.nodes;
@@ -145,6 +148,7 @@ entry_comes e fits s c at = record {
   lots = at.lots;
   kept = at.kept;
   bytes = at.bytes;
+  within = at.within;
   settings = at.settings;
   fits = record {
     nodes = at.fits.nodes;
@@ -167,6 +171,7 @@ entry_goes cookie s c at = record {
   lots = at.lots;
   kept = at.kept;
   bytes = at.bytes;
+  within = at.within;
   settings = at.settings;
   fits = record {
     nodes = at.fits.nodes;
@@ -190,6 +195,7 @@ handle_comes h fits s c at = record {
   lots = at.lots;
   kept = at.kept;
   bytes = at.bytes;
+  within = at.within;
   settings = at.settings;
   fits = record {
     nodes = at.fits.nodes;
@@ -212,6 +218,7 @@ handle_goes fh s c at = record {
   lots = at.lots;
   kept = at.kept;
   bytes = at.bytes;
+  within = at.within;
   settings = at.settings;
   fits = record {
     nodes = at.fits.nodes;
@@ -236,6 +243,7 @@ counters_change n s c at = record {
   lots = at.lots;
   kept = at.kept;
   bytes = at.bytes;
+  within = at.within;
   settings = at.settings;
   fits = record { nodes = at.fits.nodes; entries = at.fits.entries; handles = at.fits.handles; blocks = at.fits.blocks; kept = at.fits.kept };
 }
@@ -252,6 +260,7 @@ settings_change v fits s c at = record {
   lots = at.lots;
   kept = at.kept;
   bytes = at.bytes;
+  within = at.within;
   settings = fits;
   fits = record { nodes = at.fits.nodes; entries = at.fits.entries; handles = at.fits.handles; blocks = at.fits.blocks; kept = at.fits.kept };
 }

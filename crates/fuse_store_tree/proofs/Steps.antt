@@ -1,6 +1,6 @@
 -- A statement, or several, as a step on a store.
 use Rattle.std.proofs.Common.{ℕ, Ok, Err, Result, OnOk, OnErr}
-use Rattle.fuse_store_tree.specs.Store.{HeldAs, rows_bytes, Store, Held}
+use Rattle.fuse_store_tree.specs.Store.{HeldAs, Bodies, bodies_of, Store, Held}
 use Rattle.fuse_store_tree.specs.inner.Reading.{Describes}
 use Rattle.sqlite.specs.State.{State, HasCleanDisk}
 use Rattle.sqlite.specs.declared.error.Error.{Error}
@@ -23,16 +23,16 @@ bytes_keep a b p = record {
 
 pub held_of : (a b : State) → KeepsBytes a b → Keeps a b
 held_of a b p = record {
-  survives = survives_weaker a b _ _ (λ _ db none at. none ((at.0, rows_bytes at.0.rows), at.1)) p.survives;
+  survives = survives_weaker a b _ _ (λ _ db none at. none ((at.0, bodies_of at.0.rows), at.1)) p.survives;
   kept = λ clean at. p.kept
-      clean ((at.0, rows_bytes at.0.rows), at.1);
+      clean ((at.0, bodies_of at.0.rows), at.1);
 }
 
 pub keeps_of : (a b : State) → Stays a b → Keeps a b
 keeps_of a b p = held_of a b (bytes_keep a b p)
 
 -- a step after one that leads from the tables of a store to the tables of a store
-pub bytes_then : (a b d : State) → KeepsBytes a b → (HasCleanDisk b → (w : Store × (ℕ → ℕ → ℕ)) → InsideAs (HeldAs w) a → IsReady HeldAs b) → KeepsBytes b d
+pub bytes_then : (a b d : State) → KeepsBytes a b → (HasCleanDisk b → (w : Store × Bodies) → InsideAs (HeldAs w) a → IsReady HeldAs b) → KeepsBytes b d
     → KeepsBytes a d
 bytes_then a b d p on q = stays_then HeldAs HeldAs a b d p (λ clean at. on clean at.0 at.1) q
 

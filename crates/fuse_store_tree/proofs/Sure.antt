@@ -17,7 +17,7 @@ use Rattle.fuse_store_tables.specs.Moves.{Inside, IsReady, Stays, StaysIn}
 use Rattle.fuse_store_tables.specs.inner.Performing.{IsSure}
 use Rattle.fuse_store_tables.specs.inner.Following.{earlier}
 use Rattle.fuse_store_tree.specs.Fits.{Fits}
-use Rattle.fuse_store_tree.specs.Store.{Held, HeldAs, rows_bytes}
+use Rattle.fuse_store_tree.specs.Store.{Held, HeldAs, bodies_of}
 use Rattle.fuse_store_tree.specs.Looking.{look_fault, sees_in, MayFail}
 use Rattle.fuse_store_tree.specs.inner.Acting.{why_no_plan}
 use Rattle.fuse_store_tree.specs.Holding.{Holding, HeldFor, store_of}
@@ -46,7 +46,7 @@ sure_bytes a b (Err f) told clean = λ (w, at). told clean at.holds.0
 -- what is known whatever the bytes
 pub sure_held : {X : Type 0} (a b : State) (r : Result X StoreFault) → IsSure HeldAs a b r → IsSure Held a b r
 sure_held a b (Ok x) sure clean = tt
-sure_held a b (Err f) sure clean = λ (x, at). sure clean ((x, rows_bytes x.rows), at)
+sure_held a b (Err f) sure clean = λ (x, at). sure clean ((x, bodies_of x.rows), at)
 
 -- what holds of each holds of the one at a place
 pub one_of : {X : Type 0} (P : X → Type 0) (xs : List X) (i : ℕ) (x : X) → AllByRecursion P xs → i < length xs → P (get_or xs i x)

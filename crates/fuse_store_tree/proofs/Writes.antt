@@ -1,6 +1,6 @@
 -- Bytes that are written, as the tables describe them.
 use Rattle.std.proofs.Common.{◌≡◌, ◌≤◌, inl, inr, ℕ, List, [], ◌∷◌, ◌++◌, ◌==◌, map, filter, Bool, true, false, not, cond, Some}
-use Rattle.std.proofs.Common.{None, Ok, refl, sym, ap, subst, arith, ◌∙◌, ◌+◌, ◌-◌, ◌/◌, ◌%◌, ◌&&◌, nat_lt, length, take, drop, find}
+use Rattle.std.proofs.Common.{None, Ok, refl, sym, ap, subst, arith, ◌∙◌, ◌+◌, ◌-◌, ◌/◌, ◌%◌, ◌&&◌, nat_lt, length, take, drop, find, ◌<◌, ◌*◌, max}
 use Rattle.std.specs.List.{AllByRecursion, list_any}
 use Rattle.std.proofs.lemmas.List.{length-take-le, length-append}
 use Rattle.sqlite_trees.specs.Tree.{IsTable}
@@ -8,14 +8,14 @@ use Rattle.fuse_tree.specs.Bounds.{block_bytes}
 use Rattle.fuse_store_tables.specs.Blocks.{Block, block_at, is_at, new_block}
 use Rattle.fuse_store_tree.specs.Fits.{IsWhole, Fits}
 use Rattle.fuse_store_tables.specs.Content.{put_block, node_key, has_by, Content, Holds}
-use Rattle.fuse_store_tree.specs.Store.{byte_in, bytes_of, rows_bytes}
-use Rattle.fuse_store_tree.specs.inner.Writing.{overlay, spliced, with_change}
+use Rattle.fuse_store_tree.specs.Store.{byte_in, bytes_of, rows_bytes, rows_ends, bodies_of, Bodies, AreWithin}
+use Rattle.fuse_store_tree.specs.inner.Writing.{overlay, overlay_in, grown, spliced, with_change}
 use Rattle.fuse_store_tree.specs.inner.Reading.{whole_of, Describes}
 use Rattle.fuse_store_tree.specs.Store.{Store, DescribesAs, in_order, byte_at}
 use Rattle.fuse_store_tree.specs.inner.Changing.{Overlaid, Changed, KeepsBytes}
 use Rattle.fuse_store_tree.proofs.Keys.{slots_rise}
 use Rattle.fuse_store_tree.proofs.BlockBytes.{part_put}
-use Rattle.fuse_store_tree.proofs.Overlays.{overlay_none, overlay_more, byte_written}
+use Rattle.fuse_store_tree.proofs.Overlays.{overlay_none, overlay_more, byte_written, written_length}
 use Rattle.fuse_store_tree.proofs.Looks.{key_is, both_are}
 use Rattle.fuse_store_tree.proofs.Parents.{blocks_owned}
 use Rattle.fuse_tree.specs.Rows.{at_node, written, content_of, full_at}
@@ -35,6 +35,7 @@ use Rattle.fuse_store_tree.proofs.Described.{Rises, same_test}
 use Rattle.fuse_store_tree.proofs.Orders.{all_put, all_in_order, all_filter}
 use Rattle.fuse_store_tree.proofs.Steps.{bytes_keep, held_of, bytes_then, looked_bytes}
 use Rattle.fuse_store_tree.proofs.RowChanges.{same_number}
+use Rattle.fuse_store_tree.proofs.Within.{within_known, within_more, grown_more, grown_here, grown_twice}
 
 -- ---- bytes
 
@@ -60,8 +61,8 @@ spliced_length old part start within =
 pub piece_written : {X : Type 0} (a b d : State) (x : X) (node here : ℕ) (part old made_bytes : List ℕ) → Looked a b
     → Makes {X = X} {E = Error} (put_block node (here / block_bytes) made_bytes) b d (Ok x)
     → (HasCleanDisk b → (c : Content) → Inside c a → Fits c → old ≡ whole_of (block_at node (here / block_bytes) c.blocks)) → length old ≡ block_bytes
-    → made_bytes ≡ spliced old (here % block_bytes) part → here % block_bytes + length part ≤ block_bytes → Overlaid node here part a d
-piece_written a b d x node here part old made_bytes p q found whole is within = record {
+    → made_bytes ≡ spliced old (here % block_bytes) part → here % block_bytes + length part ≤ block_bytes → 1 ≤ length part → Overlaid node here part a d
+piece_written a b d x node here part old made_bytes p q found whole is within some = record {
   stays = looked_bytes a b d p (bytes_keep b d q.stays);
   turns = λ clean w at.
       let mid = earlier b d _ q.stays.survives clean in
@@ -88,7 +89,13 @@ piece_written a b d x node here part old made_bytes p q found whole is within = 
             bytes = λ n i.
                 ap (λ l. byte_in (put_block node (here / block_bytes) l c).blocks n i) is ∙ part_put node here part c.blocks old rises
                 (found mid c inside was.fits) whole within n i
-                ∙ same_overlay node here part (byte_in c.blocks) w.1 was.bytes n i;
+                ∙ same_overlay node here part (byte_in c.blocks) w.1.byte was.bytes n i;
+            within = all_put (λ b. b.slot) (λ b. b.block * block_bytes < grown node (here + length part) w.1.ends b.node)
+                (new_block node (here / block_bytes) made_bytes (filter (λ b. not (is_at node (here / block_bytes) b)) c.blocks)) _
+                (grown_here node (here + length part) w.1.ends (here / block_bytes * block_bytes) (omega (arith, some)))
+                (all_filter (λ b. b.slot) (λ b. b.block * block_bytes < grown node (here + length part) w.1.ends b.node) _ c.blocks
+                (within_more w.1.ends (grown node (here + length part) w.1.ends) (λ n k low.
+                grown_more node (here + length part) w.1.ends n (k * block_bytes) low) c.blocks was.within));
             settings = was.settings;
             fits = record {
               nodes = was.fits.nodes;
@@ -103,8 +110,9 @@ piece_written a b d x node here part old made_bytes p q found whole is within = 
       };
 }
 
-pub describes_same : (x : Store) (g h : ℕ → ℕ → ℕ) (c : Content) → ((n i : ℕ) → g n i ≡ h n i) → DescribesAs x g c → DescribesAs x h c
-describes_same x g h c same at = record {
+pub describes_same : (x : Store) (g h : Bodies) (c : Content) → ((n i : ℕ) → g.byte n i ≡ h.byte n i)
+    → ((n k : ℕ) → k * block_bytes < g.ends n → k * block_bytes < h.ends n) → DescribesAs x g c → DescribesAs x h c
+describes_same x g h c same more at = record {
   counters = at.counters;
   nodes = at.nodes;
   entries = at.entries;
@@ -113,6 +121,7 @@ describes_same x g h c same at = record {
   lots = at.lots;
   kept = at.kept;
   bytes = λ n i. at.bytes n i ∙ same n i;
+  within = within_more g.ends h.ends more c.blocks at.within;
   settings = at.settings;
   fits = at.fits;
 }
@@ -123,27 +132,34 @@ nothing_overlaid node at a = record {
   turns = λ clean p now. record {
     is_open = now.is_open;
     in_transaction = now.in_transaction;
-    holds = (now.holds.0, now.holds.1, describes_same p.0 p.1 (overlay node at [] p.1) now.holds.0 (overlay_none node at p.1) now.holds.2);
+    holds = (
+      now.holds.0,
+      now.holds.1,
+      describes_same p.0 p.1 (overlay_in node at [] p.1) now.holds.0 (overlay_none node at p.1.byte)
+          (λ n k low. grown_more node (at + 0) p.1.ends n (k * block_bytes) low) now.holds.2,
+    );
   };
 }
 
 pub overlaid_keeps : (node at : ℕ) (p : List ℕ) (a b d : State) → Overlaid node at p a b → KeepsBytes b d → KeepsBytes a d
-overlaid_keeps node at p a b d first second = bytes_then a b d first.stays (λ clean w now. ((w.0, overlay node at p w.1), first.turns clean w now)) second
+overlaid_keeps node at p a b d first second = bytes_then a b d first.stays (λ clean w now. ((w.0, overlay_in node at p w.1), first.turns clean w now)) second
 
 pub overlaid_then : (node at : ℕ) (p q : List ℕ) (a b d : State) → Overlaid node at p a b → Overlaid node (at + length p) q b d → Overlaid node at (p ++ q) a d
 overlaid_then node at p q a b d first second = record {
   stays = overlaid_keeps node at p a b d first second.stays;
   turns = λ clean w now.
       let mid = first.turns (earlier b d _ second.stays.survives clean) w now in
-      let last = second.turns clean (w.0, overlay node at p w.1) mid in
+      let last = second.turns clean (w.0, overlay_in node at p w.1) mid in
       record {
         is_open = last.is_open;
         in_transaction = last.in_transaction;
         holds = (
           last.holds.0,
           last.holds.1,
-          describes_same w.0 (overlay node (at + length p) q (overlay node at p w.1)) (overlay node at (p ++ q) w.1) last.holds.0
-              (overlay_more node at p q w.1) last.holds.2,
+          describes_same w.0 (overlay_in node (at + length p) q (overlay_in node at p w.1)) (overlay_in node at (p ++ q) w.1) last.holds.0
+              (overlay_more node at p q w.1.byte) (λ n k low.
+              grown_twice node (at + length p) (at + length p + length q) (at + length (p ++ q)) w.1.ends n (k * block_bytes)
+                  (omega (arith, length-append p q)) (omega (arith, length-append p q)) low) last.holds.2,
         );
       };
 }
@@ -219,8 +235,15 @@ none_there number (x ∷ fs) none = elim (cases_Bool (x.row.node == number)) [
   | inr not_here ↦ rw not_here (none_there number fs (rw not_here at none))
 ]
 
+-- a node without a row in the tree has none in the tables
+none_held : (x : Store) (node : ℕ) (g : Bodies) (c : Content) → DescribesAs x g c → list_any (λ f. f.row.node == node) x.rows.nodes ≡ false
+    → list_any (has_by node_key node) c.nodes ≡ false
+none_held x node g c told none =
+    ap (list_any (has_by node_key node)) told.nodes ∙ none_any (has_by node_key node) _ (all_in_order node_key (λ r. has_by node_key node r ≡ false)
+    (map (λ f. f.row) x.rows.nodes) (no_row node x.rows.nodes none))
+
 -- The blocks after a write describe the content after it. A node without a row has no block, by a foreign key.
-written_byte : (x : Store) (node at : ℕ) (bytes : List ℕ) (c : Content) (d : Database) → Holds c d → DescribesAs x (overlay node at bytes (rows_bytes x.rows)) c
+written_byte : (x : Store) (node at : ℕ) (bytes : List ℕ) (c : Content) (d : Database) → Holds c d → DescribesAs x (overlay_in node at bytes (bodies_of x.rows)) c
     → (n i : ℕ) → byte_in c.blocks n i ≡ rows_bytes (with_change (changes.Written node at bytes) x).rows n i
 written_byte x node at bytes c d holds told n i = elim (cases_Bool (n == node)) [
   | inr other ↦ told.bytes n i ∙ (rw other (ap (λ l. byte_at l i) (sym (content_other node (written at bytes) n x.rows.nodes other))))
@@ -234,9 +257,7 @@ written_byte x node at bytes c d holds told n i = elim (cases_Bool (n == node)) 
             ∙ sym (byte_written at bytes was i) ∙ ap (λ l. byte_at l i) (sym (content_here node (written at bytes) x.rows.nodes there))
             ∙ ap (λ z. rows_bytes (with_change (changes.Written node at bytes) x).rows z i) (sym m)))
         | inr none ↦
-            let gone : list_any (has_by node_key node) c.nodes ≡ false =
-            ap (list_any (has_by node_key node)) told.nodes ∙ none_any (has_by node_key node) _ (all_in_order node_key (λ r. has_by node_key node r ≡ false)
-            (map (λ f. f.row) x.rows.nodes) (no_row node x.rows.nodes none)) in
+            let gone = none_held x node (overlay_in node at bytes (bodies_of x.rows)) c told none in
             ap (λ z. byte_in c.blocks z i) m ∙ ap (λ o. byte_at (bytes_of o) (i % block_bytes)) (no_block c.nodes node (i / block_bytes) c.blocks
             (blocks_owned c d holds) gone)
             ∙ sym (ap (λ o. byte_at (content_of o) i) (none_changed node (written at bytes) x.rows.nodes none))
@@ -244,7 +265,43 @@ written_byte x node at bytes c d holds told n i = elim (cases_Bool (n == node)) 
       ]
 ]
 
-pub written_told : (x : Store) (node at : ℕ) (bytes : List ℕ) (c : Content) (d : Database) → Holds c d → DescribesAs x (overlay node at bytes (rows_bytes x.rows)) c
+-- they begin before its end
+written_within : (x : Store) (node at : ℕ) (bytes : List ℕ) (c : Content) (d : Database) → Holds c d
+    → DescribesAs x (overlay_in node at bytes (bodies_of x.rows)) c → AreWithin (rows_ends (with_change (changes.Written node at bytes) x).rows) c.blocks
+written_within x node at bytes c d holds told =
+    within_known (λ b. list_any (has_by node_key b.node) c.nodes ≡ true) (grown node (at + length bytes) (rows_ends x.rows)) after
+    (λ b owned low. each b.node (b.block * block_bytes) owned low) c.blocks (blocks_owned c d holds) told.within
+  where
+    after : ℕ → ℕ
+    after = rows_ends (with_change (changes.Written node at bytes) x).rows
+
+    here : (k : ℕ) → list_any (has_by node_key node) c.nodes ≡ true → k < grown node (at + length bytes) (rows_ends x.rows) node → k < after node
+    here k owned low = elim (cases_Bool (list_any (λ f. f.row.node == node) x.rows.nodes)) [
+      | inl there ↦
+          let was = content_of (full_at x.rows node) in
+          let long = ap length (content_here node (written at bytes) x.rows.nodes there) ∙ written_length at bytes was in
+          omega (arith, long, most k (length was) low)
+      | inr none ↦ absurd (let e = sym owned ∙ none_held x node (overlay_in node at bytes (bodies_of x.rows)) c told none in cc)
+    ]
+      where
+        most : (i y : ℕ) → i < cond (node == node) (max y (at + length bytes)) y → i < max y (at + length bytes)
+        most i y low = by (node == node) low
+          where
+            by : (b : Bool) → i < cond b (max y (at + length bytes)) y → i < max y (at + length bytes)
+            by true low = low
+            by false low = omega (arith, low)
+
+    each : (n k : ℕ) → list_any (has_by node_key n) c.nodes ≡ true → k < grown node (at + length bytes) (rows_ends x.rows) n → k < after n
+    each n k owned low = elim (cases_Bool (n == node)) [
+      | inl its ↦
+          let m = same_number n node its in
+          subst (λ z. k < after z) (sym m) (here k (subst (λ z. list_any (has_by node_key z) c.nodes ≡ true) m owned)
+          (subst (λ z. k < grown node (at + length bytes) (rows_ends x.rows) z) m low))
+      | inr other ↦
+          subst (λ l. k < length l) (sym (content_other node (written at bytes) n x.rows.nodes other)) (rw other at low)
+    ]
+
+pub written_told : (x : Store) (node at : ℕ) (bytes : List ℕ) (c : Content) (d : Database) → Holds c d → DescribesAs x (overlay_in node at bytes (bodies_of x.rows)) c
     → Describes (with_change (changes.Written node at bytes) x) c
 written_told x node at bytes c d holds told = record {
   counters = told.counters;
@@ -255,6 +312,7 @@ written_told x node at bytes c d holds told = record {
   lots = told.lots;
   kept = told.kept;
   bytes = written_byte x node at bytes c d holds told;
+  within = written_within x node at bytes c d holds told;
   settings = told.settings;
   fits = told.fits;
 }
@@ -263,7 +321,7 @@ pub written_changed : (node at : ℕ) (bytes : List ℕ) (a d : State) → Overl
 written_changed node at bytes a d p = record {
   stays = held_of a d p.stays;
   turns = λ clean s now.
-      let w = p.turns clean (s, rows_bytes s.rows) now in
+      let w = p.turns clean (s, bodies_of s.rows) now in
       record {
         is_open = w.is_open;
         in_transaction = w.in_transaction;

@@ -1,6 +1,6 @@
 -- Zeros written within one block, and none where there is no block.
-use Rattle.std.proofs.Common.{◌≡◌, ◌≤◌, ◌+◌, ◌-◌, ◌/◌, ◌%◌, ◌==◌, ◌&&◌, inl, inr, ℕ, List, map, length, replicate, not, nat_lt, true, false}
-use Rattle.std.proofs.Common.{Option, Some, None, Ok, Err, Result, IfErr, OnErr, refl, sym, ap, subst, arith, ◌∙◌}
+use Rattle.std.proofs.Common.{◌≡◌, ◌≤◌, ◌<◌, ◌+◌, ◌-◌, ◌*◌, ◌/◌, ◌%◌, ◌==◌, ◌&&◌, inl, inr, ℕ, List, map, length, replicate, not, nat_lt, true, false}
+use Rattle.std.proofs.Common.{Option, Some, None, Ok, Err, Result, IfErr, OnErr, refl, sym, ap, subst, arith, ◌∙◌, Bool, cond, max}
 use Rattle.std.specs.Option.{is_some, option_to_list}
 use Rattle.std.proofs.lemmas.Bool.{cases_Bool}
 use Rattle.sqlite.specs.Order.{Row}
@@ -12,14 +12,15 @@ use Rattle.fuse_store_tables.specs.Content.{Content}
 use Rattle.fuse_store_tables.specs.Faults.{IsOutside}
 use Rattle.fuse_store_tables.specs.inner.Following.{earlier}
 use Rattle.fuse_store_tables.specs.Moves.{Inside, Looked}
-use Rattle.fuse_store_tree.specs.inner.Changing.{KeepsBytes, Overlaid}
+use Rattle.fuse_store_tree.specs.inner.Changing.{KeepsBytes, Overlaid, Zeroed}
 use Rattle.fuse_store_tree.specs.Fits.{Fits}
 use Rattle.fuse_store_tree.specs.Store.{byte_at, bytes_of, byte_in}
-use Rattle.fuse_store_tree.specs.inner.Writing.{overlay}
+use Rattle.fuse_store_tree.specs.inner.Writing.{overlay, overlay_in, zeros_in, grown}
 use Rattle.fuse_store_tree.proofs.BlockBytes.{lower, upper}
 use Rattle.fuse_store_tree.proofs.Overlays.{zero_at}
 use Rattle.fuse_store_tree.proofs.RowChanges.{same_number}
 use Rattle.fuse_store_tree.proofs.Steps.{bytes_keep, looked_bytes}
+use Rattle.fuse_store_tree.proofs.Within.{within_found}
 use Rattle.fuse_store_tree.proofs.Writes.{same_overlay, describes_same}
 
 pub all_zero : (zeros : List ℕ) (n : ℕ) → zeros ≡ replicate n 0 → (i : ℕ) → byte_at zeros i ≡ 0
@@ -68,7 +69,7 @@ unchanged node here zeros bs none zero within n i = elim (cases_Bool (n == node)
 
 pub zeros_there : (node here : ℕ) (zeros : List ℕ) (a b : State) → Looked a b
     → (HasCleanDisk b → (c : Content) → Inside c a → false ≡ is_some (block_at node (here / block_bytes) c.blocks)) → ((i : ℕ) → byte_at zeros i ≡ 0)
-    → here % block_bytes + length zeros ≤ block_bytes → Overlaid node here zeros a b
+    → here % block_bytes + length zeros ≤ block_bytes → Zeroed node here zeros a b
 zeros_there node here zeros a b p none zero within = record {
   stays = bytes_keep a b p.stays;
   turns = λ clean w at.
@@ -77,24 +78,54 @@ zeros_there node here zeros a b p none zero within = record {
       let inside : Inside c a = record { is_open = at.is_open; in_transaction = at.in_transaction; holds = at.holds.1 } in
       let now = p.same clean c inside in
       let same = λ (n i : ℕ). sym (was.bytes n i) ∙ unchanged node here zeros c.blocks (none clean c inside) zero within n i
-      ∙ same_overlay node here zeros (byte_in c.blocks) w.1 was.bytes n i in
+      ∙ same_overlay node here zeros (byte_in c.blocks) w.1.byte was.bytes n i in
       record {
         is_open = now.is_open;
         in_transaction = now.in_transaction;
-        holds = (c, now.holds, describes_same w.0 w.1 (overlay node here zeros w.1) c same was);
+        holds = (c, now.holds, describes_same w.0 w.1 (zeros_in node here zeros w.1) c same (λ n k low. low) was);
       };
 }
 
 -- ---- a step after a read
 
-pub looked_over : (node here : ℕ) (part : List ℕ) (a b d : State) → Looked a b → Overlaid node here part b d → Overlaid node here part a d
-looked_over node here part a b d p q = record {
+-- the block is there, so what is written in it ends no later
+no_later : (here m y k : ℕ) → here / block_bytes * block_bytes < y → here % block_bytes + m ≤ block_bytes → (b : Bool)
+    → k * block_bytes < cond b (max y (here + m)) y → k * block_bytes < y
+no_later here m y k there within true low = omega (arith, there, within, low)
+no_later here m y k there within false low = low
+
+pub zeros_over : (node here : ℕ) (zeros : List ℕ) (a b d : State) → Looked a b
+    → (HasCleanDisk b → (c : Content) → Inside c a → true ≡ is_some (block_at node (here / block_bytes) c.blocks))
+    → here % block_bytes + length zeros ≤ block_bytes → Overlaid node here zeros b d → Zeroed node here zeros a d
+zeros_over node here zeros a b d p found within q = record {
   stays = looked_bytes a b d p q.stays;
   turns = λ clean w at.
-      let inside : Inside at.holds.0 a = record { is_open = at.is_open; in_transaction = at.in_transaction; holds = at.holds.1 } in
-      let now = p.same (earlier b d _ q.stays.survives clean) at.holds.0 inside in
-      q.turns clean w (record { is_open = now.is_open; in_transaction = now.in_transaction; holds = (at.holds.0, now.holds, at.holds.2) });
+      let mid = earlier b d _ q.stays.survives clean in
+      let c = at.holds.0 in
+      let inside : Inside c a = record { is_open = at.is_open; in_transaction = at.in_transaction; holds = at.holds.1 } in
+      let now = p.same mid c inside in
+      let there = within_found w.1.ends node (here / block_bytes) c.blocks at.holds.2.within (found mid c inside) in
+      let last = q.turns clean w (record { is_open = now.is_open; in_transaction = now.in_transaction; holds = (c, now.holds, at.holds.2) }) in
+      record {
+        is_open = last.is_open;
+        in_transaction = last.in_transaction;
+        holds = (
+          last.holds.0,
+          last.holds.1,
+          describes_same w.0 (overlay_in node here zeros w.1) (zeros_in node here zeros w.1) last.holds.0 (λ n i. refl)
+              (λ n k low. ends_same w.1.ends there n k low) last.holds.2,
+        );
+      };
 }
+  where
+    ends_same : (e : ℕ → ℕ) → here / block_bytes * block_bytes < e node → (n k : ℕ) → k * block_bytes < grown node (here + length zeros) e n
+        → k * block_bytes < e n
+    ends_same e there n k low = elim (cases_Bool (n == node)) [
+      | inl its ↦
+          let m = same_number n node its in
+          no_later here (length zeros) (e n) k (subst (λ z. here / block_bytes * block_bytes < e z) (sym m) there) within (n == node) low
+      | inr other ↦ rw other at low
+    ]
 
 pub looked_sure : {X : Type 0} (a b d : State) (r : Result X StoreFault) → Looked a b → OnErr r (KeepsBytes b d)
     → (HasCleanDisk d → IfErr r (λ f. (c : Content) → Inside c b → Fits c → IsOutside f)) → HasCleanDisk d

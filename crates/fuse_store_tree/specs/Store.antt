@@ -1,6 +1,7 @@
 -- A store as the tables describe it (own profile): the rows of a tree, and the records in their lots.
-use Rattle.std.specs.Prelude.{◌≡◌, ◌<◌, ◌^◌, ◌/◌, ◌%◌, ℕ}
+use Rattle.std.specs.Prelude.{◌≡◌, ◌<◌, ◌^◌, ◌*◌, ◌/◌, ◌%◌, ℕ, length}
 use Rattle.std.specs.Prelude.{List, [], ◌∷◌, map, fold, option_map, Option, Some, None, slice_index_or}
+use Rattle.std.specs.List.{AllByRecursion}
 use Rattle.sqlite.specs.Effect.{Database}
 use Rattle.fuse_init.specs.declared.settings.Settings.{Settings}
 use Rattle.fuse_tree.specs.Bounds.{block_bytes}
@@ -73,8 +74,24 @@ byte_in blocks node i = byte_at (bytes_of (block_at node (i / block_bytes) block
 abbrev pub rows_bytes : Rows → ℕ → ℕ → ℕ
 rows_bytes rows node i = byte_at (content_of (full_at rows node)) i
 
+-- the place where the bytes of each node end
+abbrev pub rows_ends : Rows → ℕ → ℕ
+rows_ends rows node = length (content_of (full_at rows node))
+
+-- each block begins before the end of its node
+abbrev pub AreWithin : (ℕ → ℕ) → List Block → Type 0
+AreWithin ends blocks = AllByRecursion (λ b. b.block * block_bytes < ends b.node) blocks
+
+-- the bytes of each node, and where they end
+pub record Bodies : Type 0 where
+  pub byte : ℕ → ℕ → ℕ
+  pub ends : ℕ → ℕ
+
+abbrev pub bodies_of : Rows → Bodies
+bodies_of rows = record { byte = rows_bytes rows; ends = rows_ends rows }
+
 -- the tables describe these rows, and the blocks these bytes of each node
-pub record DescribesAs (x : Store) (bytes_are : ℕ → ℕ → ℕ) (c : Content) : Type 0 where
+pub record DescribesAs (x : Store) (bodies : Bodies) (c : Content) : Type 0 where
   pub counters : c.counters ≡ counters_of x.rows.counters x.rows.settings x.next_lot
   pub nodes : c.nodes ≡ in_order node_key (map (λ f. f.row) x.rows.nodes)
   pub entries : c.entries ≡ in_order cookie_of x.rows.entries
@@ -82,13 +99,14 @@ pub record DescribesAs (x : Store) (bytes_are : ℕ → ℕ → ℕ) (c : Conten
   pub answers : c.answers ≡ []
   pub lots : c.lots ≡ x.lots
   pub kept : c.kept ≡ x.kept
-  pub bytes : (node i : ℕ) → byte_in c.blocks node i ≡ bytes_are node i
+  pub bytes : (node i : ℕ) → byte_in c.blocks node i ≡ bodies.byte node i
+  pub within : AreWithin bodies.ends c.blocks
   pub settings : FitsSettings x.rows.settings
   pub fits : Fits c
 
 -- a database whose tables describe this
-abbrev pub HeldAs : Store × (ℕ → ℕ → ℕ) → Database → Type 0
+abbrev pub HeldAs : Store × Bodies → Database → Type 0
 HeldAs p d = (c : Content) × Holds c d × DescribesAs p.0 p.1 c
 
 abbrev pub Held : Store → Database → Type 0
-Held x = HeldAs (x, rows_bytes x.rows)
+Held x = HeldAs (x, bodies_of x.rows)

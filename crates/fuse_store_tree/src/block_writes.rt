@@ -5,7 +5,8 @@ ghost use Rattle.sqlite.specs.State.{HasCleanDisk};
 ghost use Rattle.sqlite.specs.Held.{state};
 ghost use Rattle.fuse_tree.specs.Bounds.{block_bytes};
 ghost use Rattle.fuse_store_tables.specs.Faults.{IsOutside, IsPlain};
-ghost use Rattle.fuse_store_tree.specs.inner.Changing.{Changed, Keeps, KeepsBytes, Overlaid};
+ghost use Rattle.fuse_store_tree.specs.inner.Changing.{Changed, Keeps, KeepsBytes};
+ghost use Rattle.fuse_store_tree.specs.inner.Changing.{Overlaid, Zeroed};
 ghost use Rattle.fuse_tree.specs.declared.rows.Change.TheVariants as changes;
 ghost use Rattle.fuse_store_tables.specs.Content.{Content};
 ghost use Rattle.fuse_store_tree.specs.Fits.{Fits};
@@ -45,6 +46,7 @@ pub(crate) fn write_piece<S: Alter>(
 ) -> Result<(), StoreFault>
     requires node { node < 2 ^ 63 }
     requires here { here < 2 ^ 63 }
+    requires some { 1 ≤ length part.now }
     requires within { here % block_bytes + length part.now ≤ block_bytes }
     ensures overlaid { OnOk result (Overlaid node here part.now (state S.Store conn.old)
         (state S.Store conn.new)) }
@@ -79,9 +81,10 @@ pub(crate) fn write_zeros<S: Alter>(
 ) -> Result<(), StoreFault>
     requires node { node < 2 ^ 63 }
     requires here { here < 2 ^ 63 }
+    requires some { 1 ≤ length zeros.now }
     requires within { here % block_bytes + length zeros.now ≤ block_bytes }
     requires zeros { (i : ℕ) → byte_at zeros.now i ≡ 0 }
-    ensures overlaid { OnOk result (Overlaid node here zeros.now (state S.Store conn.old)
+    ensures zeroed { OnOk result (Zeroed node here zeros.now (state S.Store conn.old)
         (state S.Store conn.new)) }
     ensures fails { OnErr result (KeepsBytes (state S.Store conn.old) (state S.Store conn.new)) }
     ensures fault { HasCleanDisk (state S.Store conn.new) → IfErr result (λ f. (c : Content)

@@ -54,6 +54,7 @@ fn cut_within<S: Alter>(
 ) -> Result<(), StoreFault>
     requires node { node < 2 ^ 63 }
     requires size { size ≤ file_limit }
+    requires within { 1 ≤ size % block_bytes }
     ensures cut { OnOk result (Cut node size (state S.Store conn.old) (state S.Store conn.new)) }
     ensures fails { OnErr result (KeepsBytes (state S.Store conn.old) (state S.Store conn.new)) }
     ensures fault { IsSure HeldAs (state S.Store conn.old) (state S.Store conn.new) result }

@@ -7,7 +7,7 @@ use Rattle.fuse_store_tree.specs.Holding.{HeldFor, Holding}
 use Rattle.fuse_keeper.specs.declared.fault.StoreFault.{StoreFault}
 use Rattle.fuse_store_tables.specs.Faults.{IsOutside}
 use Rattle.fuse_store_tree.specs.Group.{HasLotLeft}
-use Rattle.fuse_store_tree.specs.inner.Writing.{overlay, cut}
+use Rattle.fuse_store_tree.specs.inner.Writing.{overlay_in, zeros_in, cut_in}
 
 -- Nothing is committed of a transaction whose tables hold a store, whether the step succeeds or not.
 -- Only this composes over several statements: each leads from the tables of a store to the tables of a store.
@@ -25,12 +25,17 @@ pub record Changed (g : Store → Store) (old new : State) : Type 0 where
 -- some bytes of a node are written over, and nothing else
 pub record Overlaid (node at : ℕ) (part : List ℕ) (old new : State) : Type 0 where
   pub stays : KeepsBytes old new
-  pub turns : TurnsTo HeldAs (λ p. HeldAs (p.0, overlay node at part p.1)) old new
+  pub turns : TurnsTo HeldAs (λ p. HeldAs (p.0, overlay_in node at part p.1)) old new
 
--- the bytes of a node from a place on are 0, and nothing else changes
+-- zeros are written over some bytes of a node, and no block is made
+pub record Zeroed (node at : ℕ) (zeros : List ℕ) (old new : State) : Type 0 where
+  pub stays : KeepsBytes old new
+  pub turns : TurnsTo HeldAs (λ p. HeldAs (p.0, zeros_in node at zeros p.1)) old new
+
+-- the bytes of a node from a place on are 0, in no block that begins there, and nothing else changes
 pub record Cut (node at : ℕ) (old new : State) : Type 0 where
   pub stays : KeepsBytes old new
-  pub turns : TurnsTo HeldAs (λ p. HeldAs (p.0, cut node at p.1)) old new
+  pub turns : TurnsTo HeldAs (λ p. HeldAs (p.0, cut_in node at p.1)) old new
 
 -- a transaction is open, whose tables hold this
 abbrev pub InsideFor : Holding → State → Type 0

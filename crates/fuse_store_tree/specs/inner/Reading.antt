@@ -6,7 +6,7 @@ use Rattle.fuse_tree.specs.declared.rows.NodeRow.{NodeRow}
 use Rattle.fuse_tree.specs.declared.rows.Counters.{Counters as CountersRow}
 use Rattle.fuse_store_tables.specs.Blocks.{Block}
 use Rattle.fuse_store_tables.specs.Content.{Content, Counter}
-use Rattle.fuse_store_tree.specs.Store.{DescribesAs, Store, byte_in, counter, rows_bytes}
+use Rattle.fuse_store_tree.specs.Store.{DescribesAs, Store, byte_in, counter, bodies_of}
 
 -- the value at this place, and the counters and the settings of these values
 abbrev pub value_of : List Counter → ℕ → ℕ
@@ -33,6 +33,6 @@ abbrev pub bytes_told : Option NodeRow → List Block → ℕ → ℕ → ℕ �
 bytes_told None blocks node offset len = []
 bytes_told (Some n) blocks node offset len = if nat_lt offset n.size then range_of (byte_in blocks node) offset (min len (n.size - offset)) else []
 
--- the blocks describe the bytes of each node, and zeros after them; the size is in the row
+-- the blocks describe the bytes of each node, and zeros after them, and none begins after them; the size is in the row
 abbrev pub Describes : Store → Content → Type 0
-Describes x = DescribesAs x (rows_bytes x.rows)
+Describes x = DescribesAs x (bodies_of x.rows)

@@ -9,7 +9,7 @@ returns-in-Ok-write_block-clause-overlaid g c =
     c.args.node c.args.here c.args.part.now c.in-Ok.old.items
     c.in-Ok-splice.made.items c.in-Ok.ensures.looks (rw (c.from.ensures, c.as_slice-2.ensures.value) at c.in-Ok-write_block.ensures)
     (rw c.from.ensures at c.in-Ok.ensures.value) c.in-Ok.ensures.whole
-    (rw (c.from-2.ensures, c.as_slice.ensures.value) at c.in-Ok-splice.ensures.value) c.requires.within
+    (rw (c.from-2.ensures, c.as_slice.ensures.value) at c.in-Ok-splice.ensures.value) c.requires.within c.requires.some
 
 pub returns-clause-fails : goal.returns-clause-fails
 returns-clause-fails g c =

@@ -5,7 +5,7 @@ use Rattle.fuse_store_tree.specs.inner.Changing.{Overlaid}
 use Rattle.fuse_store_tree.proofs.Writes.{overlaid_keeps, overlaid_then, nothing_overlaid}
 use Rattle.fuse_store_tree.proofs.Overlays.{take_plus}
 use Rattle.fuse_store_tree.specs.Store.{HeldAs}
-use Rattle.fuse_store_tree.specs.inner.Writing.{overlay}
+use Rattle.fuse_store_tree.specs.inner.Writing.{overlay_in}
 use Rattle.std.proofs.Common.{Err, Result}
 use Rattle.fuse_keeper.specs.declared.fault.StoreFault.{StoreFault}
 use Rattle.fuse_store_tree.proofs.Sure.{fault_next, sure_bytes}
@@ -57,5 +57,5 @@ returns-in-Err-clause-fault g c =
     let so_far = take c.pieces.done c.args.bytes.now in
     let failed : Result (Unit {0}) StoreFault = Err c.in-Err.fault in
     fault_next HeldAs HeldAs a b d c.in-Err.fault c.in-Err.ensures.fails
-    (λ clean (w, at). ((w.0, overlay c.args.node c.args.at so_far w.1), c.pieces.invariant.overlaid.turns clean w at))
+    (λ clean (w, at). ((w.0, overlay_in c.args.node c.args.at so_far w.1), c.pieces.invariant.overlaid.turns clean w at))
     (sure_bytes b d failed c.in-Err.ensures.fault)

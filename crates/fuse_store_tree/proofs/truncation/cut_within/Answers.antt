@@ -1,11 +1,11 @@
-use Rattle.std.proofs.Common.{◌≡◌, ◌≤◌, ◌+◌, ◌-◌, ◌*◌, ◌/◌, ◌%◌, replicate, ap, arith, ◌∙◌}
+use Rattle.std.proofs.Common.{◌≡◌, ◌≤◌, ◌<◌, ℕ, ◌+◌, ◌-◌, ◌*◌, ◌/◌, ◌%◌, replicate, ap, arith, ◌∙◌}
 use Rattle.sqlite.specs.Held.{state}
 use Rattle.fuse_tree.specs.Bounds.{block_bytes}
 use Rattle.fuse_store_tree.specs.inner.Changing.{Cut}
 use Rattle.fuse_store_tree.proofs.Steps.{on_ok, on_error}
 use Rattle.fuse_store_tree.proofs.Cuts.{cut_keeps, cut_then}
 use Rattle.fuse_store_tree.specs.Store.{HeldAs}
-use Rattle.fuse_store_tree.specs.inner.Writing.{cut}
+use Rattle.fuse_store_tree.specs.inner.Writing.{cut_in}
 use Rattle.fuse_store_tree.proofs.Sure.{sure_next, sure_bytes}
 use Rattle.fuse_store_tree.proofs.truncation.cut_within.Goals as goal
 
@@ -21,7 +21,8 @@ returns-in-Ok-drop_blocks-clause-cut g c =
     let count : block_bytes - size % block_bytes ≡ end - size = omega arith in
     let are : c.as_slice.result.now ≡ replicate (end - size) 0 = c.as_slice.ensures.value ∙ zeros ∙ ap (λ n. replicate n 0) count in
     let high : size ≤ end = omega arith in
-    on_ok c.write_zeros.result _ _ (cut_then c.args.node size end c.as_slice.result.now a b d dropped are high) c.write_zeros.ensures.overlaid
+    let none : (k : ℕ) → k * block_bytes < end → k * block_bytes < size = λ k low. omega (arith, low, c.requires.within) in
+    on_ok c.write_zeros.result _ _ (cut_then c.args.node size end c.as_slice.result.now a b d dropped are high none) c.write_zeros.ensures.zeroed
 
 pub returns-in-Ok-drop_blocks-clause-fails : goal.returns-in-Ok-drop_blocks-clause-fails
 returns-in-Ok-drop_blocks-clause-fails g c =
@@ -36,5 +37,5 @@ returns-in-Ok-drop_blocks-clause-fault g c =
     let b = state g.S.Store c.drop_blocks.new.conn in
     let d = state g.S.Store c.write_zeros.new.conn in
     sure_next HeldAs HeldAs a b d c.write_zeros.result c.write_zeros.ensures.fails
-    (λ clean (w, at). ((w.0, cut c.args.node _ w.1), c.in-Ok-drop_blocks.ensures.cut.turns clean w at))
+    (λ clean (w, at). ((w.0, cut_in c.args.node _ w.1), c.in-Ok-drop_blocks.ensures.cut.turns clean w at))
     (sure_bytes b d c.write_zeros.result c.write_zeros.ensures.fault)

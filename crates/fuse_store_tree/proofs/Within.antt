@@ -1,0 +1,88 @@
+-- Blocks that begin before the end of their node.
+use Rattle.std.proofs.Common.{◌≡◌, ◌≤◌, ◌<◌, ◌*◌, ◌==◌, ◌&&◌, inl, inr, ℕ, List, [], ◌∷◌, filter, not, Bool, true, false, cond, min, max, refl, subst, arith}
+use Rattle.std.specs.List.{AllByRecursion}
+use Rattle.std.specs.Option.{is_some}
+use Rattle.std.specs.Ordering.{is_eq, is_ge, nat_cmp}
+use Rattle.std.proofs.lemmas.Bool.{cases_Bool}
+use Rattle.std.proofs.lemmas.Bool.Decides.{nat_tests}
+use Rattle.fuse_tree.specs.Bounds.{block_bytes}
+use Rattle.fuse_store_tables.specs.Blocks.{Block, block_at, is_at, is_from}
+use Rattle.fuse_store_tree.specs.Store.{AreWithin}
+use Rattle.fuse_store_tree.specs.inner.Writing.{grown, shortened}
+use Rattle.fuse_store_tree.proofs.Looks.{key_is, both_are}
+
+-- ---- other ends
+
+-- the blocks are so, and begin before other ends
+pub within_known : (P : Block → Type 0) (e f : ℕ → ℕ) → ((b : Block) → P b → b.block * block_bytes < e b.node → b.block * block_bytes < f b.node)
+    → (bs : List Block) → AllByRecursion P bs → AreWithin e bs → AreWithin f bs
+within_known P e f more [] are all = tt
+within_known P e f more (b ∷ bs) are all = (more b are.0 all.0, within_known P e f more bs are.1 all.1)
+
+pub within_more : (e f : ℕ → ℕ) → ((n k : ℕ) → k * block_bytes < e n → k * block_bytes < f n) → (bs : List Block) → AreWithin e bs → AreWithin f bs
+within_more e f more [] all = tt
+within_more e f more (b ∷ bs) all = (more b.node b.block all.0, within_more e f more bs all.1)
+
+-- the blocks that a test leaves
+pub within_left : (q : Block → Bool) (e f : ℕ → ℕ)
+    → ((b : Block) → q b ≡ true → b.block * block_bytes < e b.node → b.block * block_bytes < f b.node)
+    → (bs : List Block) → AreWithin e bs → AreWithin f (filter q bs)
+within_left q e f left [] all = tt
+within_left q e f left (b ∷ bs) all = elim (cases_Bool (q b)) [
+  | inl here ↦ rw here (left b here all.0, within_left q e f left bs all.1)
+  | inr gone ↦ rw gone (within_left q e f left bs all.1)
+]
+
+-- a block that is there
+pub within_found : (e : ℕ → ℕ) (node k : ℕ) (bs : List Block) → AreWithin e bs → true ≡ is_some (block_at node k bs) → k * block_bytes < e node
+within_found e node k [] all found = absurd cc
+within_found e node k (b ∷ bs) all found = elim (cases_Bool (is_at node k b)) [
+  | inl here ↦
+      let at = both_are _ _ here in
+      subst (λ m. k * block_bytes < e m) (key_is b.node node at.0)
+      (subst (λ j. j * block_bytes < e b.node) (key_is b.block k at.1) all.0)
+  | inr off ↦ within_found e node k bs all.1 (rw off at found)
+]
+
+-- ---- ends that grow
+
+pub grown_more : (node end : ℕ) (e : ℕ → ℕ) (n k : ℕ) → k < e n → k < grown node end e n
+grown_more node end e n k low = by (n == node) (e n) low
+  where
+    by : (b : Bool) (y : ℕ) → k < y → k < cond b (max y end) y
+    by true y low = omega (arith, low)
+    by false y low = low
+
+pub grown_here : (node end : ℕ) (e : ℕ → ℕ) (k : ℕ) → k < end → k < grown node end e node
+grown_here node end e k low = rw (same node) (omega (arith, low))
+  where
+    same : (n : ℕ) → (n == n) ≡ true
+    same n = grind (arith, nat_tests)
+
+pub grown_twice : (node a b d : ℕ) (e : ℕ → ℕ) (n k : ℕ) → a ≤ d → b ≤ d → k < grown node b (grown node a e) n → k < grown node d e n
+grown_twice node a b d e n k first second low = by (n == node) (e n) low
+  where
+    by : (t : Bool) (y : ℕ) → k < cond t (max (cond t (max y a) y) b) (cond t (max y a) y) → k < cond t (max y d) y
+    by true y low = omega (arith, low, first, second)
+    by false y low = low
+
+-- ---- ends that are cut
+
+pub left_short : (node k : ℕ) (e : ℕ → ℕ) (b : Block) → not (is_from node k b) ≡ true → b.block * block_bytes < e b.node
+    → b.block * block_bytes < shortened node (k * block_bytes) e b.node
+left_short node k e b stays low = elim (cases_Bool (b.node == node)) [
+  | inl here ↦ let less = below b.node b.block here stays in rw here (omega (arith, low, less))
+  | inr off ↦ rw off low
+]
+  where
+    below : (a x : ℕ) → (a == node) ≡ true → not (is_eq (nat_cmp a node) && is_ge (nat_cmp x k)) ≡ true → x < k
+    below a x here stays = grind (arith, nat_tests)
+
+-- of two places without a block's begin between them
+pub shorter : (node a d : ℕ) (e : ℕ → ℕ) (n k : ℕ) → (k * block_bytes < a → k * block_bytes < d) → k * block_bytes < shortened node a e n
+    → k * block_bytes < shortened node d e n
+shorter node a d e n k none low = by (n == node) (e n) low
+  where
+    by : (t : Bool) (y : ℕ) → k * block_bytes < cond t (min y a) y → k * block_bytes < cond t (min y d) y
+    by true y low = let before = none (omega (arith, low)) in omega (arith, low, before)
+    by false y low = low
