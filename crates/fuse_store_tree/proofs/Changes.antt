@@ -1,7 +1,7 @@
 -- One change after another, and a plan whose changes are made.
 use Rattle.std.proofs.Common.{◌≡◌, List, [], ◌∷◌, ◌++◌, refl, sym, ap, subst, ◌∙◌}
-use Rattle.fuse_tree.specs.State.{State as TreeState}
-use Rattle.fuse_tree.specs.Rows.{rowed, apply, apply_one, Rows}
+use Rattle.fuse_tree.specs.State.{State as TreeState, Tree}
+use Rattle.fuse_tree.specs.Rows.{rowed, apply, apply_one, Rows, IsRowed}
 use Rattle.fuse_tree.specs.Done.{Done}
 use Rattle.fuse_tree.specs.Plan.{Meets}
 use Rattle.fuse_tree.specs.declared.rows.Planned.{Planned}
@@ -12,10 +12,10 @@ use Rattle.fuse_store_tree.specs.inner.Writing.{with_changes, with_change}
 use Rattle.fuse_tree.specs.declared.rows.Change.{Change}
 use Rattle.fuse_store_tree.specs.inner.Laws.{looked_still}
 use Rattle.sqlite.specs.State.{State, HasCleanDisk}
-use Rattle.fuse_store_tables.specs.Moves.{InsideAs, Looked}
-use Rattle.fuse_store_tree.specs.inner.Changing.{Changed, Keeps}
+use Rattle.fuse_store_tables.specs.Moves.{InsideAs}
+use Rattle.fuse_store_tree.specs.inner.Changing.{Changed, Keeps, LeavesTrees}
 use Rattle.fuse_store_tables.specs.inner.Following.{earlier}
-use Rattle.fuse_store_tree.proofs.Described.{inside_of}
+use Rattle.fuse_store_tree.proofs.AtSize.{tree_rowed}
 use Rattle.fuse_store_tree.proofs.Steps.{keeps_of, keeps_then}
 
 pub changed_keeps : (f : Store → Store) (a b d : State) → Changed f a b → Keeps b d → Keeps a d
@@ -46,13 +46,12 @@ changed_more cs c a b d p q =
     }
 
 -- a plan that was made, and its changes made
-pub acted : (a b d : State) (s : TreeState) (p : Planned) (e : Done) → Looked a b → Changed (with_changes p.changes) b d → (HasCleanDisk b → sees_in a (rowed s)
-    → Meets s p e) → ActsInside a d s e p.answer
-acted a b d s p e looks changed meets clean x is at =
+pub acted : (a b d : State) (s : TreeState) (p : Planned) (e : Done) → Tree s → LeavesTrees a b → Changed (with_changes p.changes) b d
+    → (HasCleanDisk b → sees_in a (rowed s) → Meets s p e) → ActsInside a d s e p.answer
+acted a b d s p e tree leaves changed meets clean x is at =
     let mid = earlier b d _ changed.stays.survives clean in
     let met = meets mid (x, at, is) in
-    let now = looks.same mid at.holds.0 (inside_of x a at) in
-    let after = changed.turns clean x (record { is_open = now.is_open; in_transaction = now.in_transaction; holds = (at.holds.0, now.holds, at.holds.2) }) in
+    let after = changed.turns clean x (leaves.same mid x (subst IsRowed (sym is) (tree_rowed s tree)) at) in
     record {
       answer_is = met.answer;
       tree = met.tree;

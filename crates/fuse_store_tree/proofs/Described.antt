@@ -151,7 +151,7 @@ inside_of x s at = record { is_open = at.is_open; in_transaction = at.in_transac
 
 -- ---- bytes
 
-abbrev IsFull : Full → Type 0
+abbrev pub IsFull : Full → Type 0
 IsFull f = (f.row.size ≡ length f.content) × (f.row.size ≤ file_limit)
 
 all_full : (s : State) (next : ℕ) (ns : List Node) → AllByRecursion (IsNode next) ns → AllByRecursion IsFull (map (full_of s) ns)

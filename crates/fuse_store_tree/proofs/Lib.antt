@@ -13,6 +13,7 @@ pub mod Parents
 pub mod BlockBytes
 pub mod Overlays
 pub mod Cuts
+pub mod AtSize
 pub mod Zeros
 pub mod Turning
 pub mod Records

@@ -1,5 +1,5 @@
 -- A statement, or several, as a step on a store.
-use Rattle.std.proofs.Common.{ℕ, Ok, Err, Result, OnOk, OnErr}
+use Rattle.std.proofs.Common.{Ok, Err, Result, OnOk, OnErr}
 use Rattle.fuse_store_tree.specs.Store.{HeldAs, Bodies, bodies_of, Store, Held}
 use Rattle.fuse_store_tree.specs.inner.Reading.{Describes}
 use Rattle.sqlite.specs.State.{State, HasCleanDisk}

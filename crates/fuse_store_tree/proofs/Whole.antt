@@ -1,9 +1,15 @@
 -- A group as a whole transaction.
-use Rattle.std.proofs.Common.{Ok, Err, sym, subst}
+use Rattle.std.proofs.Common.{◌≡◌, ◌∙◌, Ok, Err, Bool, true, false, cond, sym, subst}
 use Rattle.sqlite.specs.State.{State, HasCleanDisk}
+use Rattle.sqlite.proofs.StateLemmas.{survives_then, survives_weaker}
+use Rattle.sqlite.proofs.InsideLemmas.{keeps_then}
 use Rattle.sqlite.specs.declared.error.Error.{Error}
 use Rattle.fuse_keeper.specs.declared.fault.StoreFault.{StoreFault}
-use Rattle.fuse_store_tables.specs.Moves.{RestsAs, Begins, Ends, Takes}
+use Rattle.fuse_keeper.specs.declared.fault.StoreFault.TheVariants.{Memory, Sql}
+use Rattle.fuse_keeper.specs.Faults.{fault_of, is_memory}
+use Rattle.fuse_store_tables.specs.Moves.{RestsAs, Begins, Ends, Takes, Undoes, LeavesAlone}
+use Rattle.fuse_store_tables.specs.Saying.{IsRefusal}
+use Rattle.fuse_store_tables.specs.inner.Performing.{CommitsNothing}
 use Rattle.fuse_store_tables.specs.inner.Following.{earlier}
 use Rattle.fuse_store_tree.specs.Holding.{Holding, HeldFor, ReportsAfter}
 use Rattle.fuse_store_tree.specs.inner.Changing.{InsideFor, KeepsFor, Turned}
@@ -29,3 +35,35 @@ told_after P a b d e x y p keeps told q clean z at =
     let last = earlier d e _ q.survives clean in
     let first = earlier b d _ keeps.survives last in
     told last z (begun_for a b x p first z at)
+
+-- ---- refusals
+
+-- a fault of a statement refuses nothing
+pub unrefusing : (e : Error) (f : StoreFault) → f ≡ fault_of e → ¬ IsRefusal f
+unrefusing e f is refused = told (is_memory e) (subst IsRefusal is refused)
+  where
+    told : (b : Bool) → ¬ IsRefusal (cond b Memory (Sql e))
+    told true none = none
+    told false none = none
+
+-- what failed within the transaction committed nothing
+pub nothing_for : {X : Type 0} (a b d : State) (x : X) → Begins {E = Error} a b (Ok x) → KeepsFor b d → (y : Holding) → RestsAs (HeldFor y) a
+    → CommitsNothing a d
+nothing_for a b d x p keeps y at = record {
+  survives = survives_then a b d _ _ _ (λ _ db none. none)
+      (λ clean db none. absurd (none (y, begun_for a b x p (earlier b d _ keeps.survives clean) y at))) p.survives keeps.survives;
+  kept = λ clean.
+      let mid = earlier b d _ keeps.survives clean in
+      keeps_then a b d (p.kept mid) (keeps.kept clean (y, begun_for a b x p mid y at));
+}
+
+-- and what is then rolled back is left alone
+pub rolled_back : (a b d : State) → CommitsNothing a b → Undoes b d → LeavesAlone a d
+rolled_back a b d p u = record {
+  survives = survives_then a b d _ _ _ (λ _ db none. none) (λ _ db none. absurd none) p.survives u.survives;
+  autocommit = u.autocommit;
+  same = λ clean is_open.
+      let back = u.undone clean is_open in
+      let kept = p.kept (earlier b d _ u.survives clean) in
+      (kept.was_open back.0, back.2 ∙ kept.committed back.0, back.1 ∙ sym back.2);
+}

@@ -1,5 +1,5 @@
 -- Blocks that begin before the end of their node.
-use Rattle.std.proofs.Common.{◌≡◌, ◌≤◌, ◌<◌, ◌*◌, ◌==◌, ◌&&◌, inl, inr, ℕ, List, [], ◌∷◌, filter, not, Bool, true, false, cond, min, max, refl, subst, arith}
+use Rattle.std.proofs.Common.{◌≡◌, ◌≤◌, ◌<◌, ◌*◌, ◌==◌, ◌&&◌, inl, inr, ℕ, List, [], ◌∷◌, filter, not, Bool, true, false, cond, min, max, subst, arith}
 use Rattle.std.specs.List.{AllByRecursion}
 use Rattle.std.specs.Option.{is_some}
 use Rattle.std.specs.Ordering.{is_eq, is_ge, nat_cmp}

@@ -159,7 +159,7 @@ overlaid_then node at p q a b d first second = record {
           describes_same w.0 (overlay_in node (at + length p) q (overlay_in node at p w.1)) (overlay_in node at (p ++ q) w.1) last.holds.0
               (overlay_more node at p q w.1.byte) (λ n k low.
               grown_twice node (at + length p) (at + length p + length q) (at + length (p ++ q)) w.1.ends n (k * block_bytes)
-                  (omega (arith, length-append p q)) (omega (arith, length-append p q)) low) last.holds.2,
+              (omega (arith, length-append p q)) (omega (arith, length-append p q)) low) last.holds.2,
         );
       };
 }

@@ -8,7 +8,8 @@ use Rattle.fuse_keeper.specs.declared.keeper.Done.{Done}
 use Rattle.fuse_keeper.specs.declared.fault.StoreFault.{StoreFault}
 use Rattle.fuse_store_tables.specs.Content.{kept_key, put_by, without_by}
 use Rattle.fuse_store_tables.specs.Faults.{IsOutside}
-use Rattle.fuse_store_tables.specs.Moves.{RestsAs}
+use Rattle.fuse_store_tables.specs.Moves.{RestsAs, LeavesAlone}
+use Rattle.fuse_store_tables.specs.Saying.{IsRefusal}
 use Rattle.fuse_store_tree.specs.Store.{records_of}
 use Rattle.fuse_store_tree.specs.Holding.{Holding, HeldFor}
 
@@ -42,6 +43,10 @@ HasLotLeft lot y = lot ≡ None → y.next_lot < 2 ^ 62
 -- the same of a whole transaction
 abbrev pub IsSafeFor : {X : Type 0} → Option ℕ → State → State → Result X StoreFault → Type 0
 IsSafeFor lot old new r = HasCleanDisk new → IfErr r (λ f. (y : Holding) → RestsAs (HeldFor y) old → HasLotLeft lot y → IsOutside f)
+
+-- a refusal of what was held leaves it alone
+abbrev pub RefusesFor : {X : Type 0} → State → State → Result X StoreFault → Type 0
+RefusesFor old new r = IfErr r (λ f. IsRefusal f → (y : Holding) → RestsAs (HeldFor y) old → LeavesAlone old new)
 
 -- ---- one request
 

@@ -11,6 +11,7 @@ ghost use Rattle.fuse_store_tree.specs.inner.Changing.{Keeps};
 ghost use Rattle.fuse_store_tree.specs.Holding.{HeldFor};
 ghost use Rattle.fuse_store_tree.specs.Looking.{look_fault};
 
+use crate::gaps::clear_gap;
 use crate::look::TableLook;
 use crate::plan_changes::make_all;
 use fuse_answer::Answer;
@@ -58,6 +59,10 @@ pub(crate) fn act<S: Alter>(
         Err(fault) => return Err(fault_of_plan(fault, look.take_fault())),
     };
     let changes = planned.changes.as_slice();
+    match clear_gap(&mut look.conn, alloc, changes) {
+        Ok(()) => {}
+        Err(fault) => return Err(fault),
+    }
     match make_all(&mut look.conn, alloc, changes) {
         Ok(()) => Ok(planned.answer),
         Err(fault) => Err(fault),

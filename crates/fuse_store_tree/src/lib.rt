@@ -7,6 +7,7 @@ mod block_writes;
 mod bounds;
 mod counters;
 mod entries;
+mod gaps;
 mod group;
 mod laws;
 mod look;

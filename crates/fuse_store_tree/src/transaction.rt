@@ -4,12 +4,14 @@ ghost use Rattle.std.specs.Prelude.{IfOk, IfErr, IfSome, OnOk};
 ghost use Rattle.sqlite.specs.State.{HasCleanDisk};
 ghost use Rattle.sqlite.specs.Held.{state};
 ghost use Rattle.fuse_keeper.specs.Group.{entries_of, ids_of};
-ghost use Rattle.fuse_store_tables.specs.Moves.{ServesAs, StaysOpen};
-ghost use Rattle.fuse_store_tables.specs.inner.Performing.{PerformsAs};
+ghost use Rattle.fuse_store_tables.specs.Moves.{RestsAs, ServesAs, StaysOpen};
+ghost use Rattle.fuse_store_tables.specs.Saying.{IsRefusal};
+ghost use Rattle.fuse_store_tables.specs.inner.Performing.{CommitsNothing, PerformsAs};
 ghost use Rattle.fuse_store_tables.specs.Faults.{IsPlain};
 ghost use Rattle.fuse_store_tree.specs.Looking.{look_fault};
-ghost use Rattle.fuse_store_tree.specs.Holding.{HeldFor, ReportsAfter};
+ghost use Rattle.fuse_store_tree.specs.Holding.{Holding, HeldFor, ReportsAfter};
 ghost use Rattle.fuse_store_tree.specs.Group.{performed, all_dones, lot_for, IsSafeFor};
+ghost use Rattle.fuse_store_tree.specs.Group.{RefusesFor};
 
 use crate::group::{Performed, perform_in};
 use crate::look::TableLook;
@@ -46,6 +48,9 @@ fn transact<S: Alter>(
     ensures ready { look_fault look.new.fault ≡ None }
     ensures fault { IsSafeFor lot (state S.Store look.old.conn) (state S.Store look.new.conn)
         result }
+    ensures refused { IfErr result (λ f. IsRefusal f → (y : Holding)
+        → RestsAs (HeldFor y) (state S.Store look.old.conn)
+        → CommitsNothing (state S.Store look.old.conn) (state S.Store look.new.conn)) }
     ensures plain { IfErr result IsPlain }
 {
     match begin(&mut look.conn) {
@@ -90,6 +95,9 @@ pub fn perform<S: Alter>(
     ensures ready { look_fault look.new.fault ≡ None }
     // Of a store that was sound, the fault is `Damaged` only where no lot number is left.
     ensures fault { IsSafeFor lot (state S.Store look.old.conn) (state S.Store look.new.conn)
+        result }
+    // Then the store is as it was, after a crash too.
+    ensures refused { RefusesFor (state S.Store look.old.conn) (state S.Store look.new.conn)
         result }
     // The fault is never `NotAStore` or `Version`.
     ensures plain { IfErr result IsPlain }

@@ -1,6 +1,7 @@
 -- The effect of a step within a transaction on the content of the tables (own profile).
 use Rattle.sqlite.specs.State.{State, HasCleanDisk}
-use Rattle.fuse_store_tables.specs.Moves.{StaysIn, TurnsTo, InsideAs}
+use Rattle.fuse_tree.specs.Rows.{IsRowed}
+use Rattle.fuse_store_tables.specs.Moves.{StaysIn, TurnsTo, InsideAs, IsReady}
 use Rattle.std.specs.Prelude.{ℕ, List, Option, Result, IfErr}
 use Rattle.fuse_store_tree.specs.Store.{Store, Held, HeldAs}
 use Rattle.fuse_store_tree.specs.Holding.{HeldFor, Holding}
@@ -21,6 +22,12 @@ KeepsBytes = StaysIn HeldAs
 pub record Changed (g : Store → Store) (old new : State) : Type 0 where
   pub stays : Keeps old new
   pub turns : TurnsTo Held (λ x. Held (g x)) old new
+
+-- a store whose rows are those of a tree is as it was
+pub record LeavesTrees (old new : State) : Type 0 where
+  pub stays : Keeps old new
+  pub held : HasCleanDisk new → IsReady Held old → IsReady Held new
+  pub same : HasCleanDisk new → (x : Store) → IsRowed x.rows → InsideAs (Held x) old → InsideAs (Held x) new
 
 -- some bytes of a node are written over, and nothing else
 pub record Overlaid (node at : ℕ) (part : List ℕ) (old new : State) : Type 0 where

@@ -5,6 +5,7 @@ use Rattle.fuse_store_tree.specs.Holding.{HeldFor}
 use Rattle.fuse_store_tree.specs.Group.{performed}
 use Rattle.fuse_store_tables.specs.inner.Following.{earlier}
 use Rattle.fuse_store_tables.specs.inner.Transaction.{open_undone}
+use Rattle.fuse_store_tree.proofs.Whole.{rolled_back}
 use Rattle.fuse_store_tree.proofs.transaction.perform.Goals as goal
 
 pub returns-in-Ok-clause-serves : goal.returns-in-Ok-clause-serves
@@ -34,3 +35,8 @@ returns-in-Ok-clause-ended g c = c.in-Ok.ensures.ended
 
 pub returns-in-Err-clause-ended : goal.returns-in-Err-clause-ended
 returns-in-Err-clause-ended g c = c.undo.ensures.autocommit
+
+pub returns-in-Err-clause-refused : goal.returns-in-Err-clause-refused
+returns-in-Err-clause-refused g c = λ refused y at.
+    rolled_back (state g.S.Store c.args.look.now.conn) (state g.S.Store c.transact.new.look.conn) (state g.S.Store c.undo.new.conn)
+    (c.in-Err.ensures.refused refused y at) c.undo.ensures

@@ -6,7 +6,7 @@ use Rattle.fuse_store_tree.specs.Holding.{HeldFor}
 use Rattle.fuse_store_tree.specs.Group.{performed, all_dones, lot_for}
 use Rattle.fuse_store_tree.proofs.Whole.{takes_for, fails_for, told_after}
 use Rattle.fuse_store_tables.specs.inner.Following.{earlier}
-use Rattle.fuse_store_tree.proofs.Whole.{begun_for}
+use Rattle.fuse_store_tree.proofs.Whole.{begun_for, unrefusing, nothing_for}
 use Rattle.fuse_store_tables.specs.inner.Transaction.{open_first, open_inside, open_failed, open_committed}
 use Rattle.fuse_store_tree.proofs.transaction.transact.Goals as goal
 
@@ -85,3 +85,15 @@ returns-in-Ok-commit-clause-open g c =
 
 pub returns-in-Ok-commit-clause-ended : goal.returns-in-Ok-commit-clause-ended
 returns-in-Ok-commit-clause-ended g c = λ clean. (c.in-Ok-commit.ensures.ended clean).1
+
+pub returns-in-Err-clause-refused : goal.returns-in-Err-clause-refused
+returns-in-Err-clause-refused g c = λ refused. absurd (unrefusing c.in-Err.error c.from.result c.from.ensures refused)
+
+pub returns-in-Err-perform_in-clause-refused : goal.returns-in-Err-perform_in-clause-refused
+returns-in-Err-perform_in-clause-refused g c = λ refused.
+    nothing_for (state g.S.Store c.args.look.now.conn) (state g.S.Store c.begin.new.conn) (state g.S.Store c.perform_in.new.look.conn) _ c.in-Ok.ensures
+    c.in-Err-perform_in.ensures.fails
+
+pub returns-in-Err-commit-clause-refused : goal.returns-in-Err-commit-clause-refused
+returns-in-Err-commit-clause-refused g c = λ refused.
+    absurd (unrefusing c.in-Err-commit.error c.from-in-Err-commit.result c.from-in-Err-commit.ensures refused)

@@ -1,0 +1,74 @@
+// The place between the end of a file and what extends it.
+ghost use Rattle.std.specs.Prelude.{◌<◌, ◌^◌, IfErr, IfSome, OnOk, OnErr};
+ghost use Rattle.sqlite.specs.Held.{state};
+ghost use Rattle.fuse_store_tables.specs.Faults.{IsPlain};
+ghost use Rattle.fuse_store_tables.specs.inner.Performing.{IsSure};
+ghost use Rattle.fuse_store_tree.specs.inner.Changing.{Keeps, LeavesTrees};
+ghost use Rattle.fuse_store_tree.specs.Store.{Held};
+
+use crate::bounds::END;
+use crate::rows::find_node;
+use crate::truncation::set_size;
+use fuse_keeper::StoreFault;
+use fuse_tree::{Change, MAX_FILE};
+use sqlite::{Alter, Connection};
+use std::alloc::Global;
+
+// The node whose content the changes write or cut, and the place up to which that may extend it with
+// zeros.
+fn extended(changes: &[Change]) -> Option<(u64, u64)>
+    ensures { IfSome result (λ p. p.0 < 2 ^ 63) }
+{
+    for change in changes {
+        match change {
+            Change::Written { node, offset, .. } if *node < END => return Some((*node, *offset)),
+            Change::Sized { node, size } if *node < END => return Some((*node, *size)),
+            _ => {}
+        }
+    }
+    None
+}
+
+// Sets the bytes after the size of a node to 0, if it is smaller than this.
+fn clear_from_size<S: Alter>(
+    conn: &mut Connection<S>,
+    alloc: Global,
+    node: u64,
+    end: u64,
+) -> Result<(), StoreFault>
+    requires node { node < 2 ^ 63 }
+    ensures same { OnOk result (LeavesTrees (state S.Store conn.old) (state S.Store conn.new)) }
+    ensures fails { OnErr result (Keeps (state S.Store conn.old) (state S.Store conn.new)) }
+    ensures fault { IsSure Held (state S.Store conn.old) (state S.Store conn.new) result }
+    ensures plain { IfErr result IsPlain }
+{
+    match find_node(conn, node) {
+        Ok(Some(row)) => {
+            if row.size < end && row.size <= MAX_FILE {
+                set_size(conn, alloc, node, row.size)
+            } else {
+                Ok(())
+            }
+        }
+        Ok(None) => Ok(()),
+        Err(fault) => Err(fault),
+    }
+}
+
+/// Sets the bytes after the size of a file to 0 before changes extend it. A store of this program
+/// has none there but zeros.
+pub(crate) fn clear_gap<S: Alter>(
+    conn: &mut Connection<S>,
+    alloc: Global,
+    changes: &[Change],
+) -> Result<(), StoreFault>
+    ensures same { OnOk result (LeavesTrees (state S.Store conn.old) (state S.Store conn.new)) }
+    ensures fails { OnErr result (Keeps (state S.Store conn.old) (state S.Store conn.new)) }
+    ensures fault { IsSure Held (state S.Store conn.old) (state S.Store conn.new) result }
+    ensures plain { IfErr result IsPlain }
+{
+    match extended(changes) {
+        Some((node, end)) => clear_from_size(conn, alloc, node, end),
+        None => Ok(()),
+    }
+}
