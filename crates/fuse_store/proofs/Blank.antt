@@ -6,13 +6,17 @@ use Rattle.sqlite.specs.State.{State, IsLive, Survives}
 use Rattle.sqlite.proofs.StateLemmas.{survives_weaker}
 use Rattle.sqlite_schema.specs.Names.{table_named}
 use Rattle.fuse_wire.specs.declared.moment.Moment.{Moment}
+use Rattle.fuse_keeper.specs.declared.fault.StoreFault.{StoreFault}
+use Rattle.fuse_keeper.specs.declared.fault.StoreFault.TheVariants.{Memory, Sql, NotAStore, Version, Damaged}
 use Rattle.fuse_store_tables.specs.Content.{LeftAs}
+use Rattle.fuse_store_tables.specs.Faults.{IsOutside}
+use Rattle.fuse_store_tables.specs.Saying.{IsRefusal}
 use Rattle.fuse_store_tables.specs.Layout.{no_schema}
 use Rattle.fuse_store_tables.specs.Making.{IsBare}
 use Rattle.fuse_store_tables.specs.Moves.{RestsAs}
 use Rattle.fuse_store.specs.Creating.{IsBlank, LeavesNew}
 use Rattle.fuse_store.specs.Opening.{Stored, OpenedFor, WasFor}
-use Rattle.fuse_store.specs.Starting.{LeavesStarted}
+use Rattle.fuse_store.specs.Starting.{BegunFor, LeavesStarted, LeavesFresh}
 use Rattle.fuse_store.proofs.Reopening.{rests_was, has_meta, no_none}
 
 -- where nothing was made, nothing is stored
@@ -20,6 +24,14 @@ pub unstored : (s : State) → IsLive s → (IsTrue s.is_open → s.now ≡ s.co
 unstored s live settled empty z was =
     no_none (table_named s.now.schema (codes "meta")) 0 (has_meta z s.now (rests_was z s live settled was).holds)
     (subst (λ (t : Schema). is_some (table_named t (codes "meta")) ≡ false) (sym empty) refl)
+
+-- want of memory and an error of SQL refuse nothing
+pub no_refusal : {Y : Type 0} (f : StoreFault) → IsOutside f → IsRefusal f → Y
+no_refusal Memory outside refused = absurd refused
+no_refusal (Sql e) outside refused = absurd refused
+no_refusal NotAStore outside refused = absurd outside
+no_refusal (Version n) outside refused = absurd outside
+no_refusal Damaged outside refused = absurd outside
 
 pub bare_is_blank : (s : State) → RestsAs (IsBare no_schema tt) s → IsBlank s
 bare_is_blank s bare = (bare.autocommit, bare.holds.schema)
@@ -33,3 +45,15 @@ pub left_opened : (now : Moment) (a b : State) → (IsBlank a → ⊥) → Survi
     → Survives a b (LeavesStarted now a)
 left_opened now a b stored one =
     survives_weaker a b _ (LeavesStarted now a) (λ clean db left. record { made = λ blank is_open. absurd (stored blank); opened = left }) one
+
+-- ---- with a mount that begins
+
+pub fresh_made : (now : Moment) (a b : State) → ((z : Stored) → WasFor z a → ⊥) → Survives a b (LeavesNew now a) → Survives a b (LeavesFresh now a)
+fresh_made now a b none one =
+    survives_weaker a b _ (LeavesFresh now a)
+    (λ clean db left. record { made = λ blank is_open. left.1 is_open; begun = λ z was. absurd (none z was) }) one
+
+pub fresh_begun : (now : Moment) (a b : State) → (IsBlank a → ⊥) → Survives a b (λ db. (z : Stored) → WasFor z a → LeftAs (BegunFor z) db)
+    → Survives a b (LeavesFresh now a)
+fresh_begun now a b stored one =
+    survives_weaker a b _ (LeavesFresh now a) (λ clean db left. record { made = λ blank is_open. absurd (stored blank); begun = left }) one

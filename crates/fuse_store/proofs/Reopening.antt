@@ -1,5 +1,5 @@
 -- What an open finds, and what it makes of it.
-use Rattle.std.proofs.Common.{◌≡◌, ℕ, List, inl, inr, true, false, not, Ok, Err, Result, OnOk, IsTrue, Some, Option, codes, refl, sym, ap, subst, arith, ◌∙◌}
+use Rattle.std.proofs.Common.{◌≡◌, ℕ, List, inl, inr, true, false, not, Bool, Ok, Err, Result, OnOk, IsTrue, Some, Option, codes, refl, sym, ap, subst, arith, ◌∙◌}
 use Rattle.std.specs.Option.{is_some}
 use Rattle.std.specs.List.{AllByRecursion}
 use Rattle.std.specs.Ordering.{is_eq, nat_cmp}
@@ -15,10 +15,11 @@ use Rattle.sqlite_schema.specs.Names.{table_named}
 use Rattle.sqlite_tied.specs.Compute.{everything}
 use Rattle.fuse_store_tables.specs.Layout.{with_answers, store_schema}
 use Rattle.fuse_store_tables.specs.Content.{Content, Answer, HoldsAs, HasRows, LeftAs, stored, value_at}
-use Rattle.fuse_store_tables.specs.Moves.{RestsAs}
+use Rattle.fuse_store_tables.specs.Moves.{RestsAs, LeavesAlone}
 use Rattle.fuse_tree.specs.State.{State as TreeState}
 use Rattle.fuse_store_tables.specs.Opening.{IsLaid, HasMeta, IsStored, IsSecond, IsOpened, IsOld, IsFit, migrated, opened}
 use Rattle.fuse_store_tree.specs.Holding.{Holding, HeldFor, TreesAreInOrder}
+use Rattle.fuse_store_tree.specs.inner.Laws.{still_survives}
 use Rattle.fuse_store.specs.Opening.{Stored, First, Second, StoredFor, OpenedFor, FirstFor, WasFor}
 use Rattle.fuse_store.proofs.Fitting.{second_for}
 use Rattle.fuse_store.proofs.FirstVersion.{old_for, describes_migrated}
@@ -27,10 +28,10 @@ use Rattle.fuse_store.proofs.Retelling.{Retold}
 
 -- ---- either version
 
-opened_first : (c : Content) → value_at 1 c ≡ 1 → opened c ≡ migrated c
+pub opened_first : (c : Content) → value_at 1 c ≡ 1 → opened c ≡ migrated c
 opened_first c is = ap (λ v. if is_eq (nat_cmp v 1) then migrated c else c) is
 
-opened_second : (c : Content) → value_at 1 c ≡ 2 → opened c ≡ c
+pub opened_second : (c : Content) → value_at 1 c ≡ 2 → opened c ≡ c
 opened_second c is = ap (λ v. if is_eq (nat_cmp v 1) then migrated c else c) is
 
 held_of : (y : Holding) (d e : Database) (at : HeldFor y d) → IsSecond at.held.0 e → HeldFor y e
@@ -40,12 +41,12 @@ held_of y d e at k = record { tree = at.tree; below = at.below; next = at.next; 
 versions_apart : {X : Type 0} (c : Content) → IsOld c → IsFit c → X
 versions_apart c old fit = absurd (let clash : ◌≡◌ {A = ℕ} 1 2 = sym old.version ∙ fit.version in omega (arith, clash))
 
-first_of : (tree : TreeState) (answers : List Answer) (d e : Database) (at : FirstFor tree answers d) → IsOld at.held.0 → IsStored at.held.0 e
+pub first_of : (tree : TreeState) (answers : List Answer) (d e : Database) (at : FirstFor tree answers d) → IsOld at.held.0 → IsStored at.held.0 e
     → FirstFor tree answers e
 first_of tree answers d e at old (inl k) = record { tree = at.tree; held = (at.held.0, k.holds, at.held.2) }
 first_of tree answers d e at old (inr k) = versions_apart at.held.0 old k.fit
 
-second_of : (y : Holding) (d e : Database) (at : HeldFor y d) → IsSecond at.held.0 d → IsStored at.held.0 e → HeldFor y e
+pub second_of : (y : Holding) (d e : Database) (at : HeldFor y d) → IsSecond at.held.0 d → IsStored at.held.0 e → HeldFor y e
 second_of y d e at second (inl k) = versions_apart at.held.0 k.old second.fit
 second_of y d e at second (inr k) = held_of y d e at k
 
@@ -123,3 +124,16 @@ meta_whole a b (Ok x) outside settled was whole clean = λ c at.
     let is_open = was clean in
     whole clean c
     (record { is_open = is_open; autocommit = no_transaction a.in_transaction outside; holds = at; committed = sym (settled is_open) })
+
+-- ---- nothing is done
+
+pub left_here : (s : State) → s.in_transaction ≡ false → (IsTrue s.is_open → s.now ≡ s.committed) → LeavesAlone s s
+left_here s outside settled = record {
+  survives = still_survives s _;
+  autocommit = λ clean. outside;
+  same = λ clean is_open. (is_open, refl, settled is_open);
+}
+
+pub not_busy : (m : Bool) → (m ≡ true → ⊥) → m ≡ false
+not_busy false busy = refl
+not_busy true busy = absurd (busy refl)

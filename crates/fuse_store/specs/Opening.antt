@@ -11,9 +11,9 @@ use Rattle.fuse_store_tables.specs.Layout.{with_answers}
 use Rattle.fuse_store_tables.specs.Content.{Content, Counter, Answer, HoldsAs, LeftAs, stored, node_key, cookie_of, fh_of}
 use Rattle.fuse_keeper.specs.declared.fault.StoreFault.{StoreFault}
 use Rattle.fuse_store_tables.specs.Faults.{IsOutside}
-use Rattle.fuse_store_tables.specs.Moves.{RestsAs}
-use Rattle.fuse_store_tables.specs.Opening.{under}
-use Rattle.fuse_store_tables.specs.Saying.{Says}
+use Rattle.fuse_store_tables.specs.Moves.{RestsAs, LeavesAlone}
+use Rattle.fuse_store_tables.specs.Opening.{IsStored, IsOpened, under}
+use Rattle.fuse_store_tables.specs.Saying.{Says, IsRefusal, IsToMigrate}
 use Rattle.fuse_store_tree.specs.Fits.{Fits, KeepsRecord}
 use Rattle.fuse_store_tree.specs.Store.{FitsSettings, in_order, counter, is_there, minor_of, readahead_of, flags_of, byte_in, rows_bytes, rows_ends, AreWithin}
 use Rattle.fuse_store_tree.specs.Holding.{Holding, HeldFor}
@@ -70,11 +70,25 @@ OpenedFor z = HeldFor (opened_for z)
 abbrev pub WasFor : Stored → State → Type 0
 WasFor z s = IsTrue s.is_open × (s.in_transaction ≡ false) × LeftAs (StoredFor z) s.committed.trees
 
--- an opening that was refused, and the connection that is left
-pub record OpenRefused (old left : State) (f : StoreFault) : Type 0 where
+-- an opening that failed, and the connection that is left; where it succeeds, it makes this of a store, and changes these databases alone
+pub record FailsToOpen (made : Stored → Holding) (Changes : Database → Type 0) (old left : State) (f : StoreFault) : Type 0 where
   -- a crash then leaves the same trees as before, or those of the opened store
-  pub crash : Survives old left (λ db. (z : Stored) → WasFor z old → LeftAs (OpenedFor z) db)
+  pub crash : Survives old left (λ db. (z : Stored) → WasFor z old → LeftAs (HeldFor (made z)) db)
   pub kept : HasCleanDisk left → IsTrue left.is_open → (z : Stored) → WasFor z old → RestsAs (StoredFor z) left
   -- the fault says nothing of a sound store, and else only what is so
   pub outside : HasCleanDisk left → (z : Stored) → WasFor z old → IsOutside f
   pub says : HasCleanDisk left → Says old.now f
+  -- a database that is refused is left as it was, as is any other that is not to be changed
+  pub refused : IsRefusal f → LeavesAlone old left
+  pub alone : old.in_transaction ≡ false → (Changes old.now → ⊥) → LeavesAlone old left
+  pub ended : HasCleanDisk left → old.in_transaction ≡ false → left.in_transaction ≡ false
+
+abbrev pub OpenRefused : State → State → StoreFault → Type 0
+OpenRefused = FailsToOpen opened_for IsToMigrate
+
+-- an opening that succeeded keeps all rows, those too that no tree has
+pub record KeepsRows (old new : State) : Type 0 where
+  -- only a store of version 1 is changed
+  pub alone : (IsToMigrate old.now → ⊥) → LeavesAlone old new
+  pub opened : HasCleanDisk new → (c : Content) → RestsAs (IsStored c) old → RestsAs (IsOpened c) new
+  pub ended : HasCleanDisk new → new.in_transaction ≡ false

@@ -1,21 +1,25 @@
 -- Any database after a start (own profile).
-use Rattle.std.specs.Prelude.{◌⊎◌, ℕ, List, [], IsTrue}
+use Rattle.std.specs.Prelude.{◌≡◌, ℕ, List, [], IsTrue, false}
 use Rattle.sqlite.specs.Tree.{Trees}
 use Rattle.sqlite.specs.Effect.{Database}
-use Rattle.sqlite.specs.State.{State}
+use Rattle.sqlite.specs.State.{State, HasCleanDisk}
 use Rattle.fuse_wire.specs.declared.moment.Moment.{Moment}
 use Rattle.fuse_tree.specs.Rows.{rowed}
 use Rattle.fuse_keeper.specs.History.{History, after}
 use Rattle.fuse_keeper.specs.Stands.{Stands}
 use Rattle.fuse_keeper.specs.KeeperState.{KeeperState, StandsFor}
 use Rattle.fuse_tree.specs.TheTree.{the_tree}
-use Rattle.fuse_store_tables.specs.Content.{LeftAs}
+use Rattle.fuse_keeper.specs.declared.fault.StoreFault.{StoreFault}
+use Rattle.fuse_store_tables.specs.Clearing.{IsBegun}
+use Rattle.fuse_store_tables.specs.Content.{Content, LeftAs}
 use Rattle.fuse_store_tables.specs.Moves.{RestsAs}
+use Rattle.fuse_store_tables.specs.Opening.{IsStored}
+use Rattle.fuse_store_tables.specs.Saying.{IsTabled}
 use Rattle.fuse_store_tree.specs.Store.{records_of}
 use Rattle.fuse_store_tree.specs.Holding.{Holding, HeldFor}
 use Rattle.fuse_store.specs.Creating.{IsBlank, new_holding}
 use Rattle.fuse_store.specs.Mounting.{cleared_for}
-use Rattle.fuse_store.specs.Opening.{Stored, StoredFor, OpenedFor, WasFor, opened_for}
+use Rattle.fuse_store.specs.Opening.{Stored, OpenedFor, WasFor, FailsToOpen, opened_for}
 
 -- these trees are those of a new store, where the database was blank, and those of the opened store, where it had one
 pub record LeavesStarted (now : Moment) (s : State) (db : Trees) : Type 0 where
@@ -31,18 +35,19 @@ begun_for z = cleared_for (opened_for z)
 abbrev pub BegunFor : Stored → Database → Type 0
 BegunFor z = HeldFor (begun_for z)
 
--- the opening and the begin of a mount are one transaction each: these trees are those after the first or after both
-abbrev pub LeavesBegun : State → Trees → Type 0
-LeavesBegun s db = (z : Stored) → WasFor z s → LeftAs (OpenedFor z) db ⊎ LeftAs (BegunFor z) db
+-- the opening and the begin of a mount are one transaction
+abbrev pub FreshRefused : State → State → StoreFault → Type 0
+FreshRefused = FailsToOpen begun_for IsTabled
 
--- the store is as it was left, or opened
-abbrev pub IsLeftOrOpened : Stored → State → Type 0
-IsLeftOrOpened z s = RestsAs (StoredFor z) s ⊎ RestsAs (OpenedFor z) s
+-- all rows are kept but those that the begin of a mount deletes
+pub record KeepsNamed (old new : State) : Type 0 where
+  pub begun : HasCleanDisk new → (c : Content) → RestsAs (IsStored c) old → RestsAs (IsBegun c) new
+  pub ended : HasCleanDisk new → new.in_transaction ≡ false
 
--- these trees are those of a new store, where the database was blank, and else those of the opened store, before or after the begin of the mount
+-- these trees are those of a new store, where the database was blank, and those of the store after the begin of a mount, where it had one
 pub record LeavesFresh (now : Moment) (s : State) (db : Trees) : Type 0 where
   pub made : IsBlank s → IsTrue s.is_open → LeftAs (HeldFor (new_holding now)) db
-  pub begun : LeavesBegun s db
+  pub begun : (z : Stored) → WasFor z s → LeftAs (BegunFor z) db
 
 -- a mount began of the opened store, whatever history that stood for
 abbrev pub BeginsAfter : Stored → KeeperState the_tree → Type 0

@@ -1,11 +1,11 @@
 // A new store.
-ghost use Rattle.std.specs.Prelude.{◌≡◌, ◌<◌, ◌^◌, ◌↔◌, IsTrue, IfErr, OnOk};
+ghost use Rattle.std.specs.Prelude.{◌≡◌, ◌<◌, ◌^◌, ◌↔◌, true, false, IsTrue, IfErr, IsErrAnd, OnOk};
 ghost use Rattle.sqlite.specs.State.{HasCleanDisk, Survives};
 ghost use Rattle.sqlite.specs.Held.{state};
-ghost use Rattle.fuse_store_tables.specs.Faults.{IsPlain};
+ghost use Rattle.fuse_store_tables.specs.Faults.{IsOutside};
 ghost use Rattle.fuse_store_tables.specs.Layout.{no_schema};
 ghost use Rattle.fuse_store_tables.specs.Making.{IsBare};
-ghost use Rattle.fuse_store_tables.specs.Moves.{RestsAs, ServesAs, IsSafe};
+ghost use Rattle.fuse_store_tables.specs.Moves.{RestsAs, ServesAs};
 ghost use Rattle.fuse_store_tree.specs.Holding.{HeldFor};
 ghost use Rattle.fuse_store.specs.Creating.{new_holding, IsBlank, LeavesNew};
 
@@ -42,10 +42,13 @@ pub(crate) fn make_for<S: Alter>(conn: &mut Connection<S>, now: Moment) -> Resul
         → RestsAs (HeldFor (new_holding now)) (state S.Store conn.new)) }
     ensures crash { Survives (state S.Store conn.old) (state S.Store conn.new)
         (LeavesNew now (state S.Store conn.old)) }
-    ensures fault { IsSafe (IsBare no_schema) (state S.Store conn.old) (state S.Store conn.new)
-        result }
-    // The fault is never `NotAStore` or `Version`.
-    ensures plain { IfErr result IsPlain }
+    // The fault is out of memory or of SQL.
+    ensures outside { IfErr result IsOutside }
+    ensures ended { HasCleanDisk (state S.Store conn.new)
+        → (state S.Store conn.old).in_transaction ≡ false
+        → (state S.Store conn.new).in_transaction ≡ false }
+    ensures busy { (state S.Store conn.old).in_transaction ≡ true
+        → IsErrAnd result (λ f. conn.new ≡ conn.old) }
     // A database that is not blank is left untouched.
     ensures untouched { (IsBlank (state S.Store conn.old) → ⊥) → conn.new ≡ conn.old }
 {

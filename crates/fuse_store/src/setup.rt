@@ -1,14 +1,14 @@
 // The opening of a store.
-ghost use Rattle.std.specs.Prelude.{◌≡◌, false, None, codes, IsTrue, IfErr, IsErrAnd, OnOk, OnErr};
+ghost use Rattle.std.specs.Prelude.{◌≡◌, true, false, None, codes, IsTrue, IfErr, IsErrAnd, OnOk, OnErr};
 ghost use Rattle.sqlite.specs.State.{HasCleanDisk, Survives};
 ghost use Rattle.sqlite.specs.Held.{state};
 ghost use Rattle.sqlite_schema.specs.Names.{table_named};
 ghost use Rattle.fuse_keeper.specs.declared.fault.StoreFault.TheVariants.{NotAStore};
 ghost use Rattle.fuse_store_tables.specs.Content.{Content, LeftAs};
 ghost use Rattle.fuse_store_tables.specs.Faults.{IsOutside};
-ghost use Rattle.fuse_store_tables.specs.Moves.{RestsAs, ServesAs, IsSafe};
-ghost use Rattle.fuse_store_tables.specs.Opening.{IsLaid, HasMeta};
-ghost use Rattle.fuse_store_tables.specs.Saying.{Says, IsTabled};
+ghost use Rattle.fuse_store_tables.specs.Moves.{RestsAs, ServesAs, IsSafe, LeavesAlone};
+ghost use Rattle.fuse_store_tables.specs.Opening.{IsStored, IsOpened, IsLaid, HasMeta};
+ghost use Rattle.fuse_store_tables.specs.Saying.{Says, IsTabled, IsRefusal, IsToMigrate};
 ghost use Rattle.fuse_store.specs.Opening.{Stored, StoredFor, OpenedFor, WasFor};
 
 use fuse_keeper::StoreFault;
@@ -46,6 +46,20 @@ pub(crate) fn set_up_for<S: Alter>(conn: &mut Connection<S>) -> Result<(), Store
         → WasFor z (state S.Store conn.old) → RestsAs (StoredFor z) (state S.Store conn.new)) }
     ensures sure { HasCleanDisk (state S.Store conn.new) → IfErr result (λ f. (z : Stored)
         → WasFor z (state S.Store conn.old) → IsOutside f) }
+    // All rows are kept, those too that no tree has.
+    ensures rows { ServesAs IsStored IsOpened (state S.Store conn.old) (state S.Store conn.new)
+        result }
+    // Only a store of version 1 is changed, and no database that is refused.
+    ensures alone { (state S.Store conn.old).in_transaction ≡ false
+        → (IsToMigrate (state S.Store conn.old).now → ⊥)
+        → LeavesAlone (state S.Store conn.old) (state S.Store conn.new) }
+    ensures refused { IfErr result (λ f. IsRefusal f
+        → LeavesAlone (state S.Store conn.old) (state S.Store conn.new)) }
+    ensures ended { HasCleanDisk (state S.Store conn.new)
+        → (state S.Store conn.old).in_transaction ≡ false
+        → (state S.Store conn.new).in_transaction ≡ false }
+    ensures busy { (state S.Store conn.old).in_transaction ≡ true
+        → IsErrAnd result (λ f. conn.new ≡ conn.old) }
 {
     rows_in_order();
     if !conn.is_autocommit() {

@@ -1,5 +1,5 @@
 // The keeper over any database: of the store in it, or of a new one.
-ghost use Rattle.std.specs.Prelude.{◌≡◌, [], None, false, codes, IsTrue, ◌↔◌, IfOk, IfErr};
+ghost use Rattle.std.specs.Prelude.{◌≡◌, [], None, true, false, codes, IsTrue, ◌↔◌, IfOk, IfErr};
 ghost use Rattle.std.specs.Prelude.{IsErrAnd};
 ghost use Rattle.sqlite.specs.State.{HasCleanDisk, Survives};
 ghost use Rattle.sqlite.specs.Held.{state};
@@ -10,20 +10,20 @@ ghost use Rattle.fuse_keeper.specs.declared.fault.StoreFault.TheVariants.{NotASt
 ghost use Rattle.fuse_keeper.specs.KeeperState.{IsFirm, StandsFor};
 ghost use Rattle.fuse_keeper.specs.Lots.{SameLots};
 ghost use Rattle.fuse_store_tables.specs.Content.{Content};
-ghost use Rattle.fuse_store_tables.specs.Faults.{IsOutside, IsPlain};
+ghost use Rattle.fuse_store_tables.specs.Faults.{IsOutside};
 ghost use Rattle.fuse_store_tables.specs.Layout.{no_schema};
 ghost use Rattle.fuse_store_tables.specs.Making.{IsBare};
-ghost use Rattle.fuse_store_tables.specs.Moves.{RestsAs};
+ghost use Rattle.fuse_store_tables.specs.Moves.{RestsAs, LeavesAlone};
 ghost use Rattle.fuse_store_tables.specs.Opening.{IsLaid, HasMeta};
-ghost use Rattle.fuse_store_tables.specs.Saying.{Says, IsTabled};
+ghost use Rattle.fuse_store_tables.specs.Saying.{Says, IsTabled, IsRefusal, IsToMigrate};
 ghost use Rattle.fuse_store_tree.specs.Store.{records_of};
 ghost use Rattle.fuse_store_tree.specs.Holding.{lots_of};
 ghost use Rattle.fuse_store.specs.Creating.{IsBlank, new_holding};
-ghost use Rattle.fuse_store.specs.Opening.{Stored, StoredFor, WasFor, opened_for};
-ghost use Rattle.fuse_store.specs.Starting.{LeavesStarted, BeginsAfter};
-ghost use Rattle.fuse_store.specs.Starting.{LeavesFresh, IsLeftOrOpened, begun_for};
+ghost use Rattle.fuse_store.specs.Opening.{Stored, StoredFor, WasFor, KeepsRows, opened_for};
+ghost use Rattle.fuse_store.specs.Starting.{LeavesStarted, BeginsAfter, KeepsNamed};
+ghost use Rattle.fuse_store.specs.Starting.{LeavesFresh, begun_for};
 ghost use Rattle.fuse_store.specs.Storing.{opening_fault};
-ghost use Rattle.fuse_store.specs.TableKeeper.{keeper_told, SharesMedium};
+ghost use Rattle.fuse_store.specs.TableKeeper.{keeper_told, conn_of, SharesMedium};
 
 use crate::creation::is_empty;
 use crate::table_keeper::TableKeeper;
@@ -78,13 +78,11 @@ pub fn open_or_create<S: Alter>(
     ensures kept { IfErr result (λ r. HasCleanDisk (state S.Store r.1)
         → IsTrue (state S.Store r.1).is_open → (z : Stored) → WasFor z (state S.Store conn)
         → RestsAs (StoredFor z) (state S.Store r.1)) }
-    ensures fault_bare { IfErr result (λ r. HasCleanDisk (state S.Store r.1)
-        → RestsAs (IsBare no_schema tt) (state S.Store conn) → IsOutside r.0) }
+    ensures fault_blank { IfErr result (λ r. IsBlank (state S.Store conn) → IsOutside r.0) }
     ensures fault { IfErr result (λ r. HasCleanDisk (state S.Store r.1) → (z : Stored)
         → WasFor z (state S.Store conn) → IsOutside r.0) }
     ensures says { IfErr result (λ r. HasCleanDisk (state S.Store r.1)
         → (IsBlank (state S.Store conn) → ⊥) → Says (state S.Store conn).now r.0) }
-    ensures plain { IfErr result (λ r. IsBlank (state S.Store conn) → IsPlain r.0) }
     // A database that is neither blank nor a store is refused.
     ensures absent { (state S.Store conn).in_transaction ≡ false
         → (IsBlank (state S.Store conn) → ⊥)
@@ -95,6 +93,20 @@ pub fn open_or_create<S: Alter>(
         → IsLaid c (state S.Store conn).now → HasMeta c) }
     ensures tabled { IfOk result (λ k. (keeper_told S.Store k).is_honest
         → (IsBlank (state S.Store conn) → ⊥) → IsTabled (state S.Store conn).now) }
+    // A refusal leaves everything as it was, and no transaction is left open.
+    ensures refused { IfErr result (λ r. IsRefusal r.0
+        → LeavesAlone (state S.Store conn) (state S.Store r.1)) }
+    ensures alone { IfErr result (λ r. (state S.Store conn).in_transaction ≡ false
+        → (IsBlank (state S.Store conn) → ⊥) → (IsToMigrate (state S.Store conn).now → ⊥)
+        → LeavesAlone (state S.Store conn) (state S.Store r.1)) }
+    ensures ended { IfErr result (λ r. HasCleanDisk (state S.Store r.1)
+        → (state S.Store conn).in_transaction ≡ false
+        → (state S.Store r.1).in_transaction ≡ false) }
+    ensures busy { (state S.Store conn).in_transaction ≡ true
+        → IsErrAnd result (λ r. r.1 ≡ conn) }
+    // All rows of a store are kept, those too that no tree has.
+    ensures rows { IfOk result (λ k. (IsBlank (state S.Store conn) → ⊥)
+        → KeepsRows (state S.Store conn) (state S.Store (conn_of S.Store k))) }
 {
     if is_blank(&conn) {
         TableKeeper::create(alloc, conn, now)
@@ -135,22 +147,19 @@ pub fn open_fresh<S: Alter>(
     ensures crash { IfErr result (λ r. Survives (state S.Store conn) (state S.Store r.1)
         (LeavesFresh now (state S.Store conn))) }
 
-    // A fault leaves the database as it was, or migrated to version 2, and says nothing of a sound
-    // store.
+    // A fault leaves the database as it was, and says nothing of a sound store.
     ensures bare { IfErr result (λ r. HasCleanDisk (state S.Store r.1)
         → IsTrue (state S.Store r.1).is_open
         → RestsAs (IsBare no_schema tt) (state S.Store conn)
         → RestsAs (IsBare no_schema tt) (state S.Store r.1)) }
     ensures kept { IfErr result (λ r. HasCleanDisk (state S.Store r.1)
         → IsTrue (state S.Store r.1).is_open → (z : Stored) → WasFor z (state S.Store conn)
-        → IsLeftOrOpened z (state S.Store r.1)) }
-    ensures fault_bare { IfErr result (λ r. HasCleanDisk (state S.Store r.1)
-        → RestsAs (IsBare no_schema tt) (state S.Store conn) → IsOutside r.0) }
+        → RestsAs (StoredFor z) (state S.Store r.1)) }
+    ensures fault_blank { IfErr result (λ r. IsBlank (state S.Store conn) → IsOutside r.0) }
     ensures fault { IfErr result (λ r. HasCleanDisk (state S.Store r.1) → (z : Stored)
         → WasFor z (state S.Store conn) → IsOutside r.0) }
     ensures says { IfErr result (λ r. HasCleanDisk (state S.Store r.1)
         → (IsBlank (state S.Store conn) → ⊥) → Says (state S.Store conn).now r.0) }
-    ensures plain { IfErr result (λ r. IsBlank (state S.Store conn) → IsPlain r.0) }
     // A database that is neither blank nor a store is refused.
     ensures absent { (state S.Store conn).in_transaction ≡ false
         → (IsBlank (state S.Store conn) → ⊥)
@@ -161,6 +170,20 @@ pub fn open_fresh<S: Alter>(
         → IsLaid c (state S.Store conn).now → HasMeta c) }
     ensures tabled { IfOk result (λ k. (keeper_told S.Store k).is_honest
         → (IsBlank (state S.Store conn) → ⊥) → IsTabled (state S.Store conn).now) }
+    // A refusal leaves everything as it was, and no transaction is left open.
+    ensures refused { IfErr result (λ r. IsRefusal r.0
+        → LeavesAlone (state S.Store conn) (state S.Store r.1)) }
+    ensures alone { IfErr result (λ r. (state S.Store conn).in_transaction ≡ false
+        → (IsBlank (state S.Store conn) → ⊥) → (IsTabled (state S.Store conn).now → ⊥)
+        → LeavesAlone (state S.Store conn) (state S.Store r.1)) }
+    ensures ended { IfErr result (λ r. HasCleanDisk (state S.Store r.1)
+        → (state S.Store conn).in_transaction ≡ false
+        → (state S.Store r.1).in_transaction ≡ false) }
+    ensures busy { (state S.Store conn).in_transaction ≡ true
+        → IsErrAnd result (λ r. r.1 ≡ conn) }
+    // All rows of a store are kept but those that the begin of a mount deletes.
+    ensures rows { IfOk result (λ k. (IsBlank (state S.Store conn) → ⊥)
+        → KeepsNamed (state S.Store conn) (state S.Store (conn_of S.Store k))) }
 {
     let blank = is_blank(&conn);
     if blank {

@@ -32,7 +32,7 @@ pub struct TableKeeper<S: Alter> {
 }
 
 impl<S: Alter> TableKeeper<S> {
-    ghost use Rattle.std.specs.Prelude.{[], false, codes, IsTrue, IfOk, IfErr, IsErrAnd};
+    ghost use Rattle.std.specs.Prelude.{[], true, false, codes, IsTrue, IfOk, IfErr, IsErrAnd};
     ghost use Rattle.sqlite.specs.State.{HasCleanDisk, Survives};
     ghost use Rattle.sqlite_schema.specs.Names.{table_named};
     ghost use Rattle.fuse_tree.specs.State.{new_store};
@@ -41,18 +41,18 @@ impl<S: Alter> TableKeeper<S> {
     ghost use Rattle.fuse_keeper.specs.KeeperState.{IsFirm, StandsFor};
     ghost use Rattle.fuse_keeper.specs.Lots.{SameLots};
     ghost use Rattle.fuse_store_tables.specs.Content.{Content};
-    ghost use Rattle.fuse_store_tables.specs.Faults.{IsOutside, IsPlain};
+    ghost use Rattle.fuse_store_tables.specs.Faults.{IsOutside};
     ghost use Rattle.fuse_store_tables.specs.Layout.{no_schema};
     ghost use Rattle.fuse_store_tables.specs.Making.{IsBare};
     ghost use Rattle.fuse_store_tables.specs.Moves.{RestsAs};
     ghost use Rattle.fuse_store_tables.specs.Opening.{IsLaid, HasMeta};
-    ghost use Rattle.fuse_store_tables.specs.Saying.{Says, IsTabled};
+    ghost use Rattle.fuse_store_tables.specs.Saying.{IsTabled};
     ghost use Rattle.fuse_store_tree.specs.Store.{records_of};
     ghost use Rattle.fuse_store_tree.specs.Holding.{lots_of};
     ghost use Rattle.fuse_store.specs.Creating.{IsBlank, LeavesNew, new_holding};
     ghost use Rattle.fuse_store.specs.Opening.{Stored, WasFor};
-    ghost use Rattle.fuse_store.specs.Opening.{OpenRefused, opened_for};
-    ghost use Rattle.fuse_store.specs.Starting.{LeavesBegun, IsLeftOrOpened, begun_for};
+    ghost use Rattle.fuse_store.specs.Opening.{OpenRefused, KeepsRows, opened_for};
+    ghost use Rattle.fuse_store.specs.Starting.{FreshRefused, KeepsNamed, begun_for};
     ghost use Rattle.fuse_store.specs.Starting.{BeginsAfter};
     ghost use Rattle.fuse_store.specs.TableKeeper.{keeper_told, conn_of, SharesMedium};
 
@@ -84,10 +84,13 @@ impl<S: Alter> TableKeeper<S> {
             → IsTrue (state S.Store r.1).is_open
             → RestsAs (IsBare no_schema tt) (state S.Store conn)
             → RestsAs (IsBare no_schema tt) (state S.Store r.1)) }
-        ensures fault { IfErr result (λ r. HasCleanDisk (state S.Store r.1)
-            → RestsAs (IsBare no_schema tt) (state S.Store conn) → IsOutside r.0) }
-        // It never says that there is no store, or one of another version.
-        ensures plain { IfErr result (λ r. IsPlain r.0) }
+        // The fault is out of memory or of SQL, and no transaction is left open.
+        ensures outside { IfErr result (λ r. IsOutside r.0) }
+        ensures ended { IfErr result (λ r. HasCleanDisk (state S.Store r.1)
+            → (state S.Store conn).in_transaction ≡ false
+            → (state S.Store r.1).in_transaction ≡ false) }
+        ensures busy { (state S.Store conn).in_transaction ≡ true
+            → IsErrAnd result (λ r. r.1 ≡ conn) }
         // A database that is not blank is left untouched.
         ensures untouched { IfErr result (λ r. (IsBlank (state S.Store conn) → ⊥) → r.1 ≡ conn) }
     {
@@ -139,6 +142,12 @@ impl<S: Alter> TableKeeper<S> {
             → IsLaid c (state S.Store conn).now → HasMeta c) }
         ensures tabled { IfOk result (λ k. (keeper_told S.Store k).is_honest
             → IsTabled (state S.Store conn).now) }
+        // All rows are kept, those too that no tree has.
+        ensures rows { IfOk result (λ k. KeepsRows (state S.Store conn)
+            (state S.Store (conn_of S.Store k))) }
+        // In a transaction nothing is opened, and the transaction stays.
+        ensures busy { (state S.Store conn).in_transaction ≡ true
+            → IsErrAnd result (λ r. r.1 ≡ conn) }
     {
         one_holding();
         lots_are_read();
@@ -178,15 +187,8 @@ impl<S: Alter> TableKeeper<S> {
         ensures going { IfOk result (λ k. (keeper_told S.Store k).has_failed ≡ false) }
         ensures firm { IfOk result (λ k. (keeper_told S.Store k).is_honest
             → IsFirm (keeper_told S.Store k)) }
-        ensures crash { IfErr result (λ r. Survives (state S.Store conn) (state S.Store r.1)
-            (LeavesBegun (state S.Store conn))) }
-        ensures kept { IfErr result (λ r. HasCleanDisk (state S.Store r.1)
-            → IsTrue (state S.Store r.1).is_open → (z : Stored) → WasFor z (state S.Store conn)
-            → IsLeftOrOpened z (state S.Store r.1)) }
-        ensures fault { IfErr result (λ r. HasCleanDisk (state S.Store r.1) → (z : Stored)
-            → WasFor z (state S.Store conn) → IsOutside r.0) }
-        ensures says { IfErr result (λ r. HasCleanDisk (state S.Store r.1)
-            → Says (state S.Store conn).now r.0) }
+        ensures refused { IfErr result (λ r. FreshRefused (state S.Store conn) (state S.Store r.1)
+            r.0) }
         ensures absent { (state S.Store conn).in_transaction ≡ false
             → table_named (state S.Store conn).now.schema (codes "meta") ≡ None
             → IsErrAnd result (λ r. r.0 ≡ NotAStore) }
@@ -195,6 +197,12 @@ impl<S: Alter> TableKeeper<S> {
             → IsLaid c (state S.Store conn).now → HasMeta c) }
         ensures tabled { IfOk result (λ k. (keeper_told S.Store k).is_honest
             → IsTabled (state S.Store conn).now) }
+        // All rows are kept but those that the begin of a mount deletes.
+        ensures rows { IfOk result (λ k. KeepsNamed (state S.Store conn)
+            (state S.Store (conn_of S.Store k))) }
+        // In a transaction nothing is opened, and the transaction stays.
+        ensures busy { (state S.Store conn).in_transaction ≡ true
+            → IsErrAnd result (λ r. r.1 ≡ conn) }
     {
         one_holding();
         lots_are_read();
@@ -224,7 +232,8 @@ impl<S: Alter> TableKeeper<S> {
 
 impl<S: Alter + Drop> Keeper for TableKeeper<S> {
     ghost use Rattle.fuse_tree.specs.TheTree.{the_tree};
-    ghost use Rattle.std.specs.Prelude.{◌⊎◌, length, true, is_err, IfOk, IfErr, OnOk};
+    ghost use Rattle.std.specs.Prelude.{◌⊎◌, length, true, false, is_err, IfOk, IfErr, OnOk};
+    ghost use Rattle.sqlite.specs.State.{HasCleanDisk};
     ghost use Rattle.fuse_tree.specs.Rows.{Rows};
     ghost use Rattle.fuse_keeper.specs.KeeperState.{AnswersNoMore, Called, Looked};
     ghost use Rattle.fuse_keeper.specs.KeeperState.{ActsOn, IsFirm, Performs, Reports};
@@ -233,7 +242,10 @@ impl<S: Alter + Drop> Keeper for TableKeeper<S> {
     ghost use Rattle.fuse_keeper.specs.Group.{entries_of, ids_of};
     ghost use Rattle.fuse_keeper.specs.Stands.{Records, CountsRecords};
     ghost use Rattle.fuse_store_tables.specs.Faults.{IsPlain};
-    ghost use Rattle.fuse_store.specs.TableKeeper.{keeper_told};
+    ghost use Rattle.fuse_store_tables.specs.Moves.{LeavesAlone};
+    ghost use Rattle.fuse_store_tables.specs.Saying.{IsRefusal};
+    ghost use Rattle.fuse_store_tree.specs.Group.{RefusesFor};
+    ghost use Rattle.fuse_store.specs.TableKeeper.{keeper_told, conn_of};
     ghost use Rattle.fuse_store.specs.TableKeeper.{FaultsOutside, FaultsOutsideWithLot};
     ghost use Rattle.fuse_store.specs.inner.Laws.{one_held};
 
@@ -281,6 +293,12 @@ impl<S: Alter + Drop> Keeper for TableKeeper<S> {
         ensures fault { FaultsOutsideWithLot S.Store self.old self.new result }
         // The fault of a call is never `NotAStore` or `Version`.
         ensures plain { IfErr result IsPlain }
+        // No transaction is left open.
+        ensures ended { HasCleanDisk (state S.Store (conn_of S.Store self.new))
+            → (state S.Store (conn_of S.Store self.new)).in_transaction ≡ false }
+        // A refusal of what was held leaves it alone.
+        ensures refused { RefusesFor (state S.Store (conn_of S.Store self.old))
+            (state S.Store (conn_of S.Store self.new)) result }
     {
         one_holding();
         calls_perform();
@@ -313,6 +331,11 @@ impl<S: Alter + Drop> Keeper for TableKeeper<S> {
             → IsFirm (keeper_told S.Store self.new)) }
         ensures fault { FaultsOutside S.Store self.old self.new result }
         ensures plain { IfErr result IsPlain }
+        ensures ended { HasCleanDisk (state S.Store (conn_of S.Store self.new))
+            → (state S.Store (conn_of S.Store self.new)).in_transaction ≡ false }
+        ensures refused { IfErr result (λ f. IsRefusal f
+            → LeavesAlone (state S.Store (conn_of S.Store self.old))
+            (state S.Store (conn_of S.Store self.new))) }
     {
         one_holding();
         lots_are_read();

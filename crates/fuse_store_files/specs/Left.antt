@@ -54,7 +54,7 @@ pub record Closes {D : Type 0} {g : Ghosts D} (k : KeeperState the_tree) (left :
 abbrev pub IsMadeBy : Opening → Image → Trees → Type 0
 IsMadeBy Existing image db = (z : Stored) → FilesHold image z → LeftAs (OpenedFor z) db
 IsMadeBy (Any now) image db = ((z : Stored) → FilesHold image z → LeftAs (OpenedFor z) db) × (HoldNothing image → LeftAs (HeldFor (new_holding now)) db)
-IsMadeBy (Fresh now) image db = ((z : Stored) → FilesHold image z → LeftAs (OpenedFor z) db ⊎ LeftAs (BegunFor z) db) × (HoldNothing image → LeftAs (HeldFor (new_holding now)) db)
+IsMadeBy (Fresh now) image db = ((z : Stored) → FilesHold image z → LeftAs (BegunFor z) db) × (HoldNothing image → LeftAs (HeldFor (new_holding now)) db)
 
 module _ {D : Type 0} {g : Ghosts D} where
   -- the files held just this, and what is left of them recovers to what they recover to

@@ -1,49 +1,91 @@
+use Rattle.std.proofs.Common.{codes, refl, ap, ◌∙◌}
 use Rattle.sqlite.specs.Held.{state}
-use Rattle.fuse_store.proofs.Begun.{only_opened, begun_crash, begun_done, begun_kept, begun_sure, plain_says, known_then}
+use Rattle.sqlite.specs.Schema.{Schema}
+use Rattle.sqlite_schema.specs.Names.{table_named}
+use Rattle.fuse_store_tables.specs.Clearing.{IsBegun}
+use Rattle.fuse_store_tables.specs.Opening.{IsStored}
+use Rattle.fuse_store.specs.Opening.{StoredFor, WasFor}
+use Rattle.fuse_store.specs.Starting.{BegunFor}
+use Rattle.fuse_store.proofs.Retelling.{served_so, safe_so, done_so, kept_so, crash_so, sure_so}
+use Rattle.fuse_store.proofs.NewStore.{no_transaction}
+use Rattle.fuse_store.proofs.Begun.{begun_told}
+use Rattle.fuse_store.proofs.Reopening.{rests_was, has_meta, no_none, meta_whole, left_here}
 use Rattle.fuse_store.proofs.mount.set_up_begun.Goals as goal
 
-pub returns-in-Ok-clause-begun : goal.returns-in-Ok-clause-begun
-returns-in-Ok-clause-begun g c =
-    begun_done (state g.S.Store c.args.conn.now) (state g.S.Store c.set_up_for.new.conn) (state g.S.Store c.begin_mount.new.conn) c.in-Ok.ensures.ok
-    c.begin_mount.result c.begin_mount.ensures.serves
+-- ---- without `meta`
 
-pub returns-in-Ok-clause-was : goal.returns-in-Ok-clause-was
-returns-in-Ok-clause-was g c =
-    known_then (state g.S.Store c.set_up_for.new.conn) (state g.S.Store c.begin_mount.new.conn) c.begin_mount.result c.begin_mount.ensures.serves
-    c.in-Ok.ensures.was
+pub returns-then-is_none-clause-kept : goal.returns-then-is_none-clause-kept
+returns-then-is_none-clause-kept g c = λ clean is_open z was.
+    rests_was z (state g.S.Store c.args.conn.now) c.schema.ensures.live (c.if-not-is_autocommit.ensures.settled refl) was
 
-pub returns-in-Ok-clause-whole : goal.returns-in-Ok-clause-whole
-returns-in-Ok-clause-whole g c =
-    known_then (state g.S.Store c.set_up_for.new.conn) (state g.S.Store c.begin_mount.new.conn) c.begin_mount.result c.begin_mount.ensures.serves
-    c.in-Ok.ensures.whole
+pub returns-then-is_none-clause-safe : goal.returns-then-is_none-clause-safe
+returns-then-is_none-clause-safe g c = λ clean z at.
+    no_none c.table_named.result 0
+    (c.table_named.ensures ∙ ap (λ (s : Schema). table_named s (codes "meta")) c.schema.ensures.value
+    ∙ has_meta z (state g.S.Store c.args.conn.now).now at.holds) c.if-is_none.ensures
 
-pub returns-in-Ok-clause-tabled : goal.returns-in-Ok-clause-tabled
-returns-in-Ok-clause-tabled g c =
-    known_then (state g.S.Store c.set_up_for.new.conn) (state g.S.Store c.begin_mount.new.conn) c.begin_mount.result c.begin_mount.ensures.serves
-    c.in-Ok.ensures.tabled
+pub returns-then-is_none-clause-fault : goal.returns-then-is_none-clause-fault
+returns-then-is_none-clause-fault g c = λ clean z was.
+    let a = state g.S.Store c.args.conn.now in
+    returns-then-is_none-clause-safe g c clean z (rests_was z a c.schema.ensures.live (c.if-not-is_autocommit.ensures.settled refl) was)
 
-pub returns-in-Ok-clause-crash : goal.returns-in-Ok-clause-crash
-returns-in-Ok-clause-crash g c =
-    begun_crash (state g.S.Store c.args.conn.now) (state g.S.Store c.set_up_for.new.conn) (state g.S.Store c.begin_mount.new.conn) c.begin_mount.result
-    c.in-Ok.ensures.crash c.in-Ok.ensures.ok c.begin_mount.ensures.serves
+pub returns-then-is_none-clause-alone : goal.returns-then-is_none-clause-alone
+returns-then-is_none-clause-alone g c = λ outside other. left_here (state g.S.Store c.args.conn.now) outside (c.if-not-is_autocommit.ensures.settled refl)
 
-pub returns-in-Ok-clause-kept : goal.returns-in-Ok-clause-kept
-returns-in-Ok-clause-kept g c =
-    begun_kept (state g.S.Store c.args.conn.now) (state g.S.Store c.set_up_for.new.conn) (state g.S.Store c.begin_mount.new.conn) c.in-Ok.ensures.ok
-    c.begin_mount.result c.begin_mount.ensures.serves
+pub returns-then-is_none-clause-refused : goal.returns-then-is_none-clause-refused
+returns-then-is_none-clause-refused g c = λ refused.
+    let a = state g.S.Store c.args.conn.now in
+    left_here a (no_transaction a.in_transaction c.if-not-is_autocommit.ensures.value) (c.if-not-is_autocommit.ensures.settled refl)
 
-pub returns-in-Ok-clause-fault : goal.returns-in-Ok-clause-fault
-returns-in-Ok-clause-fault g c =
-    begun_sure (state g.S.Store c.args.conn.now) (state g.S.Store c.set_up_for.new.conn) (state g.S.Store c.begin_mount.new.conn) c.in-Ok.ensures.ok
-    c.begin_mount.result c.begin_mount.ensures.serves c.begin_mount.ensures.fault
+-- ---- with it
 
-pub returns-in-Ok-clause-says : goal.returns-in-Ok-clause-says
-returns-in-Ok-clause-says g c = λ clean.
-    plain_says (state g.S.Store c.args.conn.now).now c.begin_mount.result c.begin_mount.ensures.plain
+pub returns-clause-rows : goal.returns-clause-rows
+returns-clause-rows g c = c.set_up_fresh.ensures.serves
 
-pub returns-in-Err-clause-crash : goal.returns-in-Err-clause-crash
-returns-in-Err-clause-crash g c =
-    only_opened (state g.S.Store c.args.conn.now) (state g.S.Store c.set_up_for.new.conn) c.in-Err.ensures.crash
+pub returns-clause-alone : goal.returns-clause-alone
+returns-clause-alone g c = λ outside other. c.set_up_fresh.ensures.alone other
 
-pub returns-in-Ok-clause-absent : goal.returns-in-Ok-clause-absent
-returns-in-Ok-clause-absent g c = λ settled none. absurd (c.in-Ok.ensures.absent settled none)
+pub returns-clause-refused : goal.returns-clause-refused
+returns-clause-refused g c = c.set_up_fresh.ensures.refused
+
+pub returns-clause-ended : goal.returns-clause-ended
+returns-clause-ended g c = λ clean outside. c.set_up_fresh.ensures.ended clean
+
+pub returns-clause-serves : goal.returns-clause-serves
+returns-clause-serves g c =
+    served_so IsStored IsBegun StoredFor BegunFor (begun_told c.clearing.ensures c.rows_in_order.ensures) (state g.S.Store c.args.conn.now)
+    (state g.S.Store c.set_up_fresh.new.conn) c.set_up_fresh.result c.set_up_fresh.ensures.serves
+
+pub returns-clause-safe : goal.returns-clause-safe
+returns-clause-safe g c =
+    safe_so IsStored IsBegun StoredFor BegunFor (begun_told c.clearing.ensures c.rows_in_order.ensures) (state g.S.Store c.args.conn.now)
+    (state g.S.Store c.set_up_fresh.new.conn) c.set_up_fresh.result c.set_up_fresh.ensures.fault
+
+pub returns-clause-begun : goal.returns-clause-begun
+returns-clause-begun g c =
+    let a = state g.S.Store c.args.conn.now in
+    done_so StoredFor BegunFor (λ z. WasFor z a) a (state g.S.Store c.set_up_fresh.new.conn)
+    (λ z was. rests_was z a c.schema.ensures.live (c.if-not-is_autocommit.ensures.settled refl) was) c.set_up_fresh.result (returns-clause-serves g c)
+
+pub returns-clause-kept : goal.returns-clause-kept
+returns-clause-kept g c =
+    let a = state g.S.Store c.args.conn.now in
+    kept_so StoredFor BegunFor (λ z. WasFor z a) a (state g.S.Store c.set_up_fresh.new.conn)
+    (λ z was. rests_was z a c.schema.ensures.live (c.if-not-is_autocommit.ensures.settled refl) was) c.set_up_fresh.result (returns-clause-serves g c)
+
+pub returns-clause-crash : goal.returns-clause-crash
+returns-clause-crash g c =
+    let a = state g.S.Store c.args.conn.now in
+    crash_so StoredFor BegunFor (λ z. WasFor z a) a (state g.S.Store c.set_up_fresh.new.conn)
+    (λ z was. rests_was z a c.schema.ensures.live (c.if-not-is_autocommit.ensures.settled refl) was) c.set_up_fresh.result (returns-clause-serves g c)
+
+pub returns-clause-fault : goal.returns-clause-fault
+returns-clause-fault g c =
+    let a = state g.S.Store c.args.conn.now in
+    sure_so StoredFor BegunFor (λ z. WasFor z a) a (state g.S.Store c.set_up_fresh.new.conn)
+    (λ z was. rests_was z a c.schema.ensures.live (c.if-not-is_autocommit.ensures.settled refl) was) c.set_up_fresh.result (returns-clause-safe g c)
+
+pub returns-clause-whole : goal.returns-clause-whole
+returns-clause-whole g c =
+    meta_whole (state g.S.Store c.args.conn.now) (state g.S.Store c.set_up_fresh.new.conn) c.set_up_fresh.result c.if-not-is_autocommit.ensures.value
+    (c.if-not-is_autocommit.ensures.settled refl) c.set_up_fresh.ensures.was c.set_up_fresh.ensures.whole

@@ -5,7 +5,8 @@ use Rattle.sqlite_schema.specs.Names.{table_named}
 use Rattle.fuse_store_tables.specs.Opening.{IsStored, IsOpened}
 use Rattle.fuse_store.specs.Opening.{StoredFor, OpenedFor, WasFor}
 use Rattle.fuse_store.proofs.Retelling.{served_so, safe_so, done_so, kept_so, crash_so, sure_so}
-use Rattle.fuse_store.proofs.Reopening.{stored_told, rests_was, has_meta, no_none, meta_whole}
+use Rattle.fuse_store.proofs.NewStore.{no_transaction}
+use Rattle.fuse_store.proofs.Reopening.{stored_told, rests_was, has_meta, no_none, meta_whole, left_here}
 use Rattle.fuse_store.proofs.setup.set_up_for.Goals as goal
 
 -- ---- without `meta`
@@ -25,7 +26,27 @@ returns-then-is_none-clause-sure g c = λ clean z was.
     let a = state g.S.Store c.args.conn.now in
     returns-then-is_none-clause-fault g c clean z (rests_was z a c.schema.ensures.live (c.if-not-is_autocommit.ensures.settled refl) was)
 
+pub returns-then-is_none-clause-alone : goal.returns-then-is_none-clause-alone
+returns-then-is_none-clause-alone g c = λ outside other. left_here (state g.S.Store c.args.conn.now) outside (c.if-not-is_autocommit.ensures.settled refl)
+
+pub returns-then-is_none-clause-refused : goal.returns-then-is_none-clause-refused
+returns-then-is_none-clause-refused g c = λ refused.
+    let a = state g.S.Store c.args.conn.now in
+    left_here a (no_transaction a.in_transaction c.if-not-is_autocommit.ensures.value) (c.if-not-is_autocommit.ensures.settled refl)
+
 -- ---- with it
+
+pub returns-clause-rows : goal.returns-clause-rows
+returns-clause-rows g c = c.set_up.ensures.serves
+
+pub returns-clause-alone : goal.returns-clause-alone
+returns-clause-alone g c = λ outside other. c.set_up.ensures.alone other
+
+pub returns-clause-refused : goal.returns-clause-refused
+returns-clause-refused g c = c.set_up.ensures.refused
+
+pub returns-clause-ended : goal.returns-clause-ended
+returns-clause-ended g c = λ clean outside. c.set_up.ensures.ended clean
 
 pub returns-clause-serves : goal.returns-clause-serves
 returns-clause-serves g c =

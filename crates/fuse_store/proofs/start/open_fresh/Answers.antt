@@ -1,6 +1,6 @@
 use Rattle.std.proofs.lemmas.Result.{IfOk-weaker, IfErr-weaker}
 use Rattle.sqlite.specs.Held.{state}
-use Rattle.fuse_store.proofs.Begun.{fresh_made, fresh_begun}
+use Rattle.fuse_store.proofs.Blank.{no_refusal, fresh_made, fresh_begun}
 use Rattle.fuse_store.proofs.start.open_fresh.Goals as goal
 
 -- ---- nothing was made in it
@@ -43,8 +43,8 @@ pub returns-then-blank-clause-was : goal.returns-then-blank-clause-was
 returns-then-blank-clause-was g c =
     IfOk-weaker c.create.result _ _ (λ k is_open clean. (is_open clean, (c.is_blank-blank.ensures.blank.0 c.if-blank.true).0)) c.create.ensures.was
 
-pub returns-then-blank-clause-plain : goal.returns-then-blank-clause-plain
-returns-then-blank-clause-plain g c = IfErr-weaker c.create.result _ _ (λ r plain blank. plain) c.create.ensures.plain
+pub returns-then-blank-clause-fault_blank : goal.returns-then-blank-clause-fault_blank
+returns-then-blank-clause-fault_blank g c = IfErr-weaker c.create.result _ _ (λ r outside blank. outside) c.create.ensures.outside
 
 pub returns-then-blank-clause-absent : goal.returns-then-blank-clause-absent
 returns-then-blank-clause-absent g c = λ settled stored. absurd (stored (c.is_blank-blank.ensures.blank.0 c.if-blank.true))
@@ -60,6 +60,22 @@ returns-then-blank-clause-tabled g c =
 pub returns-then-blank-clause-medium : goal.returns-then-blank-clause-medium
 returns-then-blank-clause-medium g c = c.create.ensures.medium
 
+pub returns-then-blank-clause-refused : goal.returns-then-blank-clause-refused
+returns-then-blank-clause-refused g c = IfErr-weaker c.create.result _ _ (λ r outside refused. no_refusal r.0 outside refused) c.create.ensures.outside
+
+pub returns-then-blank-clause-alone : goal.returns-then-blank-clause-alone
+returns-then-blank-clause-alone g c =
+    IfErr-weaker c.create.result _ _ (λ r refused outside stored. absurd (stored (c.is_blank-blank.ensures.blank.0 c.if-blank.true))) c.create.ensures.outside
+
+pub returns-then-blank-clause-ended : goal.returns-then-blank-clause-ended
+returns-then-blank-clause-ended g c = c.create.ensures.ended
+
+pub returns-then-blank-clause-busy : goal.returns-then-blank-clause-busy
+returns-then-blank-clause-busy g c = λ busy. let outside = (c.is_blank-blank.ensures.blank.0 c.if-blank.true).0 in cc
+
+pub returns-then-blank-clause-rows : goal.returns-then-blank-clause-rows
+returns-then-blank-clause-rows g c = IfOk-weaker c.create.result _ _ (λ k going stored. absurd (stored (c.is_blank-blank.ensures.blank.0 c.if-blank.true))) c.create.ensures.going
+
 -- ---- something was
 
 pub returns-clause-medium : goal.returns-clause-medium
@@ -68,14 +84,23 @@ returns-clause-medium g c = c.open_begun.ensures.medium
 pub returns-clause-crash : goal.returns-clause-crash
 returns-clause-crash g c =
     IfErr-weaker c.open_begun.result _ _
-    (λ r left. fresh_begun c.args.now (state g.S.Store c.args.conn) (state g.S.Store r.1)
-    (λ blank. let e = c.is_blank-blank.ensures.blank.1 blank in let n = c.if-blank.false in cc) left)
-    c.open_begun.ensures.crash
+    (λ r refused. fresh_begun c.args.now (state g.S.Store c.args.conn) (state g.S.Store r.1)
+    (λ blank. let e = c.is_blank-blank.ensures.blank.1 blank in let n = c.if-blank.false in cc) refused.crash)
+    c.open_begun.ensures.refused
 
-pub returns-clause-plain : goal.returns-clause-plain
-returns-clause-plain g c =
+pub returns-clause-kept : goal.returns-clause-kept
+returns-clause-kept g c = IfErr-weaker c.open_begun.result _ _ (λ r refused. refused.kept) c.open_begun.ensures.refused
+
+pub returns-clause-fault : goal.returns-clause-fault
+returns-clause-fault g c = IfErr-weaker c.open_begun.result _ _ (λ r refused. refused.outside) c.open_begun.ensures.refused
+
+pub returns-clause-says : goal.returns-clause-says
+returns-clause-says g c = IfErr-weaker c.open_begun.result _ _ (λ r refused clean stored. refused.says clean) c.open_begun.ensures.refused
+
+pub returns-clause-fault_blank : goal.returns-clause-fault_blank
+returns-clause-fault_blank g c =
     IfErr-weaker c.open_begun.result _ _
-    (λ r left blank. let e = c.is_blank-blank.ensures.blank.1 blank in let n = c.if-blank.false in cc) c.open_begun.ensures.crash
+    (λ r refused blank. let e = c.is_blank-blank.ensures.blank.1 blank in let n = c.if-blank.false in cc) c.open_begun.ensures.refused
 
 pub returns-clause-new_lots : goal.returns-clause-new_lots
 returns-clause-new_lots g c =
@@ -90,3 +115,18 @@ returns-clause-whole g c = IfOk-weaker c.open_begun.result _ _ (λ k whole clean
 
 pub returns-clause-tabled : goal.returns-clause-tabled
 returns-clause-tabled g c = IfOk-weaker c.open_begun.result _ _ (λ k tabled clean stored. tabled clean) c.open_begun.ensures.tabled
+
+pub returns-clause-refused : goal.returns-clause-refused
+returns-clause-refused g c = IfErr-weaker c.open_begun.result _ _ (λ r refused. refused.refused) c.open_begun.ensures.refused
+
+pub returns-clause-alone : goal.returns-clause-alone
+returns-clause-alone g c = IfErr-weaker c.open_begun.result _ _ (λ r refused outside stored. refused.alone outside) c.open_begun.ensures.refused
+
+pub returns-clause-ended : goal.returns-clause-ended
+returns-clause-ended g c = IfErr-weaker c.open_begun.result _ _ (λ r refused. refused.ended) c.open_begun.ensures.refused
+
+pub returns-clause-busy : goal.returns-clause-busy
+returns-clause-busy g c = c.open_begun.ensures.busy
+
+pub returns-clause-rows : goal.returns-clause-rows
+returns-clause-rows g c = IfOk-weaker c.open_begun.result _ _ (λ k rows stored. rows) c.open_begun.ensures.rows

@@ -1,6 +1,6 @@
 use Rattle.std.proofs.lemmas.Result.{IfOk-weaker, IfErr-weaker}
 use Rattle.sqlite.specs.Held.{state}
-use Rattle.fuse_store.proofs.Blank.{left_made, left_opened}
+use Rattle.fuse_store.proofs.Blank.{no_refusal, left_made, left_opened}
 use Rattle.fuse_store.proofs.start.open_or_create.Goals as goal
 
 -- ---- nothing was made in it
@@ -39,8 +39,8 @@ pub returns-then-is_blank-clause-was : goal.returns-then-is_blank-clause-was
 returns-then-is_blank-clause-was g c =
     IfOk-weaker c.create.result _ _ (λ k is_open clean. (is_open clean, (c.is_blank.ensures.blank.0 c.if-is_blank.true).0)) c.create.ensures.was
 
-pub returns-then-is_blank-clause-plain : goal.returns-then-is_blank-clause-plain
-returns-then-is_blank-clause-plain g c = IfErr-weaker c.create.result _ _ (λ r plain blank. plain) c.create.ensures.plain
+pub returns-then-is_blank-clause-fault_blank : goal.returns-then-is_blank-clause-fault_blank
+returns-then-is_blank-clause-fault_blank g c = IfErr-weaker c.create.result _ _ (λ r outside blank. outside) c.create.ensures.outside
 
 pub returns-then-is_blank-clause-absent : goal.returns-then-is_blank-clause-absent
 returns-then-is_blank-clause-absent g c = λ settled stored. absurd (stored (c.is_blank.ensures.blank.0 c.if-is_blank.true))
@@ -55,6 +55,22 @@ returns-then-is_blank-clause-tabled g c =
 
 pub returns-then-is_blank-clause-medium : goal.returns-then-is_blank-clause-medium
 returns-then-is_blank-clause-medium g c = c.create.ensures.medium
+
+pub returns-then-is_blank-clause-refused : goal.returns-then-is_blank-clause-refused
+returns-then-is_blank-clause-refused g c = IfErr-weaker c.create.result _ _ (λ r outside refused. no_refusal r.0 outside refused) c.create.ensures.outside
+
+pub returns-then-is_blank-clause-alone : goal.returns-then-is_blank-clause-alone
+returns-then-is_blank-clause-alone g c =
+    IfErr-weaker c.create.result _ _ (λ r refused outside stored. absurd (stored (c.is_blank.ensures.blank.0 c.if-is_blank.true))) c.create.ensures.outside
+
+pub returns-then-is_blank-clause-ended : goal.returns-then-is_blank-clause-ended
+returns-then-is_blank-clause-ended g c = c.create.ensures.ended
+
+pub returns-then-is_blank-clause-busy : goal.returns-then-is_blank-clause-busy
+returns-then-is_blank-clause-busy g c = λ busy. let outside = (c.is_blank.ensures.blank.0 c.if-is_blank.true).0 in cc
+
+pub returns-then-is_blank-clause-rows : goal.returns-then-is_blank-clause-rows
+returns-then-is_blank-clause-rows g c = IfOk-weaker c.create.result _ _ (λ k going stored. absurd (stored (c.is_blank.ensures.blank.0 c.if-is_blank.true))) c.create.ensures.going
 
 -- ---- something was
 
@@ -77,8 +93,8 @@ returns-else-is_blank-clause-says g c = IfErr-weaker c.open.result _ _ (λ r ref
 pub returns-else-is_blank-clause-medium : goal.returns-else-is_blank-clause-medium
 returns-else-is_blank-clause-medium g c = c.open.ensures.medium
 
-pub returns-else-is_blank-clause-plain : goal.returns-else-is_blank-clause-plain
-returns-else-is_blank-clause-plain g c =
+pub returns-else-is_blank-clause-fault_blank : goal.returns-else-is_blank-clause-fault_blank
+returns-else-is_blank-clause-fault_blank g c =
     IfErr-weaker c.open.result _ _
     (λ r refused blank. let e = c.is_blank.ensures.blank.1 blank in let n = c.if-is_blank.false in cc) c.open.ensures.refused
 
@@ -95,3 +111,23 @@ returns-else-is_blank-clause-whole g c = IfOk-weaker c.open.result _ _ (λ k who
 
 pub returns-else-is_blank-clause-tabled : goal.returns-else-is_blank-clause-tabled
 returns-else-is_blank-clause-tabled g c = IfOk-weaker c.open.result _ _ (λ k tabled clean stored. tabled clean) c.open.ensures.tabled
+
+pub returns-else-is_blank-clause-refused : goal.returns-else-is_blank-clause-refused
+returns-else-is_blank-clause-refused g c = IfErr-weaker c.open.result _ _ (λ r refused. refused.refused) c.open.ensures.refused
+
+pub returns-else-is_blank-clause-alone : goal.returns-else-is_blank-clause-alone
+returns-else-is_blank-clause-alone g c = IfErr-weaker c.open.result _ _ (λ r refused outside stored. refused.alone outside) c.open.ensures.refused
+
+pub returns-else-is_blank-clause-ended : goal.returns-else-is_blank-clause-ended
+returns-else-is_blank-clause-ended g c = IfErr-weaker c.open.result _ _ (λ r refused. refused.ended) c.open.ensures.refused
+
+pub returns-else-is_blank-clause-busy : goal.returns-else-is_blank-clause-busy
+returns-else-is_blank-clause-busy g c = c.open.ensures.busy
+
+pub returns-else-is_blank-clause-rows : goal.returns-else-is_blank-clause-rows
+returns-else-is_blank-clause-rows g c = IfOk-weaker c.open.result _ _ (λ k rows stored. rows) c.open.ensures.rows
+
+pub returns-else-is_blank-clause-stands : goal.returns-else-is_blank-clause-stands
+returns-else-is_blank-clause-stands g c =
+    IfOk-weaker c.open.result _ _
+    (λ k going clean blank. let e = c.is_blank.ensures.blank.1 blank in let n = c.if-is_blank.false in cc) c.open.ensures.going

@@ -6,6 +6,7 @@ use Rattle.fuse_store_tree.specs.Store.{records_of}
 use Rattle.fuse_store.specs.Opening.{opened_for}
 use Rattle.fuse_store.proofs.Serving.{holds_at, firm}
 use Rattle.fuse_store.proofs.Grouping.{its_own}
+use Rattle.fuse_store.proofs.Reopening.{not_busy}
 use Rattle.fuse_store.proofs.table_keeper.TableKeeper.open.Goals as goal
 
 pub returns-in-Ok-clause-holds : goal.returns-in-Ok-clause-holds
@@ -31,6 +32,28 @@ returns-in-Ok-clause-absent g c = λ settled none. absurd (c.in-Ok.ensures.absen
 pub returns-in-Ok-clause-medium : goal.returns-in-Ok-clause-medium
 returns-in-Ok-clause-medium g c = record { honest = (λ honest. honest, λ clean. clean); memory = (λ memory. memory, λ memory. memory) }
 
+pub returns-in-Ok-clause-rows : goal.returns-in-Ok-clause-rows
+returns-in-Ok-clause-rows g c =
+    let a = state g.S.Store c.args.conn in
+    record {
+      alone = λ other. c.in-Ok.ensures.alone (not_busy a.in_transaction c.in-Ok.ensures.busy) other;
+      opened = c.in-Ok.ensures.rows.done;
+      ended = λ clean. c.in-Ok.ensures.ended clean (c.in-Ok.ensures.was clean).1;
+    }
+
+pub returns-in-Ok-clause-busy : goal.returns-in-Ok-clause-busy
+returns-in-Ok-clause-busy g c = λ busy. absurd (c.in-Ok.ensures.busy busy)
+
+pub returns-in-Err-clause-busy : goal.returns-in-Err-clause-busy
+returns-in-Err-clause-busy g c = c.in-Err.ensures.busy
+
 pub returns-in-Err-clause-refused : goal.returns-in-Err-clause-refused
-returns-in-Err-clause-refused g c =
-    record { crash = c.in-Err.ensures.crash; kept = c.in-Err.ensures.kept; outside = c.in-Err.ensures.sure; says = c.in-Err.ensures.says }
+returns-in-Err-clause-refused g c = record {
+  crash = c.in-Err.ensures.crash;
+  kept = c.in-Err.ensures.kept;
+  outside = c.in-Err.ensures.sure;
+  says = c.in-Err.ensures.says;
+  refused = c.in-Err.ensures.refused;
+  alone = c.in-Err.ensures.alone;
+  ended = c.in-Err.ensures.ended;
+}

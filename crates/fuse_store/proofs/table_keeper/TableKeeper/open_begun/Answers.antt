@@ -38,3 +38,26 @@ returns-in-Ok-clause-absent g c = λ settled none. absurd (c.in-Ok.ensures.absen
 
 pub returns-in-Ok-clause-medium : goal.returns-in-Ok-clause-medium
 returns-in-Ok-clause-medium g c = record { honest = (λ honest. honest, λ clean. clean); memory = (λ memory. memory, λ memory. memory) }
+
+pub returns-in-Ok-clause-rows : goal.returns-in-Ok-clause-rows
+returns-in-Ok-clause-rows g c = record {
+  begun = c.in-Ok.ensures.rows.done;
+  ended = λ clean. c.in-Ok.ensures.ended clean (c.in-Ok.ensures.was clean).1;
+}
+
+pub returns-in-Ok-clause-busy : goal.returns-in-Ok-clause-busy
+returns-in-Ok-clause-busy g c = λ busy. absurd (c.in-Ok.ensures.busy busy)
+
+pub returns-in-Err-clause-busy : goal.returns-in-Err-clause-busy
+returns-in-Err-clause-busy g c = c.in-Err.ensures.busy
+
+pub returns-in-Err-clause-refused : goal.returns-in-Err-clause-refused
+returns-in-Err-clause-refused g c = record {
+  crash = c.in-Err.ensures.crash;
+  kept = c.in-Err.ensures.kept;
+  outside = c.in-Err.ensures.fault;
+  says = c.in-Err.ensures.says;
+  refused = c.in-Err.ensures.refused;
+  alone = c.in-Err.ensures.alone;
+  ended = c.in-Err.ensures.ended;
+}

@@ -85,3 +85,12 @@ returns-in-Err-clause-crash_acts g c =
     leaves_acted c.one_holding.ensures c.calls_perform.ensures c.args.self.now.lot (ids_of c.args.settled.now) (entries_of c.args.group.now)
     (state g.S.Store c.args.self.now.look.conn) (state g.S.Store c.perform.new.look.conn) (Err c.in-Err.fault)
     (g.met.S.Store.settled c.args.self.now.look.conn.store) c.in-Err.ensures.serves c.args.self.now.lot c.args.self.now.failed true
+
+pub returns-in-Ok-clause-ended : goal.returns-in-Ok-clause-ended
+returns-in-Ok-clause-ended g c = c.in-Ok.ensures.ended
+
+pub returns-in-Err-clause-ended : goal.returns-in-Err-clause-ended
+returns-in-Err-clause-ended g c = c.in-Err.ensures.ended
+
+pub returns-in-Err-clause-refused : goal.returns-in-Err-clause-refused
+returns-in-Err-clause-refused g c = c.in-Err.ensures.refused
