@@ -1,0 +1,3 @@
+mod FileRuns
+mod Served
+mod Usage

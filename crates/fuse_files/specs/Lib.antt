@@ -1,0 +1,3 @@
+pub mod StoreLives
+pub mod StoreReplays
+pub mod StoreRuns

@@ -1,0 +1,61 @@
+-- A replay over the files of a store: what is opened, replayed and closed (own profile).
+use Rattle.std.specs.Prelude.{◌≡◌, ℕ, List, Option, Some, Result, IfSome}
+use Rattle.sqlite_disk.specs.declared.Disk.{Ghosts}
+use Rattle.sqlite_disk.specs.declared.Files.{Files}
+use Rattle.sqlite_wal.specs.Recovery.{Image}
+use Rattle.sqlite_store.specs.declared.store.FileStore.{FileStore}
+use Rattle.sqlite.specs.Files.{over_files, IsCleanLeft}
+use Rattle.sqlite.specs.declared.file.Leftover.{Leftover}
+use Rattle.fuse_wire.specs.declared.moment.Moment.{Moment}
+use Rattle.fuse_keeper.specs.declared.fault.StoreFault.{StoreFault}
+use Rattle.fuse_keeper.specs.KeeperState.{KeeperState, IsFirm}
+use Rattle.fuse_tree.specs.TheTree.{the_tree}
+use Rattle.fuse_store_tables.specs.Faults.{IsOutside}
+use Rattle.fuse_store.specs.Opening.{Stored}
+use Rattle.fuse_store.specs.declared.table_keeper.TableKeeper.{TableKeeper}
+use Rattle.fuse_store.specs.TableKeeper.{keeper_told}
+use Rattle.fuse_store_files.specs.declared.files.Opening.TheVariants.{Any}
+use Rattle.fuse_store_files.specs.Files.{FilesHold}
+use Rattle.fuse_store_files.specs.Left.{Closes, LeavesOpening}
+use Rattle.fuse_store_files.specs.Starting.{OpensAs, KeepsStore}
+use Rattle.fuse_commands.specs.declared.ending.Ending.{Ending}
+use Rattle.fuse_commands.specs.declared.simulate.TheConstants.{START as start}
+use Rattle.fuse_commands.specs.Endings.{status_of, store_ending, IsOfStream}
+use Rattle.fuse_commands.specs.Replaying.{Replayed, Faulted, StandsForPrefix, Prints, PrintsAnswers}
+use Rattle.fuse_files.specs.StoreRuns.{left_closed}
+
+-- the bytes that a reader will give, and those that a writer holds before and after, where they are known
+pub record Streams : Type 0 where
+  pub input : Option (List ℕ)
+  pub written : Option (List ℕ)
+  pub written' : Option (List ℕ)
+
+-- the stream was replayed over this keeper: the clauses of `run_replay`
+pub record ReplaysOver (k k' : KeeperState the_tree) (moment : Moment) (streams : Streams) (ending : Ending) : Type 0 where
+  pub replayed : IsOfStream ending → (input : List ℕ) → streams.input ≡ Some input
+      → Replayed k k' moment input ending (Prints streams.written streams.written')
+  pub faulted : status_of ending ≡ 3 → (input : List ℕ) → streams.input ≡ Some input
+      → Faulted k k' moment input ending (PrintsAnswers streams.written streams.written')
+  pub kept : (input : List ℕ) → streams.input ≡ Some input → StandsForPrefix k k' (λ _. Unit {0}) moment input
+
+-- a keeper of the files was opened, or made where they held nothing; the stream was replayed over it, and no other; and then it was closed
+pub record StoreReplayed {D : Type 0} {g : Ghosts D} (first : Image) (moment : Moment) (streams : Streams) (ending : Ending) (left : Option (Leftover D g))
+    : Type 0 where
+  pub keeper : TableKeeper (FileStore D g) over_files
+  pub keeper' : TableKeeper (FileStore D g) over_files
+  pub opened : (keeper_told over_files keeper).is_honest → OpensAs (Any start) first (keeper_told over_files keeper)
+  pub kept : (keeper_told over_files keeper).is_honest → (z : Stored) → FilesHold first z → KeepsStore (Any start) z (keeper_told over_files keeper)
+  pub firm : (keeper_told over_files keeper).is_honest → IsFirm (keeper_told over_files keeper)
+  pub replays : ReplaysOver (keeper_told over_files keeper) (keeper_told over_files keeper') moment streams ending
+  pub files : Result (Files D) (FileStore D g)
+  pub closed : Closes (keeper_told over_files keeper') files
+  pub left_is : left ≡ Some (left_closed files)
+
+-- no keeper was opened, and nothing was written. A crash leaves what was found, or what the opening makes of it; and the fault says nothing
+-- of a sound store
+pub record NotReplayed {D : Type 0} {g : Ghosts D} (first : Image) (streams : Streams) (ending : Ending) (left : Option (Leftover D g)) : Type 0 where
+  pub fault : StoreFault
+  pub ending_is : ending ≡ store_ending fault
+  pub unwritten : streams.written' ≡ streams.written
+  pub crash : IfSome left (LeavesOpening (Any start) first)
+  pub outside : IfSome left (λ it. IsCleanLeft it → (z : Stored) → FilesHold first z → IsOutside fault)
