@@ -52,6 +52,7 @@ static bool take_option(struct supervisor *s, const char *word) {
       s->flags = (s->flags & ~flag_words[i].clear) | flag_words[i].set;
       return append(s->options, word);
     }
+  if (strcmp(word, "wary") == 0) return s->wary = true;
   if (strcmp(word, "default_permissions") == 0 || is_for_others(word)) return true;
   if (strcmp(word, "allow_other") == 0 || is_max_read(word)) return append(s->data, word) && append(s->options, word);
   if (!s->sloppy) say("the option %s isn't known", word);

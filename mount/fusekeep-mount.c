@@ -153,7 +153,7 @@ static pid_t start_engine(const struct supervisor *s, const char *mode, int devi
   if (dup2(device, STDIN_FILENO) < 0 || dup2(device, STDOUT_FILENO) < 0) _exit(CANNOT_RUN);
   close_range(FIRST_OTHER, ~0U, 0);
   give_back_signals(s);
-  execlp(s->engine, "fusekeep", "serve", "--db", s->store, mode, NULL);
+  execlp(s->engine, "fusekeep", "serve", "--db", s->store, mode, s->wary ? "--wary" : NULL, NULL);
   dprintf(STDERR_FILENO, "%s: %s\n", s->engine, strerror(errno));
   _exit(CANNOT_RUN);
 }

@@ -14,6 +14,7 @@ enum { OPTIONS_SIZE = 1024 };
 
 struct supervisor {
   bool foreground, fake, sloppy;
+  bool wary;                                       /* the servers suppose nothing of torn writes */
   const char *engine;
   char store[PATH_MAX], mountpoint[PATH_MAX];
   unsigned long flags;                             /* of mount(2) */

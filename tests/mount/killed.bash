@@ -58,6 +58,20 @@ rounds() {
   done
 }
 
+# Each server has --wary. A mount without it serves what they left, and the other way round.
+wary() {
+  options=wary
+  round 1 10 stop && options= && round 2 5 unmount || return 1
+  options=wary
+  compare_again log-3 || return 1
+  expect "the server has --wary" has_word "$("$program" --server store)" --wary || return 1
+  stop_and_end
+}
+
+has_word() {
+  tr '\0' '\n' <"/proc/$1/cmdline" | grep -qx -e "$2"
+}
+
 # One mount, whose servers are killed beside a model of its tree. The seed gives the steps of each writer and how long each server lives.
 # A kill loses nothing that the server wrote: the kernel still has it. What a cut of power loses is tried by crates/store_tests alone.
 kills() {

@@ -35,6 +35,8 @@ const FRESH: &str = "fresh";
 
 const RESUME: &str = "resume";
 
+const WARY: &str = "wary";
+
 const FILE: &str = "file";
 
 const STREAM: &str = "stream";
@@ -58,10 +60,12 @@ pub enum Run<'a> {
     },
     /// To serve requests from a device over the store in a file. `begin` is `None` where neither
     /// way to begin is named, or both. Without `at` the moments are those of the machine's clock.
+    /// Where it is `wary`, a torn write may leave any bytes in the store's files.
     Serve {
         db: &'a str,
         begin: Option<Begin>,
         at: Option<u64>,
+        wary: bool,
     },
     /// To print a summary of the store in a file.
     Store {
@@ -87,8 +91,12 @@ pub enum Work<'a> {
     /// To count the messages of a stream.
     Check,
     /// To serve a recorded stream, each request at the same second, over the store in the file
-    /// `db`, or else over a new store in memory.
-    Replay { db: Option<&'a str>, at: u64 },
+    /// `db`, which `wary` is about as for a server, or else over a new store in memory.
+    Replay {
+        db: Option<&'a str>,
+        at: u64,
+        wary: bool,
+    },
     /// To run the events of a script.
     Simulate,
 }
@@ -150,6 +158,22 @@ fn db_argument<'a>(alloc: Global) -> Arg<'a> {
         .help("The file of the store, created if it is missing or empty")
 }
 
+// An optional flag.
+fn flag<'a>(alloc: Global, name: &'static str, help: &'static str) -> Arg<'a> {
+    Arg::new(alloc, name)
+        .long(name)
+        .action(ArgAction::SetTrue)
+        .help(help)
+}
+
+fn wary_argument<'a>(alloc: Global) -> Arg<'a> {
+    flag(
+        alloc,
+        WARY,
+        "Supposes nothing of the bytes that a torn write leaves: each commit syncs twice",
+    )
+}
+
 fn replay_command<'a>(alloc: Global) -> Result<Command<'a>, AllocError> {
     let example =
         "Example:\n  fusekeep replay --db notes.store --at 1000 examples/first-run.stream";
@@ -157,16 +181,9 @@ fn replay_command<'a>(alloc: Global) -> Result<Command<'a>, AllocError> {
         .about("Serves a recorded stream over a new store in memory, or over the store in a file")
         .after_help(example)
         .arg(db_argument(alloc))?
+        .arg(wary_argument(alloc).requires_arg(DB)?)?
         .arg(at_argument(alloc))?
         .arg(needed_argument(alloc, STREAM, "STREAM", STREAM_HELP))
-}
-
-// An optional flag.
-fn flag<'a>(alloc: Global, name: &'static str, help: &'static str) -> Arg<'a> {
-    Arg::new(alloc, name)
-        .long(name)
-        .action(ArgAction::SetTrue)
-        .help(help)
 }
 
 fn serve_command<'a>(alloc: Global) -> Result<Command<'a>, AllocError> {
@@ -179,6 +196,7 @@ fn serve_command<'a>(alloc: Global) -> Result<Command<'a>, AllocError> {
         .arg(db)?
         .arg(flag(alloc, FRESH, fresh))?
         .arg(flag(alloc, RESUME, resume))?
+        .arg(wary_argument(alloc))?
         .arg(at_argument(alloc).required(false))
 }
 
@@ -265,7 +283,8 @@ fn read_run<'a>(found: &ArgMatches<'a>, name: &str, work: Work<'a>) -> Option<Ru
 fn replay_run<'a>(found: &ArgMatches<'a>) -> Option<Run<'a>> {
     let db = found.get_str(DB);
     let at = found.get_one::<u64>(AT)?;
-    read_run(found, STREAM, Work::Replay { db, at })
+    let wary = found.get_flag(WARY);
+    read_run(found, STREAM, Work::Replay { db, at, wary })
 }
 
 // The way to begin, if exactly one is named.
@@ -282,6 +301,7 @@ fn serve_run<'a>(found: &ArgMatches<'a>) -> Option<Run<'a>> {
         db: found.get_str(DB)?,
         begin: begin_of(found),
         at: found.get_one::<u64>(AT),
+        wary: found.get_flag(WARY),
     })
 }
 

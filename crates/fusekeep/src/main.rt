@@ -19,7 +19,7 @@ use fuse_wire::Moment;
 use serve::serve_as_asked;
 use show::{Show, show_store};
 use simulate::simulate_in_memory;
-use sqlite::{Alter, Connection};
+use sqlite::{Alter, Connection, Start, Unknown, Wary};
 use std::alloc::Global;
 use std::io::{BufWriter, IsTerminal, Read, Write};
 use std::process::ExitCode;
@@ -59,7 +59,20 @@ fn run(rt: &HostRuntime) -> Ending {
         Err(ending) => return ending,
     };
     match parse(rt.alloc(), words.as_slice()) {
-        Ok(Run::Serve { db, begin, at }) => serve_as_asked(rt, db, begin, at),
+        Ok(
+            Run::Serve {
+                db,
+                begin,
+                at,
+                wary,
+            },
+        ) => {
+            if wary {
+                serve_as_asked(rt, db, Wary, begin, at)
+            } else {
+                serve_as_asked(rt, db, Unknown, begin, at)
+            }
+        }
         Ok(Run::Store { file }) => ended(show_store(rt, file, Show::Summary)),
         Ok(Run::List { file, path }) => ended(show_store(rt, file, Show::Directory(path))),
         Ok(Run::Cat { file, path }) => ended(show_store(rt, file, Show::File(path))),
@@ -131,11 +144,14 @@ fn run_work<R: Read + Drop>(rt: &HostRuntime, reader: R, work: Work<'_>) -> Endi
     match work {
         Work::Dump => run_dump(alloc, reader, &mut writer),
         Work::Check => run_check(alloc, reader, &mut writer),
-        Work::Replay { db, at } => {
+        Work::Replay { db, at, wary } => {
             let moment = Moment { secs: at, nanos: 0 };
             match db {
-                Some(file) => replay_on_file(rt, file, reader, &mut writer, moment),
                 None => replay_in_memory(alloc, reader, &mut writer, moment),
+                Some(file) if wary => {
+                    replay_on_file(rt, file, Wary, reader, &mut writer, moment)
+                }
+                Some(file) => replay_on_file(rt, file, Unknown, reader, &mut writer, moment),
             }
         }
         Work::Simulate => simulate_in_memory(alloc, reader, &mut writer),
@@ -173,14 +189,15 @@ fn replay_over<S: Alter + Drop, R: Read + Drop, W: Write>(
 }
 
 // Replays over the store in a file.
-fn replay_on_file<R: Read + Drop, W: Write>(
+fn replay_on_file<S: Start, R: Read + Drop, W: Write>(
     rt: &HostRuntime,
     file: &str,
+    start: S,
     reader: R,
     writer: &mut W,
     moment: Moment,
 ) -> Ending {
-    let conn = match open_file(rt, file) {
+    let conn = match open_file(rt, file, start) {
         Ok(conn) => conn,
         Err(fault) => return Ending::of(fault),
     };

@@ -4,13 +4,14 @@ use fuse_commands::{Begin, CountLine, Ending, run_serve};
 use fuse_session::{Clock, Fixed, SessionCounts, System};
 use fuse_store::{TableKeeper, open_fresh};
 use fuse_wire::Moment;
-use sqlite::{Alter, Connection};
+use sqlite::{Alter, Connection, Start};
 use std::fs;
 
 /// Serves over the store in a file, if the command line names one way to begin.
-pub(crate) fn serve_as_asked(
+pub(crate) fn serve_as_asked<S: Start>(
     rt: &HostRuntime,
     file: &str,
+    start: S,
     begin: Option<Begin>,
     at: Option<u64>,
 ) -> Ending {
@@ -18,8 +19,11 @@ pub(crate) fn serve_as_asked(
         return Ending::Modes;
     };
     match at {
-        Some(secs) => serve_on_file(rt, file, &mut Fixed(Moment { secs, nanos: 0 }), begin),
-        None => serve_on_file(rt, file, &mut System::new(rt), begin),
+        Some(secs) => {
+            let mut clock = Fixed(Moment { secs, nanos: 0 });
+            serve_on_file(rt, file, start, &mut clock, begin)
+        }
+        None => serve_on_file(rt, file, start, &mut System::new(rt), begin),
     }
 }
 
@@ -28,12 +32,18 @@ fn is_missing(rt: &HostRuntime, file: &str) -> bool {
     matches!(fs::exists(rt, file), Ok(false))
 }
 
-fn serve_on_file<C: Clock>(rt: &HostRuntime, file: &str, clock: &mut C, begin: Begin) -> Ending {
+fn serve_on_file<S: Start, C: Clock>(
+    rt: &HostRuntime,
+    file: &str,
+    start: S,
+    clock: &mut C,
+    begin: Begin,
+) -> Ending {
     // Opening would create the file.
     if begin == Begin::Resume && is_missing(rt, file) {
         return Ending::NotAStore;
     }
-    let conn = match open_file(rt, file) {
+    let conn = match open_file(rt, file, start) {
         Ok(conn) => conn,
         Err(fault) => return Ending::of(fault),
     };
