@@ -1,5 +1,5 @@
 -- What an open finds in the files of a store, and what it makes of it.
-use Rattle.std.proofs.Common.{◌≡◌, ◌≤◌, inl, inr, sym, ap, subst, arith, ◌∙◌}
+use Rattle.std.proofs.Common.{◌≡◌, ◌≤◌, inl, inr, sym, ap, ap₂, subst, arith, ◌∙◌}
 use Rattle.std.proofs.Math.Logic.{∥∥₁_elim}
 use Rattle.sqlite_disk.specs.declared.Disk.{Ghosts}
 use Rattle.sqlite_disk.specs.declared.Files.{Files}
@@ -17,7 +17,9 @@ use Rattle.sqlite_store.specs.declared.store.FileStore.{FileStore}
 use Rattle.sqlite_store.specs.FileStore.{view, recovers}
 use Rattle.sqlite_store.specs.Laws.{settled_at}
 use Rattle.sqlite.specs.Tree.{Trees}
-use Rattle.sqlite.specs.Effect.{Database}
+use Rattle.sqlite.specs.Effect.{Database, IsDatabase}
+use Rattle.sqlite.specs.Schema.{Schema}
+use Rattle.sqlite_catalog.specs.Listing.{Lists}
 use Rattle.sqlite.specs.State.{State, HasCleanDisk, IsLive, Opens, Survives, store_error}
 use Rattle.sqlite.specs.Held.{Held}
 use Rattle.sqlite.specs.Files.{file_state, IsOpened, IsEmpty, IsCleanLeft, AreFoundIn, FailsToOpenFiles, HoldsDatabase, image_of}
@@ -30,7 +32,9 @@ use Rattle.fuse_tree.specs.Rows.{Rows, rowed}
 use Rattle.fuse_tree.specs.TheTree.{the_tree}
 use Rattle.fuse_keeper.specs.Stands.{Records}
 use Rattle.fuse_keeper.specs.KeeperState.{KeeperState}
-use Rattle.fuse_store_tables.specs.Content.{LeftAs}
+use Rattle.fuse_store_tables.specs.Content.{Content, LeftAs}
+use Rattle.fuse_store_tables.specs.Moves.{RestsAs, LeavesAlone}
+use Rattle.fuse_store_tables.specs.Opening.{IsStored}
 use Rattle.fuse_store_tables.specs.Faults.{IsOutside}
 use Rattle.fuse_store_tables.specs.Layout.{no_schema}
 use Rattle.fuse_store_tree.specs.Store.{records_of}
@@ -40,8 +44,8 @@ use Rattle.fuse_store.specs.Storing.{opening_fault}
 use Rattle.fuse_store_files.specs.declared.files.Opening.{Opening}
 use Rattle.fuse_store_files.specs.declared.files.Opening.TheVariants.{Existing, Any, Fresh}
 use Rattle.fuse_store_files.specs.Files.{HoldSome, FilesHold, HoldNothing, TreesTell, AreTheirs}
-use Rattle.fuse_store_files.specs.Starting.{OpensAs, KeepsStore}
-use Rattle.fuse_store_files.specs.Left.{LeavesOpening, IsMadeBy}
+use Rattle.fuse_store_files.specs.Starting.{OpensAs, KeepsStore, FilesHoldRows}
+use Rattle.fuse_store_files.specs.Left.{LeavesAsFound, LeavesOpening, IsMadeBy}
 use Rattle.fuse_store_files.specs.inner.Opened.{OpensOver, LeavesOver, IsNotOpened}
 use Rattle.fuse_store_files.proofs.Nothing.{found_nothing}
 
@@ -91,6 +95,22 @@ module _ (image : Image) (s : State) (opens : Opens s) (live : IsLive s) (finds 
     λ nothing. over.makes (blank nothing) opens.is_open,
   )
 
+  -- the rows that the files hold are found
+  pub rests : (c : Content) → FilesHoldRows image c → RestsAs (IsStored c) s
+  rests c held =
+      let (d, at, same) = held.so in
+      let found = same_trees _ held in
+      let sound : IsDatabase d = elim at [ inl first ↦ first.holds.sound | inr second ↦ second.holds.sound ] in
+      let listed = lists_once (d.trees catalog_tree) d.schema s.committed.schema sound.lists
+      (subst (λ (t : Trees). Lists (t catalog_tree) s.committed.schema) (found ∙ sym same) (live opens.is_open).1.lists) in
+      let whole : d ≡ s.committed = ap₂ (λ (x : Schema) (t : Trees). let e : Database = record { schema = x; trees = t } in e) listed (same ∙ sym found) in
+      record {
+        is_open = opens.is_open;
+        autocommit = opens.autocommit;
+        holds = subst (IsStored c) (whole ∙ sym opens.clean) at;
+        committed = sym opens.clean;
+      }
+
   pub made_by : (how : Opening) (db : Trees) → LeavesOver how s db → IsMadeBy how image db
   made_by Existing db made = λ z held. made z (was_for z held)
   made_by (Any now) db made = (λ z held. made.opened z (was_for z held), λ nothing. made.made (blank nothing) opens.is_open)
@@ -116,15 +136,37 @@ module _ {D : Type 0} {g : Ghosts D} (image : Image) (how : Opening) where
         | inr made ↦ inr (made_by image (file_state conn) live.0 live.1 finds how db made)
       ]
 
+  pub left_alone : (conn : Held (FileStore D g)) → SeenMayStay g → (HasCleanDisk (file_state conn) → IsOpened conn)
+      → (HasCleanDisk (file_state conn) → FindsIn image (file_state conn)) → (new : State) (it : FileStore D g)
+      → LeavesAlone (file_state conn) new → doubt new.is_clean ≤ doubt (view it).is_clean
+      → ((db : Trees) → recovers it db → new.may_leave db) → LeavesAsFound image (left.Store it)
+  left_alone conn stays opened found new it same later outcomes db may =
+      let last : IsClean (view it) = no_doubt _ (clean_if_left it.pool may.0 may.2) in
+      let clean_new : HasCleanDisk new = omega (arith, last, later) in
+      let clean : HasCleanDisk (file_state conn) = omega (arith, clean_new, same.survives.clean) in
+      let live = opened clean in
+      let finds = found clean in
+      elim (same.survives.crash clean_new db (outcomes db may)) [
+        | inl old ↦
+            let committed = settled_at conn.store stays db live.0.is_open old in
+            subst (AreTheirs image) (sym committed) (record { holds = finds.holds; reads = finds.reads })
+        | inr none ↦ absurd none
+      ]
+
+  pub stays_found : (it : Leftover D g) (e : Error) → IsNotOpened image it e → LeavesAsFound image it
+  stays_found (left.Files files) e not = not.left
+  stays_found (left.Unopened files) e not = not.left
+  stays_found (left.Store it) e not = λ db may.
+      let found = not.left.kept (clean_if_left it.pool may.0 may.2) db may in
+      record {
+        holds = λ d held. found.1 d (subst (λ (i : Image). HoldsDatabase i d) (sym not.left.held) held);
+        reads = subst (λ (i : Image). AreFoundIn i db) not.left.held found.0;
+      }
+
   pub not_opened : (it : Leftover D g) (e : Error) → IsNotOpened image it e → LeavesOpening how image it
   not_opened (left.Files files) e not = not.left
   not_opened (left.Unopened files) e not = not.left
-  not_opened (left.Store it) e not = λ db may.
-      let found = not.left.kept (clean_if_left it.pool may.0 may.2) db may in
-      inl (record {
-        holds = λ d held. found.1 d (subst (λ (i : Image). HoldsDatabase i d) (sym not.left.held) held);
-        reads = subst (λ (i : Image). AreFoundIn i db) not.left.held found.0;
-      })
+  not_opened (left.Store it) e not = λ db may. inl (stays_found (left.Store it) e not db may)
 
 store_outside : (kind : StoreError) → IsOutside (opening_fault (store_error kind))
 store_outside OutOfMemory = tt

@@ -17,7 +17,7 @@ use Rattle.sqlite_wal.proofs.AppendLemmas.{some_value, page_from_pages}
 use Rattle.sqlite_trees.specs.Tree.{Trees}
 use Rattle.sqlite.specs.Files.{IsNothing, IsEmpty, AreFoundIn}
 
--- what is read at a place behind the end is 0
+-- what is read at a place after the end is 0
 behind : (xs : List ℕ) (n k : ℕ) → n ≤ k → slice_index (take n xs) k ≡ 0
 behind xs n k past = get_or_past (take n xs) k 0 (omega (arith, length-take n xs))
 

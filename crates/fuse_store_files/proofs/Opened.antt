@@ -1,6 +1,8 @@
 -- A store that is opened over any database.
-use Rattle.std.proofs.Common.{◌≡◌, false, true, IsTrue, [], None, Result, Ok, Err, IfOk, inl, inr, subst}
+use Rattle.std.proofs.Common.{◌≡◌, false, true, IsTrue, [], None, Result, Ok, Err, IfOk, codes, inl, inr, sym, ap, subst, ◌∙◌}
 use Rattle.sqlite_tied.specs.Compute.{everything}
+use Rattle.std.specs.Option.{is_some}
+use Rattle.sqlite_schema.specs.Names.{table_named}
 use Rattle.sqlite.specs.Schema.{Schema}
 use Rattle.sqlite.specs.Effect.{Database}
 use Rattle.sqlite.specs.State.{State}
@@ -10,7 +12,10 @@ use Rattle.fuse_tree.specs.Rows.{rowed}
 use Rattle.fuse_tree.specs.TheTree.{the_tree}
 use Rattle.fuse_keeper.specs.KeeperState.{KeeperState, StandsFor}
 use Rattle.fuse_keeper.specs.Lots.{SameLots}
+use Rattle.fuse_store_tables.specs.Content.{Content}
 use Rattle.fuse_store_tables.specs.Layout.{no_schema}
+use Rattle.fuse_store_tables.specs.Moves.{RestsAs}
+use Rattle.fuse_store_tables.specs.Opening.{IsStored}
 use Rattle.fuse_store_tables.specs.Saying.{IsTabled, has_tables, first_names, second_names}
 use Rattle.fuse_store_tree.specs.Store.{records_of}
 use Rattle.fuse_store_tree.specs.Holding.{lots_of}
@@ -25,6 +30,18 @@ pub tabled_is_not_blank : (d : Database) → d.schema ≡ no_schema → IsTabled
 unfolding everything
 tabled_is_not_blank d none (inl it) = let e : false ≡ true = subst (λ (s : Schema). IsTrue (has_tables first_names s)) none it.1 in absurd (cc)
 tabled_is_not_blank d none (inr it) = let e : false ≡ true = subst (λ (s : Schema). IsTrue (has_tables second_names s)) none it.1 in absurd (cc)
+
+-- a store isn't blank
+pub stored_is_not_blank : (s : State) (c : Content) → RestsAs (IsStored c) s → IsBlank s → ⊥
+unfolding everything
+stored_is_not_blank s c at blank = elim at.holds [
+  | inl first ↦
+      let e : false ≡ true = ap (λ (x : Schema). is_some (table_named x (codes "meta"))) (sym blank.1 ∙ first.holds.schema) in
+      absurd (cc)
+  | inr second ↦
+      let e : false ≡ true = ap (λ (x : Schema). is_some (table_named x (codes "meta"))) (sym blank.1 ∙ second.holds.schema) in
+      absurd (cc)
+]
 
 module _ (s : State) (k : KeeperState the_tree) where
   pub over_existing : ((z : Stored) → WasFor z s → k.holds (rowed (opened_for z).tree) (records_of (opened_for z).kept))

@@ -57,15 +57,21 @@ IsMadeBy (Any now) image db = ((z : Stored) → FilesHold image z → LeftAs (Op
 IsMadeBy (Fresh now) image db = ((z : Stored) → FilesHold image z → LeftAs (BegunFor z) db) × (HoldNothing image → LeftAs (HeldFor (new_holding now)) db)
 
 module _ {D : Type 0} {g : Ghosts D} where
-  -- the files held just this, and what is left of them recovers to what they recover to
-  pub record LeavesAsFound (image : Image) (it : Leftover D g) : Type 0 where
+  -- the files held just this, were not opened, and what is left of them recovers to what they recover to
+  pub record StaysAsFound (image : Image) (it : Leftover D g) : Type 0 where
     pub files : Files D
     pub held : image_of g files ≡ image
     pub alone : (i : Image) → outcomes g files.log files.db i → i ≡ image
     pub kept : IsCleanLeft it → LeavesFiles files it
 
-  -- the same, or a crash leaves what the opening makes
+  -- so it is, or a crash of the store leaves what an open of the files finds
+  abbrev pub LeavesAsFound : Image → Leftover D g → Type 0
+  LeavesAsFound image (left.Files it) = StaysAsFound image (left.Files it)
+  LeavesAsFound image (left.Unopened it) = StaysAsFound image (left.Unopened it)
+  LeavesAsFound image (left.Store it) = (db : Trees) → recovers it db → AreTheirs image db
+
+  -- the same, or what the opening makes
   abbrev pub LeavesOpening : Opening → Image → Leftover D g → Type 0
-  LeavesOpening how image (left.Files it) = LeavesAsFound image (left.Files it)
-  LeavesOpening how image (left.Unopened it) = LeavesAsFound image (left.Unopened it)
+  LeavesOpening how image (left.Files it) = StaysAsFound image (left.Files it)
+  LeavesOpening how image (left.Unopened it) = StaysAsFound image (left.Unopened it)
   LeavesOpening how image (left.Store it) = (db : Trees) → recovers it db → AreTheirs image db ⊎ IsMadeBy how image db

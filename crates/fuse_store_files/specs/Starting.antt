@@ -1,6 +1,7 @@
 -- How a store is opened from its files (own profile).
 use Rattle.std.specs.Prelude.{ℕ, List, [], None}
 use Rattle.sqlite_wal.specs.Recovery.{Image}
+use Rattle.sqlite.specs.Effect.{Database}
 use Rattle.fuse_wire.specs.declared.moment.Moment.{Moment}
 use Rattle.fuse_tree.specs.State.{new_store}
 use Rattle.fuse_tree.specs.Rows.{rowed}
@@ -9,6 +10,9 @@ use Rattle.fuse_keeper.specs.History.{after}
 use Rattle.fuse_keeper.specs.Stands.{Standing}
 use Rattle.fuse_keeper.specs.KeeperState.{KeeperState, StandsFor}
 use Rattle.fuse_keeper.specs.Lots.{SameLots}
+use Rattle.fuse_store_tables.specs.Clearing.{IsBegun}
+use Rattle.fuse_store_tables.specs.Content.{Content, LeftAs}
+use Rattle.fuse_store_tables.specs.Opening.{IsStored, IsOpened}
 use Rattle.fuse_store_tree.specs.Store.{records_of}
 use Rattle.fuse_store_tree.specs.Holding.{Holding, lots_of}
 use Rattle.fuse_store.specs.Creating.{new_holding}
@@ -17,7 +21,7 @@ use Rattle.fuse_store.specs.Starting.{begun_for}
 use Rattle.fuse_store_files.specs.declared.files.Opening.{Opening}
 use Rattle.fuse_store_files.specs.declared.files.Opening.TheVariants.{Existing, Any, Fresh}
 use Rattle.fuse_store_files.specs.declared.files.StoreFiles.{StoreFiles}
-use Rattle.fuse_store_files.specs.Files.{FilesStand, HoldNothing}
+use Rattle.fuse_store_files.specs.Files.{HoldSome, FilesStand, HoldNothing}
 
 abbrev pub path_of : {S : Type 0} → StoreFiles S → List ℕ
 path_of files = files.path.now
@@ -63,3 +67,13 @@ kept_for (Fresh now) z = begun_for z
 pub record KeepsStore (how : Opening) (z : Stored) (k : KeeperState the_tree) : Type 0 where
   pub held : k.holds (rowed (kept_for how z).tree) (records_of (kept_for how z).kept)
   pub lots : SameLots (lots_of None (kept_for how z)) k.lots
+
+-- the files hold a store of either version with these rows, those too that no tree has
+abbrev pub FilesHoldRows : Image → Content → Type 0
+FilesHoldRows image c = HoldSome (LeftAs (IsStored c)) image
+
+-- the rows that an opening makes of them
+abbrev pub RowsKept : Opening → Content → Database → Type 0
+RowsKept Existing c = IsOpened c
+RowsKept (Any now) c = IsOpened c
+RowsKept (Fresh now) c = IsBegun c

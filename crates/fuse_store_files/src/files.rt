@@ -7,12 +7,16 @@ ghost use Rattle.sqlite.specs.Files.{file_state, over_files, IsOpened, IsCleanLe
 ghost use Rattle.sqlite.specs.Start.{FindsIn};
 ghost use Rattle.sqlite_wal.specs.Files.{image_at};
 ghost use Rattle.fuse_keeper.specs.KeeperState.{IsFirm};
+ghost use Rattle.fuse_keeper.specs.declared.fault.StoreFault.TheVariants.{NotAStore};
+ghost use Rattle.fuse_store_tables.specs.Content.{Content};
 ghost use Rattle.fuse_store_tables.specs.Faults.{IsOutside};
+ghost use Rattle.fuse_store_tables.specs.Moves.{RestsAs};
+ghost use Rattle.fuse_store_tables.specs.Saying.{IsRefusal};
 ghost use Rattle.fuse_store.specs.Opening.{Stored};
-ghost use Rattle.fuse_store.specs.TableKeeper.{keeper_told, SharesMedium};
+ghost use Rattle.fuse_store.specs.TableKeeper.{keeper_told, conn_of, SharesMedium};
 ghost use Rattle.fuse_store_files.specs.Files.{FilesHold};
-ghost use Rattle.fuse_store_files.specs.Starting.{path_of, OpensAs, KeepsStore};
-ghost use Rattle.fuse_store_files.specs.Left.{LeavesOpening};
+ghost use Rattle.fuse_store_files.specs.Starting.{path_of, OpensAs, KeepsStore, FilesHoldRows, RowsKept};
+ghost use Rattle.fuse_store_files.specs.Left.{LeavesAsFound, LeavesOpening};
 ghost use Rattle.fuse_store_files.specs.inner.Opened.{IsNotOpened};
 
 use crate::opening::open_as;
@@ -96,6 +100,14 @@ pub fn open_store<S: Start>(
     // The fault says nothing of a sound store.
     ensures fault { IfErr result (λ e. IfSome e.1 (λ it. IsCleanLeft it → (z : Stored)
         → FilesHold (image_at S.Start) z → IsOutside e.0)) }
+    // A store that is refused stays as it is.
+    ensures untouched { IfErr result (λ e. IsRefusal e.0
+        → IfSome e.1 (LeavesAsFound (image_at S.Start))) }
+    ensures unopened { IfErr result (λ e. e.1 ≡ None → IsOutside e.0 ⊎ (e.0 ≡ NotAStore)) }
+    // All rows are kept, those too that no tree has; the begin of a mount deletes its own.
+    ensures rows { IfOk result (λ k. (keeper_told over_files k).is_honest → (c : Content)
+        → FilesHoldRows (image_at S.Start) c
+        → RestsAs (RowsKept how c) (file_state (conn_of over_files k))) }
 {
     if matches!(how, Opening::Existing) && files.are_missing() {
         return Err((StoreFault::NotAStore, None));

@@ -3,9 +3,14 @@ ghost use Rattle.std.specs.Prelude.{◌≡◌, false, IfOk, IfErr};
 ghost use Rattle.sqlite.specs.State.{HasCleanDisk, Survives};
 ghost use Rattle.sqlite.specs.Held.{state};
 ghost use Rattle.fuse_keeper.specs.KeeperState.{IsFirm};
+ghost use Rattle.fuse_store_tables.specs.Content.{Content};
 ghost use Rattle.fuse_store_tables.specs.Faults.{IsOutside};
+ghost use Rattle.fuse_store_tables.specs.Moves.{RestsAs, LeavesAlone};
+ghost use Rattle.fuse_store_tables.specs.Opening.{IsStored};
+ghost use Rattle.fuse_store_tables.specs.Saying.{IsRefusal};
 ghost use Rattle.fuse_store.specs.Opening.{Stored, WasFor};
-ghost use Rattle.fuse_store.specs.TableKeeper.{keeper_told, SharesMedium};
+ghost use Rattle.fuse_store.specs.TableKeeper.{keeper_told, conn_of, SharesMedium};
+ghost use Rattle.fuse_store_files.specs.Starting.{RowsKept};
 ghost use Rattle.fuse_store_files.specs.inner.Opened.{OpensOver, LeavesOver};
 
 use crate::files::Opening;
@@ -31,6 +36,11 @@ pub(crate) fn open_as<S: Alter>(
         (LeavesOver how (state S.Store conn))) }
     ensures fault { IfErr result (λ r. HasCleanDisk (state S.Store r.1) → (z : Stored)
         → WasFor z (state S.Store conn) → IsOutside r.0) }
+    ensures refused { IfErr result (λ r. IsRefusal r.0
+        → LeavesAlone (state S.Store conn) (state S.Store r.1)) }
+    ensures rows { IfOk result (λ k. (keeper_told S.Store k).is_honest → (c : Content)
+        → RestsAs (IsStored c) (state S.Store conn)
+        → RestsAs (RowsKept how c) (state S.Store (conn_of S.Store k))) }
 {
     match how {
         Opening::Existing => TableKeeper::open(alloc, conn),

@@ -16,7 +16,7 @@ use Rattle.fuse_store.specs.Starting.{BeginsAfter, LeavesStarted, LeavesFresh}
 use Rattle.fuse_store_files.specs.declared.files.Opening.{Opening}
 use Rattle.fuse_store_files.specs.declared.files.Opening.TheVariants.{Existing, Any, Fresh}
 use Rattle.fuse_store_files.specs.Starting.{IsNewStore, KeepsStore}
-use Rattle.fuse_store_files.specs.Left.{LeavesAsFound}
+use Rattle.fuse_store_files.specs.Left.{StaysAsFound}
 
 -- what an opening makes of a blank database
 abbrev pub MakesNew : Opening → KeeperState the_tree → Type 0
@@ -44,5 +44,5 @@ LeavesOver (Fresh now) s = LeavesFresh now s
 
 -- the files were not opened, for this error
 pub record IsNotOpened {D : Type 0} {g : Ghosts D} (image : Image) (it : Leftover D g) (e : Error) : Type 0 where
-  pub left : LeavesAsFound image it
+  pub left : StaysAsFound image it
   pub cause : IsCleanLeft it → FailsToOpenFiles left.files it e

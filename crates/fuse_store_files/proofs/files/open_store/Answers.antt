@@ -1,12 +1,13 @@
-use Rattle.std.proofs.Common.{sym, subst, inl, refl, arith}
+use Rattle.std.proofs.Common.{inr, sym, subst, inl, refl, arith}
 use Rattle.sqlite_trees.proofs.Doubt.{no_doubt}
 use Rattle.sqlite_wal.specs.Files.{image_at}
 use Rattle.sqlite.specs.State.{HasCleanDisk}
 use Rattle.sqlite.specs.Files.{file_state, over_files}
 use Rattle.fuse_store_tables.specs.Faults.{IsOutside}
+use Rattle.fuse_store.specs.Storing.{opening_fault}
 use Rattle.fuse_store.specs.TableKeeper.{keeper_told}
 use Rattle.fuse_store_files.proofs.Fresh.{some_weaker}
-use Rattle.fuse_store_files.proofs.Found.{keeps, opens_as, was_for, left_open, not_opened, not_wanting}
+use Rattle.fuse_store_files.proofs.Found.{keeps, opens_as, was_for, rests, left_open, left_alone, stays_found, not_opened, not_wanting}
 use Rattle.fuse_store_files.proofs.files.open_store.Goals as goal
 
 pub returns-in-Err-clause-crash : goal.returns-in-Err-clause-crash
@@ -46,3 +47,27 @@ returns-in-Err-open_as-clause-fault g c = λ is_clean z held.
     let clean : HasCleanDisk (file_state c.in-Ok.conn) = omega (arith, after, c.in-Err-open_as.ensures.crash.clean) in
     let live = c.in-Ok.ensures.opened clean in
     c.in-Err-open_as.ensures.fault after z (was_for (image_at g.S.Start) (file_state c.in-Ok.conn) live.0 live.1 (c.in-Ok.ensures.found clean) z held)
+
+pub returns-in-Err-clause-untouched : goal.returns-in-Err-clause-untouched
+returns-in-Err-clause-untouched g c = λ refusal.
+    some_weaker c.in-Err.left _ _ (λ it not. stays_found (image_at g.S.Start) c.args.how it c.in-Err.error not) c.in-Err.ensures.left
+
+pub returns-in-Err-clause-unopened : goal.returns-in-Err-clause-unopened
+returns-in-Err-clause-unopened g c = λ none.
+    inl (subst IsOutside (sym c.opening_fault.ensures) (elim (c.in-Err.ensures.none none) [
+      | inl e ↦ subst (λ x. IsOutside (opening_fault x)) (sym e) tt
+      | inr other ↦ elim other [ inl e ↦ subst (λ x. IsOutside (opening_fault x)) (sym e) tt | inr e ↦ subst (λ x. IsOutside (opening_fault x)) (sym e) tt ]
+    ]))
+
+pub returns-in-Err-open_as-clause-untouched : goal.returns-in-Err-open_as-clause-untouched
+returns-in-Err-open_as-clause-untouched g c = λ refusal.
+    left_alone (image_at g.S.Start) c.args.how c.in-Ok.conn (λ f. inl refl) c.in-Ok.ensures.opened c.in-Ok.ensures.found
+    (file_state c.in-Err-open_as.conn) c.into_store.result (c.in-Err-open_as.ensures.refused refusal) c.into_store.ensures.quiet.clean
+    c.into_store.ensures.quiet.outcomes
+
+pub returns-in-Ok-open_as-clause-rows : goal.returns-in-Ok-open_as-clause-rows
+returns-in-Ok-open_as-clause-rows g c = λ honest content held.
+    let clean = c.in-Ok-open_as.ensures.honest honest in
+    let live = c.in-Ok.ensures.opened clean in
+    c.in-Ok-open_as.ensures.rows honest content
+    (rests (image_at g.S.Start) (file_state c.in-Ok.conn) live.0 live.1 (c.in-Ok.ensures.found clean) content held)

@@ -1,7 +1,7 @@
-use Rattle.std.proofs.lemmas.Result.{IfErr-weaker}
+use Rattle.std.proofs.lemmas.Result.{IfOk-weaker, IfErr-weaker}
 use Rattle.sqlite.specs.Held.{state}
 use Rattle.fuse_store.specs.TableKeeper.{keeper_told}
-use Rattle.fuse_store_files.proofs.Opened.{over_existing, over_any, over_fresh, ok_of_3, ok_of_5}
+use Rattle.fuse_store_files.proofs.Opened.{over_existing, over_any, over_fresh, stored_is_not_blank, ok_of_3, ok_of_5}
 use Rattle.fuse_store_files.proofs.opening.open_as.Goals as goal
 
 pub returns-in-Existing-clause-opens : goal.returns-in-Existing-clause-opens
@@ -35,3 +35,20 @@ returns-in-Fresh-clause-opens g c =
 
 pub returns-in-Fresh-clause-crash : goal.returns-in-Fresh-clause-crash
 returns-in-Fresh-clause-crash g c = rw c.in-Fresh.is c.open_fresh.ensures.crash
+
+pub returns-in-Existing-clause-refused : goal.returns-in-Existing-clause-refused
+returns-in-Existing-clause-refused g c = IfErr-weaker c.open.result _ _ (λ r refused. refused.refused) c.open.ensures.refused
+
+pub returns-in-Existing-clause-rows : goal.returns-in-Existing-clause-rows
+returns-in-Existing-clause-rows g c =
+    rw c.in-Existing.is (IfOk-weaker c.open.result _ _ (λ k rows clean content at. rows.opened clean content at) c.open.ensures.rows)
+
+pub returns-in-Any-clause-rows : goal.returns-in-Any-clause-rows
+returns-in-Any-clause-rows g c =
+    rw c.in-Any.is (IfOk-weaker c.open_or_create.result _ _
+    (λ k rows clean content at. (rows (stored_is_not_blank (state g.S.Store c.args.conn) content at)).opened clean content at) c.open_or_create.ensures.rows)
+
+pub returns-in-Fresh-clause-rows : goal.returns-in-Fresh-clause-rows
+returns-in-Fresh-clause-rows g c =
+    rw c.in-Fresh.is (IfOk-weaker c.open_fresh.result _ _
+    (λ k rows clean content at. (rows (stored_is_not_blank (state g.S.Store c.args.conn) content at)).begun clean content at) c.open_fresh.ensures.rows)
