@@ -6,7 +6,6 @@ mod serve;
 mod show;
 mod simulate;
 mod snapshot;
-mod store;
 
 use clap::Error;
 use clap::error::ErrorKind;
@@ -14,17 +13,18 @@ use fuse_commands::{
     Ending, ProgressReader, Run, STANDARD_INPUT, START, Work, parse, run_check, run_dump,
     run_replay, unreadable,
 };
-use fuse_store::{PlainKeeper, PlainTree, open_or_create};
+use fuse_files::replay_store;
+use fuse_store::{PlainKeeper, PlainTree};
+use fuse_store_files::StoreFiles;
 use fuse_wire::Moment;
 use serve::serve_as_asked;
 use show::{Show, show_store};
 use simulate::simulate_in_memory;
-use sqlite::{Alter, Connection, Start, Unknown, Wary};
+use sqlite::{Start, Unknown, Wary};
 use std::alloc::Global;
 use std::io::{BufWriter, IsTerminal, Read, Write};
 use std::process::ExitCode;
 use std::{env, fs, io};
-use store::{close_file, open_file};
 
 fn main(rt: HostRuntime) -> ExitCode {
     let ending = run(&rt);
@@ -171,23 +171,6 @@ fn replay_in_memory<R: Read + Drop, W: Write>(
     run_replay(alloc, &mut keeper, reader, writer, moment)
 }
 
-// Opens or creates the store of a database, and replays over it. Returns the connection if there is
-// a store.
-fn replay_over<S: Alter + Drop, R: Read + Drop, W: Write>(
-    alloc: Global,
-    conn: Connection<S>,
-    reader: R,
-    writer: &mut W,
-    moment: Moment,
-) -> (Ending, Option<Connection<S>>) {
-    let mut keeper = match open_or_create(alloc, conn, START) {
-        Ok(keeper) => keeper,
-        Err((fault, _)) => return (Ending::of(fault), None),
-    };
-    let ending = run_replay(alloc, &mut keeper, reader, writer, moment);
-    (ending, Some(keeper.into_connection()))
-}
-
 // Replays over the store in a file.
 fn replay_on_file<S: Start, R: Read + Drop, W: Write>(
     rt: &HostRuntime,
@@ -197,13 +180,10 @@ fn replay_on_file<S: Start, R: Read + Drop, W: Write>(
     writer: &mut W,
     moment: Moment,
 ) -> Ending {
-    let conn = match open_file(rt, file, start) {
-        Ok(conn) => conn,
-        Err(fault) => return Ending::of(fault),
-    };
-    let (ending, conn) = replay_over(rt.alloc(), conn, reader, writer, moment);
-    if let Some(conn) = conn {
-        close_file(conn);
+    let files = StoreFiles::at(rt, file, start);
+    let (ending, left) = replay_store(rt.alloc(), files, reader, writer, moment);
+    if let Some(left) = left {
+        let _files = left.into_files();
     }
     ending
 }
