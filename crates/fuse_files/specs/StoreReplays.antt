@@ -1,23 +1,27 @@
 -- A replay over the files of a store: what is opened, replayed and closed (own profile).
-use Rattle.std.specs.Prelude.{◌≡◌, ℕ, List, Option, Some, Result, IfSome}
+use Rattle.std.specs.Prelude.{◌≡◌, ◌⊎◌, ℕ, List, Option, Some, None, Result, IfSome}
 use Rattle.sqlite_disk.specs.declared.Disk.{Ghosts}
 use Rattle.sqlite_disk.specs.declared.Files.{Files}
 use Rattle.sqlite_wal.specs.Recovery.{Image}
 use Rattle.sqlite_store.specs.declared.store.FileStore.{FileStore}
-use Rattle.sqlite.specs.Files.{over_files, IsCleanLeft}
+use Rattle.sqlite.specs.Files.{file_state, over_files, IsCleanLeft}
 use Rattle.sqlite.specs.declared.file.Leftover.{Leftover}
 use Rattle.fuse_wire.specs.declared.moment.Moment.{Moment}
 use Rattle.fuse_keeper.specs.declared.fault.StoreFault.{StoreFault}
+use Rattle.fuse_keeper.specs.declared.fault.StoreFault.TheVariants.{NotAStore}
 use Rattle.fuse_keeper.specs.KeeperState.{KeeperState, IsFirm}
 use Rattle.fuse_tree.specs.TheTree.{the_tree}
+use Rattle.fuse_store_tables.specs.Content.{Content}
 use Rattle.fuse_store_tables.specs.Faults.{IsOutside}
+use Rattle.fuse_store_tables.specs.Moves.{RestsAs}
+use Rattle.fuse_store_tables.specs.Saying.{IsRefusal}
 use Rattle.fuse_store.specs.Opening.{Stored}
 use Rattle.fuse_store.specs.declared.table_keeper.TableKeeper.{TableKeeper}
-use Rattle.fuse_store.specs.TableKeeper.{keeper_told}
+use Rattle.fuse_store.specs.TableKeeper.{conn_of, keeper_told}
 use Rattle.fuse_store_files.specs.declared.files.Opening.TheVariants.{Any}
 use Rattle.fuse_store_files.specs.Files.{FilesHold}
-use Rattle.fuse_store_files.specs.Left.{Closes, LeavesOpening}
-use Rattle.fuse_store_files.specs.Starting.{OpensAs, KeepsStore}
+use Rattle.fuse_store_files.specs.Left.{Closes, LeavesAsFound, LeavesOpening}
+use Rattle.fuse_store_files.specs.Starting.{OpensAs, KeepsStore, FilesHoldRows, RowsKept}
 use Rattle.fuse_commands.specs.declared.ending.Ending.{Ending}
 use Rattle.fuse_commands.specs.declared.simulate.TheConstants.{START as start}
 use Rattle.fuse_commands.specs.Endings.{status_of, store_ending, IsOfStream}
@@ -45,17 +49,20 @@ pub record StoreReplayed {D : Type 0} {g : Ghosts D} (first : Image) (moment : M
   pub keeper' : TableKeeper (FileStore D g) over_files
   pub opened : (keeper_told over_files keeper).is_honest → OpensAs (Any start) first (keeper_told over_files keeper)
   pub kept : (keeper_told over_files keeper).is_honest → (z : Stored) → FilesHold first z → KeepsStore (Any start) z (keeper_told over_files keeper)
+  pub rows : (keeper_told over_files keeper).is_honest → (c : Content) → FilesHoldRows first c → RestsAs (RowsKept (Any start) c) (file_state (conn_of over_files keeper))
   pub firm : (keeper_told over_files keeper).is_honest → IsFirm (keeper_told over_files keeper)
   pub replays : ReplaysOver (keeper_told over_files keeper) (keeper_told over_files keeper') moment streams ending
   pub files : Result (Files D) (FileStore D g)
   pub closed : Closes (keeper_told over_files keeper') files
   pub left_is : left ≡ Some (left_closed files)
 
--- no keeper was opened, and nothing was written. A crash leaves what was found, or what the opening makes of it; and the fault says nothing
--- of a sound store
+-- no keeper was opened, and nothing was written. A store that is refused is left as it was found; else a crash leaves what was
+-- found, or what the opening makes of it; and the fault says nothing of a sound store
 pub record NotReplayed {D : Type 0} {g : Ghosts D} (first : Image) (streams : Streams) (ending : Ending) (left : Option (Leftover D g)) : Type 0 where
   pub fault : StoreFault
   pub ending_is : ending ≡ store_ending fault
   pub unwritten : streams.written' ≡ streams.written
   pub crash : IfSome left (LeavesOpening (Any start) first)
+  pub untouched : IsRefusal fault → IfSome left (LeavesAsFound first)
+  pub unopened : left ≡ None → IsOutside fault ⊎ (fault ≡ NotAStore)
   pub outside : IfSome left (λ it. IsCleanLeft it → (z : Stored) → FilesHold first z → IsOutside fault)

@@ -7,6 +7,7 @@ returns-clause-ran g c = inl (record {
   keeper' = c.run_replay-ending.new.keeper;
   opened = c.in-Ok.ensures.opened;
   kept = c.in-Ok.ensures.holds;
+  rows = c.in-Ok.ensures.rows;
   firm = c.in-Ok.ensures.firm;
   replays = record {
     replayed = c.run_replay-ending.ensures.replayed;

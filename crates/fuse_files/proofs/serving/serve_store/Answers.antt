@@ -10,6 +10,7 @@ returns-clause-ran g c = inl (record {
   opens = c.opening_for-opening.ensures;
   opened = c.in-Ok.ensures.opened;
   kept = c.in-Ok.ensures.holds;
+  rows = c.in-Ok.ensures.rows;
   firm = c.in-Ok.ensures.firm;
   served = c.run_serve-ending.ensures.served;
   left = c.close_store.result;
