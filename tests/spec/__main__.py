@@ -11,6 +11,7 @@ from lib.counts import print_counts
 from lib.device import run_program, store_of
 from lib.folders import quick_folder
 from spec import serving
+from spec.ports import each_port_call
 from spec.prefixes import prefixes_of
 from spec.read import BadCase, chain_of, last_said, moved_end, read_all
 from spec.scripts import bad_lines, good_lines
@@ -201,6 +202,11 @@ class Cases:
         wanted, seen = lots_over_starts(self.program, self.cases, self.work, self.looks)
         return self.is_same("lots-over-starts", "serve", wanted, seen)
 
+    def fails_at_each_call(self):
+        """Runs case each-port-call over files; whether it passed."""
+        wanted, seen = each_port_call(self.program, self.cases, self.work, self.looks)
+        return self.is_same("each-port-call", "serve", wanted, seen)
+
     def refuses(self):
         """Whether `serve` refuses bad words."""
         return self.is_same("bad words", "serve", *serving.refused(self.program, self.work))
@@ -266,7 +272,7 @@ def main():
     with tempfile.TemporaryDirectory(prefix="spec-", dir=quick_folder()) as work:
         run = Cases(cases, work)
         right = [run.passes(case) for case in cases.values()]
-        right += [run.settles_after_fault(), run.starts(), run.refuses(), run.reads_scripts()]
+        right += [run.settles_after_fault(), run.starts(), run.fails_at_each_call(), run.refuses(), run.reads_scripts()]
         tables = run.grows()
         right += tables
         run.print_runs()
