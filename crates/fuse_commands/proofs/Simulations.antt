@@ -25,13 +25,12 @@ use Rattle.fuse_sim.specs.Driving.{NoneReused, told_in, became_in, performed_in,
 use Rattle.fuse_sim.specs.HandedOn.{performances, AsksUpTo, AskedSome}
 use Rattle.fuse_sim.specs.Twice.{Seen}
 use Rattle.fuse_commands.specs.declared.ending.Ending.{Ending}
-use Rattle.fuse_commands.specs.declared.ending.Ending.TheVariants.{Done}
 use Rattle.fuse_commands.specs.declared.simulate.Simulation.{Simulation}
 use Rattle.fuse_commands.specs.Endings.{status_of, store_ending}
 use Rattle.fuse_commands.specs.Scripts.{lines_of, WritesAll}
 use Rattle.fuse_commands.specs.Output.{line, store_line}
 use Rattle.fuse_commands.specs.Simulating.{outcome_line, outcome_lines, state_after, StandsAfter, BeginSo, AnsweredFault, StoreEnded, AreOfFirst}
-use Rattle.fuse_commands.specs.Simulating.{LeftBySome, LeftByScript, StoppedIn, Shown, SimulatedAll, Simulated}
+use Rattle.fuse_commands.specs.Simulating.{LeftBySome, LeftByScript, StoppedIn, Shown, SimulatedAll}
 use Rattle.fuse_commands.specs.inner.Simulating.{Went, RanScript}
 use Rattle.fuse_commands.proofs.Known.{consumes_then}
 

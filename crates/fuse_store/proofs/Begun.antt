@@ -1,5 +1,5 @@
 -- An opening and the begin of a mount, in one transaction.
-use Rattle.std.proofs.Common.{◌≤◌, ◌^◌, ℕ, inl, inr, subst, arith}
+use Rattle.std.proofs.Common.{◌≤◌, ◌^◌, inl, inr, subst, arith}
 use Rattle.sqlite.specs.Effect.{Database}
 use Rattle.fuse_tree.specs.State.{Tree}
 use Rattle.fuse_tree.specs.Clearing as trees

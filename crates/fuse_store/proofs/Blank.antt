@@ -25,7 +25,7 @@ unstored s live settled empty z was =
     no_none (table_named s.now.schema (codes "meta")) 0 (has_meta z s.now (rests_was z s live settled was).holds)
     (subst (λ (t : Schema). is_some (table_named t (codes "meta")) ≡ false) (sym empty) refl)
 
--- want of memory and an error of SQL refuse nothing
+-- lack of memory and an error of SQL refuse nothing
 pub no_refusal : {Y : Type 0} (f : StoreFault) → IsOutside f → IsRefusal f → Y
 no_refusal Memory outside refused = absurd refused
 no_refusal (Sql e) outside refused = absurd refused
