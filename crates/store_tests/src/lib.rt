@@ -7,8 +7,6 @@ mod blocks;
 #[cfg(test)]
 mod disks;
 #[cfg(test)]
-mod files;
-#[cfg(test)]
 mod groups;
 #[cfg(test)]
 mod halves;
