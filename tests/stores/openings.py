@@ -65,6 +65,13 @@ def refusals():
         yield Case(f"version 1 without row {key} of meta", first, (f"DELETE FROM meta WHERE k = {key}",), "store: Damaged")
 
 
+def below_zero():
+    """Versions below 0, which are reported by their bits."""
+    for number, bits in ((-1, (1 << 64) - 1), (-(1 << 63), 1 << 63)):
+        change = f"UPDATE meta SET v = {number} WHERE k = 1"
+        yield Case(f"version {number}", of_version(2), (*FULL, change), f"store: Version({bits})")
+
+
 # ---- databases
 
 
@@ -188,15 +195,36 @@ def try_beside(tally, room):
         tally.compare("others' tables beside ours: they stay", theirs, theirs_in(path))
 
 
+# A block of the letter y, and the bytes that a file of x or y has.
+OF_Y = "UPDATE blocks SET bytes = CAST(replace(hex(zeroblob(2048)), '0', 'y') AS BLOB)"
+
+
+def try_past_size(tally, room):
+    """A store that has bytes past a file's size in its last block opens. They are never shown: a file that grows has zeros there."""
+    for size in (10, 4095, 4096, 4100, 5000):
+        for how in ("size", "write"):
+            path = store_with(room, f"past-{size}-{how}", OF_Y, f"UPDATE nodes SET size = {size} WHERE node = 3",
+                              f"DELETE FROM blocks WHERE block * {BLOCK} >= {size}")
+            grows = (m.SETATTR, 3, m.setattr_body(8, size=size + 20)) if how == "size" else (m.WRITE, 3, m.write_body(1, size + 18, b"zz"))
+            read = (m.READ, 3, m.read_body(1, 0, 9000))
+            ended, found = answers(path, read, grows, read)
+            tail = bytes(20) if how == "size" else bytes(18) + b"zz"
+            what = f"bytes past {size}, grown by {how}"
+            tally.compare(f"{what}: how it ends", [0], ended)
+            tally.compare(f"{what}: before", b"y" * size, found[0][1])
+            tally.compare(f"{what}: after", b"y" * size + tail, found[2][1])
+
+
 def main():
     tally = Tally()
     with tempfile.TemporaryDirectory(dir=quick_folder()) as folder:
-        for number, case in enumerate(refusals()):
+        for number, case in enumerate([*refusals(), *below_zero()]):
             room = f"{folder}/{number}"
             os.mkdir(room)
             try_refusal(tally, case, room)
         os.mkdir(f"{folder}/opened")
         try_beside(tally, f"{folder}/opened")
+        try_past_size(tally, f"{folder}/opened")
     return print_counts("stores openings", tally.passed, tally.failed)
 
 
