@@ -6,6 +6,7 @@ even before they serve, and one after more than a second. With SHORTEST only ser
 seconds; then it goes on until the supervisor has ended."""
 import os
 import random
+import select
 import signal
 import sys
 import time
@@ -42,8 +43,8 @@ def next_server(supervisor, last):
     sys.exit(f"killer: no server was there for {PATIENCE:.0f} s")
 
 
-def kill(supervisor, server):
-    """Whether it was killed, and not another process of that number."""
+def kill(supervisor, server, waits=False):
+    """Whether it was killed, and not another process of that number. With `waits` it has ended, which closed its files."""
     try:
         process = os.pidfd_open(server)
     except ProcessLookupError:
@@ -52,6 +53,11 @@ def kill(supervisor, server):
         if parent_of(server) != supervisor:
             return False
         signal.pidfd_send_signal(process, signal.SIGKILL)
+        if waits:
+            ended = select.poll()
+            ended.register(process, select.POLLIN)
+            if not ended.poll(60000):
+                sys.exit(f"killer: server {server} doesn't end")
         return True
     except (ProcessLookupError, FileNotFoundError):
         return False

@@ -17,7 +17,6 @@ import copy
 import os
 import pickle
 import random
-import select
 import shutil
 import signal
 import sys
@@ -25,7 +24,7 @@ import threading
 import time
 
 from mount import model as m
-from mount.killer import next_server, parent_of
+from mount.killer import kill, next_server
 from mount.writer import Writer
 
 WRITERS = 3
@@ -40,27 +39,6 @@ def moments(rng):
         for _ in range(rng.randrange(5)):
             yield rng.random() * (0.03 if rng.random() < 0.5 else 0.3)
         yield 1.05 + rng.random() / 4
-
-
-def end(server, supervisor):
-    """Kills a server and waits for its end, which has closed its files. False where it had ended before."""
-    try:
-        process = os.pidfd_open(server)
-    except ProcessLookupError:
-        return False
-    try:
-        if parent_of(server) != supervisor:
-            return False
-        signal.pidfd_send_signal(process, signal.SIGKILL)
-        ended = select.poll()
-        ended.register(process, select.POLLIN)
-        if not ended.poll(60000):
-            sys.exit(f"kills: server {server} doesn't end")
-        return True
-    except (ProcessLookupError, FileNotFoundError):
-        return False
-    finally:
-        os.close(process)
 
 
 class Run:
@@ -178,7 +156,7 @@ class Run:
         self.check_writers()
 
     def end(self, server):
-        return end(server, self.supervisor)
+        return kill(self.supervisor, server, waits=True)
 
     def pace(self):
         """Each writer may make so many nodes by now."""

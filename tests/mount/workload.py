@@ -5,7 +5,6 @@ against what it did. A file's bytes follow from its name.
     workload.py work MOUNT NUMBER MODEL STOP CREATIONS   works until the file STOP is there, and keeps what it did in MODEL
     workload.py compare MOUNT MODEL...                   compares the whole tree with what all processes did
 """
-import ctypes
 import errno
 import hashlib
 import json
@@ -16,12 +15,10 @@ import sys
 import time
 import traceback
 
+from mount.calls import EXCHANGE, NOREPLACE, check, refused, renameat2
+
 LONGEST_STEP = 180.0  # seconds: a step is some calls, and servers are killed meanwhile
 MOST_FILES, MOST_DIRS, MOST_HELD = 120, 25, 6
-NOREPLACE, EXCHANGE = 1, 2
-AT_FDCWD = -100
-
-libc = ctypes.CDLL(None, use_errno=True)
 
 
 def content(key):
@@ -32,27 +29,6 @@ def content(key):
 def key_of(path):
     """A file's name is a letter, a dot and its key."""
     return os.path.basename(path).split(".", 1)[1]
-
-
-def renameat2(old, new, flags):
-    if libc.renameat2(AT_FDCWD, old.encode(), AT_FDCWD, new.encode(), flags) != 0:
-        code = ctypes.get_errno()
-        raise OSError(code, os.strerror(code), old)
-
-
-def check(condition, what):
-    if not condition:
-        raise AssertionError(what)
-
-
-def refused(code, call, *args):
-    """The call must be refused with exactly this number."""
-    try:
-        call(*args)
-    except OSError as refusal:
-        check(refusal.errno == code, f"{call.__name__}{args}: {refusal}, not {errno.errorcode[code]}")
-        return
-    raise AssertionError(f"{call.__name__}{args} wasn't refused")
 
 
 class Model:

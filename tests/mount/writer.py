@@ -1,6 +1,5 @@
 """A writer of tests/mount/kills.py: it changes the tree under one directory of a mount, a call at a time, and keeps the model of it."""
 import copy
-import ctypes
 import errno
 import os
 import stat
@@ -9,35 +8,11 @@ import time
 from dataclasses import dataclass
 from typing import Callable
 
+from mount.calls import EXCHANGE, NOREPLACE, check, refused, renameat2
 from mount.model import BLOCK, Model, Node, differences, found_on
 
-NOREPLACE, EXCHANGE = 1, 2
-AT_FDCWD = -100
 LEAST_FILES, MOST_FILES, LEAST_DIRS, MOST_DIRS, MOST_HELD = 15, 60, 5, 15, 5
 MOST_BYTES, MOST_PIECE = 120000, 30000
-
-libc = ctypes.CDLL(None, use_errno=True)
-
-
-def renameat2(old, new, flags):
-    if libc.renameat2(AT_FDCWD, old.encode(), AT_FDCWD, new.encode(), flags) != 0:
-        code = ctypes.get_errno()
-        raise OSError(code, os.strerror(code), old)
-
-
-def check(condition, what):
-    if not condition:
-        raise AssertionError(what)
-
-
-def refused(code, call, *args, **named):
-    """The call must be refused with exactly this number."""
-    try:
-        call(*args, **named)
-    except OSError as refusal:
-        check(refusal.errno == code, f"{call.__name__}{args}: {refusal}, not {errno.errorcode[code]}")
-        return
-    raise AssertionError(f"{call.__name__}{args} wasn't refused")
 
 
 @dataclass
