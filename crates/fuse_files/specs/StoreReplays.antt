@@ -23,10 +23,13 @@ use Rattle.fuse_store_files.specs.Files.{FilesHold}
 use Rattle.fuse_store_files.specs.Left.{Closes, LeavesAsFound, LeavesOpening}
 use Rattle.fuse_store_files.specs.Starting.{OpensAs, KeepsStore, FilesHoldRows, RowsKept}
 use Rattle.fuse_commands.specs.declared.ending.Ending.{Ending}
-use Rattle.fuse_commands.specs.declared.simulate.TheConstants.{START as start}
 use Rattle.fuse_commands.specs.Endings.{status_of, store_ending, IsOfStream}
 use Rattle.fuse_commands.specs.Replaying.{Replayed, Faulted, StandsForPrefix, Prints, PrintsAnswers}
 use Rattle.fuse_files.specs.StoreRuns.{left_closed}
+
+-- the moment at which a replay makes a store: 1 January 1970, 0:00
+abbrev pub start : Moment
+start = record { secs = 0; nanos = 0 }
 
 -- the bytes that a reader will give, and those that a writer holds before and after, where they are known
 pub record Streams : Type 0 where

@@ -2,7 +2,7 @@
 use Rattle.std.proofs.Common.{Ok, Err, Result, OnOk, IfErr}
 use Rattle.sqlite.specs.Effect.{Database}
 use Rattle.sqlite.specs.Tree.{Trees}
-use Rattle.sqlite.specs.State.{State, HasCleanDisk, Survives}
+use Rattle.sqlite.specs.State.{State, Survives}
 use Rattle.fuse_keeper.specs.declared.fault.StoreFault.{StoreFault}
 use Rattle.fuse_store_tables.specs.Content.{Content, Holds}
 use Rattle.fuse_store_tables.specs.Clearing.{cleared, IsBegun}

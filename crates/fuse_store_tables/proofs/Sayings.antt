@@ -1,6 +1,5 @@
 -- What the tables say.
-use Rattle.std.proofs.Common.{◌≡◌, ◌≢◌, ◌⊎◌, ◌<◌, inl, inr, ℕ, pos, List, [], ◌∷◌, length, Bool, true, false, cond, Ok, Err, Result, IfOk, IfErr, refl, sym, ap, subst, arith}
-use Rattle.std.specs.Int.{w64, cast_signed}
+use Rattle.std.proofs.Common.{◌≡◌, ◌≢◌, ◌<◌, List, [], ◌∷◌, length, Bool, true, false, cond, Ok, Err, Result, IfOk, IfErr, refl, subst, arith}
 use Rattle.sqlite.specs.declared.types.Value.{Value}
 use Rattle.sqlite.specs.declared.types.Value.TheVariants.{Int}
 use Rattle.sqlite.specs.Values.{IsInt}

@@ -1,5 +1,5 @@
 -- A SELECT over any database changes nothing and commits nothing.
-use Rattle.std.proofs.Common.{◌≡◌, ◌+◌, ℕ, List, Ok, Err, None, Some, Option, Result, IsSome, IfOk, IfErr, true, false, Bool, cond, refl, sym, subst, ◌∙◌}
+use Rattle.std.proofs.Common.{◌≡◌, ◌+◌, ℕ, List, Ok, Err, None, Option, Result, IfOk, IfErr, true, false, Bool, cond, refl, sym, subst, ◌∙◌}
 use Rattle.sqlite.specs.Tree.{Trees}
 use Rattle.sqlite.specs.Order.{Row}
 use Rattle.sqlite.specs.Schema.{Schema}

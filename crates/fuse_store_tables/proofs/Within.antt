@@ -1,5 +1,5 @@
 -- A statement within a transaction commits nothing and ends nothing, over any database.
-use Rattle.std.proofs.Common.{◌≡◌, ◌≢◌, ◌+◌, inl, inr, ℕ, Option, OnOk, List, [], length, ◌==◌, Bool, true, false, cond, not, ◌&&◌, Ok, Err, Result, IfOk, IfErr, sym, ap, subst, ◌∙◌}
+use Rattle.std.proofs.Common.{◌≡◌, ◌+◌, inl, inr, ℕ, Option, List, [], length, ◌==◌, Bool, true, false, cond, not, ◌&&◌, Ok, Err, Result, subst}
 use Rattle.std.specs.Result.{IsErr}
 use Rattle.sqlite.specs.Tree.{Trees}
 use Rattle.sqlite.specs.Order.{Row}
@@ -7,7 +7,6 @@ use Rattle.sqlite.specs.Schema.{Schema}
 use Rattle.sqlite_ast.specs.declared.Statement.{Statement}
 use Rattle.sqlite_ast.specs.declared.Statement.TheVariants as written
 use Rattle.sqlite_ast.specs.declared.Conflict.TheVariants as conflict
-use Rattle.sqlite_ast.specs.declared.Expr.{Expr}
 use Rattle.sqlite_ast.specs.declared.Rows.{Rows}
 use Rattle.sqlite_ast.specs.declared.Upsert.{Upsert}
 use Rattle.sqlite_syntax.specs.declared.statement.Parsed.{Parsed}

@@ -80,8 +80,8 @@ pub fn write_block<S: Alter>(
     insert_block(conn, node, block, bytes)
 }
 
-/// Deletes the blocks of a node from this number on.
-pub fn delete_blocks_from<S: Alter>(
+/// Deletes the blocks of a node from this number on, and ends no transaction.
+pub(crate) fn remove_blocks_from<S: Alter>(
     conn: &mut Connection<S>,
     node: u64,
     from: u64,
@@ -94,6 +94,20 @@ pub fn delete_blocks_from<S: Alter>(
 {
     let values = pair(node, from);
     run(conn, DELETE_FROM, &values)
+}
+
+/// Deletes the blocks of a node from this number on.
+pub fn delete_blocks_from<S: Alter>(
+    conn: &mut Connection<S>,
+    node: u64,
+    from: u64,
+) -> Result<(), Error>
+    requires node { node < 2 ^ 63 }
+    requires from { from < 2 ^ 63 }
+    ensures made { Makes (without_blocks_from node from) (state S.Store conn.old)
+        (state S.Store conn.new) result }
+{
+    remove_blocks_from(conn, node, from)
 }
 
 /// The blocks at this place: one row or none.

@@ -17,7 +17,7 @@ ghost use Rattle.fuse_store_tables.specs.inner.Performing.{CommitsNothing};
 ghost use Rattle.fuse_store_tables.specs.Moves.{StaysOpen, LeavesAlone};
 ghost use Rattle.fuse_store_tables.specs.Saying.{IsRefusal};
 
-use crate::blocks::delete_blocks_from;
+use crate::blocks::remove_blocks_from;
 use crate::columns::number_at;
 use crate::counters::{AGREED, FLAGS, HANDLES, MAX_READAHEAD, MINOR, NODES, write_counter};
 use crate::handles::delete_all_handles;
@@ -39,7 +39,7 @@ fn delete_blocks_of<S: Alter>(conn: &mut Connection<S>, nodes: &[Row]) -> Result
     let mut at = 0;
     'nodes: while at < nodes.len() {
         match number_at(&nodes[at], 0) {
-            Ok(node) => match delete_blocks_from(conn, node, 0) {
+            Ok(node) => match remove_blocks_from(conn, node, 0) {
                 Ok(()) => {}
                 Err(error) => return Err(error.into()),
             },

@@ -1,4 +1,4 @@
-use Rattle.std.proofs.Common.{Ok, Err, inl}
+use Rattle.std.proofs.Common.{inl}
 use Rattle.sqlite.specs.Held.{state}
 use Rattle.sqlite.proofs.StateLemmas.{survives_then}
 use Rattle.fuse_store_tables.specs.Opening.{IsStored, IsOpened}
@@ -6,7 +6,7 @@ use Rattle.fuse_store_tables.specs.Clearing.{IsBegun}
 use Rattle.fuse_store_tables.specs.inner.Following.{earlier}
 use Rattle.fuse_store_tables.proofs.Joining.{then_as, fails_as}
 use Rattle.fuse_store_tables.proofs.Alone.{reads_never}
-use Rattle.fuse_store_tables.proofs.Within.{within_then, within_told}
+use Rattle.fuse_store_tables.proofs.Within.{within_then}
 use Rattle.fuse_store_tables.proofs.Renewed.{clears_opened, sure_cleared, cleared_says, known_if}
 use Rattle.fuse_store_tables.proofs.fresh.renew.Goals as goal
 

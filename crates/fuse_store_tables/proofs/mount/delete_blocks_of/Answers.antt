@@ -9,13 +9,13 @@ use Rattle.fuse_store_tables.proofs.Joining.{makes_then, makes_none, makes_same}
 use Rattle.fuse_store_tables.proofs.Within.{within_then, within_told}
 use Rattle.fuse_store_tables.proofs.mount.delete_blocks_of.Goals as goal
 
-pub returns-in-Err-delete_blocks_from-clause-made : goal.returns-in-Err-delete_blocks_from-clause-made
-returns-in-Err-delete_blocks_from-clause-made g c =
+pub returns-in-Err-remove_blocks_from-clause-made : goal.returns-in-Err-remove_blocks_from-clause-made
+returns-in-Err-remove_blocks_from-clause-made g c =
     let so_far = without_blocks_of (map number_of (take c.nodes.at c.args.nodes.now)) in
     let last = without_blocks_from c.in-Ok.node 0 in
-    makes_none (λ k. last (so_far k)) (without_blocks_of (map number_of c.args.nodes.now)) _ _ c.in-Err-delete_blocks_from.error c.into.result
-    (makes_then so_far last _ (state g.S.Store c.nodes.conn) _ c.nodes.at (Err c.in-Err-delete_blocks_from.error) c.nodes.invariant.2
-    c.in-Err-delete_blocks_from.ensures.made)
+    makes_none (λ k. last (so_far k)) (without_blocks_of (map number_of c.args.nodes.now)) _ _ c.in-Err-remove_blocks_from.error c.into.result
+    (makes_then so_far last _ (state g.S.Store c.nodes.conn) _ c.nodes.at (Err c.in-Err-remove_blocks_from.error) c.nodes.invariant.2
+    c.in-Err-remove_blocks_from.ensures.made)
 
 pub returns-in-Err-clause-fault : goal.returns-in-Err-clause-fault
 returns-in-Err-clause-fault g c ns same =
@@ -31,9 +31,9 @@ nodes-preserved g c =
     let so_far = without_blocks_of (map number_of (take c.nodes.at nodes)) in
     let last = without_blocks_from c.in-Ok.node 0 in
     let a = state g.S.Store c.args.conn.now in
-    let d = state g.S.Store c.delete_blocks_from.new.conn in
+    let d = state g.S.Store c.remove_blocks_from.new.conn in
     let both = makes_then so_far last a (state g.S.Store c.nodes.conn) d c.nodes.at (Ok _) c.nodes.invariant.2
-    c.in-Ok-delete_blocks_from.ensures.made in (
+    c.in-Ok-remove_blocks_from.ensures.made in (
       refl,
       omega (arith, c.nodes-test.true),
       makes_same (λ k. last (so_far k)) (without_blocks_of (map number_of (take (c.nodes.at + 1) nodes))) a d _
@@ -42,7 +42,7 @@ nodes-preserved g c =
           ∙ ap (λ r. without_blocks_from (number_of r) 0 (so_far k)) (c.index-nodes-at.is)
           ∙ sym (with_more nodes c.nodes.at c.index-nodes-at.result k c.nodes-test.true))) both,
       within_told a d _ (Ok (c.nodes.at + 1)) (within_then a (state g.S.Store c.nodes.conn) d _ (Ok _) c.nodes.invariant.3
-          c.in-Ok-delete_blocks_from.ensures.within),
+          c.in-Ok-remove_blocks_from.ensures.within),
     )
 
 pub returns-clause-made : goal.returns-clause-made

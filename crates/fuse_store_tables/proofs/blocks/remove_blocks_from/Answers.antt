@@ -1,7 +1,7 @@
 use Rattle.sqlite.specs.Held.{state}
 use Rattle.fuse_store_tables.proofs.BlockRows.{removes_blocks}
 use Rattle.fuse_store_tables.proofs.Within.{edits_within, blocks_edit}
-use Rattle.fuse_store_tables.proofs.blocks.delete_blocks_from.Goals as goal
+use Rattle.fuse_store_tables.proofs.blocks.remove_blocks_from.Goals as goal
 
 pub returns-clause-made : goal.returns-clause-made
 returns-clause-made g c =
