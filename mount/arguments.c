@@ -74,10 +74,29 @@ int print_help(void) {
     "usage: fusekeep-mount [-f] [-o OPTIONS] STORE MOUNTPOINT\n"
     "       fusekeep-mount --server STORE\n"
     "\n"
-    "Mounts the store in the file STORE on the directory MOUNTPOINT. fusekeep-mount(8) lists the options.\n"
+    "Mounts the store in the file STORE on the directory MOUNTPOINT, and keeps the mount alive when its server dies.\n"
     "  -f              stay in the foreground\n"
     "  -o OPTIONS      mount options, with commas between them\n"
-    "  --server STORE  print the process number of the server of a mounted store\n";
+    "  --server STORE  print the process number of the server of a mounted store\n"
+    "\n"
+    "Mount options:\n"
+    "  ro, rw          the mount is read-only, or isn't\n"
+    "  suid, nosuid    set-user-ID bits count, or don't; only root may give suid\n"
+    "  dev, nodev      device files are devices, or aren't; only root may give dev\n"
+    "  exec, noexec    files can be executed, or can't\n"
+    "  async, sync, dirsync\n"
+    "                  whether writes are synchronous, as in mount(8)\n"
+    "  atime, noatime, diratime, nodiratime, relatime, norelatime, strictatime\n"
+    "                  as in mount(8)\n"
+    "  allow_other     all users may access the files, as owners and modes permit\n"
+    "  max_read=N      as in mount.fuse(8)\n"
+    "  wary            the servers suppose less of the disk, and each commit syncs twice\n"
+    "  default_permissions\n"
+    "                  always on, given or not\n"
+    "  defaults, auto, noauto, nofail, _netdev, user, user=.., nouser, users, owner, group, comment=.., x-.., X-..\n"
+    "                  for other programs, and ignored\n"
+    "\n"
+    "fusekeep-mount(8) says more.\n";
   return fputs(help, stdout) >= 0 && fflush(stdout) == 0 ? 0 : FAILED;
 }
 

@@ -4,36 +4,22 @@
 #include "supervisor.h"
 #include <errno.h>
 #include <fcntl.h>
-#include <limits.h>
 #include <poll.h>
-#include <signal.h>
 #include <stdarg.h>
-#include <stdbool.h>
-#include <stdio.h>
 #include <stdlib.h>
 #include <string.h>
-#include <sys/file.h>
 #include <sys/mount.h>
-#include <sys/prctl.h>
 #include <sys/signalfd.h>
-#include <sys/socket.h>
-#include <sys/stat.h>
-#include <sys/statvfs.h>
 #include <sys/wait.h>
 #include <syslog.h>
-#include <time.h>
-#include <unistd.h>
 
-enum { SHORT_LIFE = 1000, FIRST_PAUSE = 50, LONGEST_PAUSE = 5000 }; /* milliseconds */
-enum { LOCK_PAUSE = 50, LOCK_TRIES = 20 }; /* a second, in which a mount of the store that is being unmounted may end */
-enum { MOST_SHORT_LIVES = 10, LINE_SIZE = 512, FIRST_OTHER = STDERR_FILENO + 1 };
-enum { LEAST_ROOM = 1 << 16 }; /* bytes; most requests fail with less */
-enum { SQLITE_LOCKS = 1 << 30, SQLITE_LOCKS_SIZE = 512 }; /* the bytes of a database that SQLite locks */
+enum { FIRST_PAUSE = 50, LONGEST_PAUSE = 5000, LOOK_PAUSE = 10, LATER_LOOK_PAUSE = 100 }; /* milliseconds */
+enum { MOST_FAILED_LIVES = 10 };
 
 static bool in_background;
 
 void say(const char *form, ...) {
-  char line[LINE_SIZE + 2 * PATH_MAX];
+  char line[LINE_SIZE + 3 * PATH_MAX];
   va_list words;
   va_start(words, form);
   vsnprintf(line, sizeof line, form, words);
@@ -47,129 +33,17 @@ bool refused(const char *what) {
   return false;
 }
 
-static long long now(void) {
+long long now(void) {
   struct timespec at;
   clock_gettime(CLOCK_MONOTONIC, &at);
   return at.tv_sec * 1000LL + at.tv_nsec / 1000000;
 }
-
-/* The last line that a server wrote to its standard error, which is the lock's file. */
-static const char *last_line(int lock) {
-  static char text[LINE_SIZE];
-  off_t end = lseek(lock, 0, SEEK_END), begin = end < LINE_SIZE ? 0 : end - LINE_SIZE + 1;
-  ssize_t length = pread(lock, text, sizeof text - 1, begin);
-  while (length > 0 && text[length - 1] == '\n') length--;
-  text[length > 0 ? length : 0] = '\0';
-  char *before = strrchr(text, '\n');
-  return before ? before + 1 : text;
-}
-
-/* How a process ended, and the last line that it wrote. */
-static const char *ending(const struct supervisor *s, int status) {
-  static char text[LINE_SIZE + 64];
-  const char *line = last_line(s->lock);
-  int number = WIFSIGNALED(status) ? WTERMSIG(status) : WEXITSTATUS(status);
-  const char *kind = WIFSIGNALED(status) ? "killed by signal" : "status";
-  snprintf(text, sizeof text, "%s %d%s%s", kind, number, *line ? ": " : "", line);
-  return text;
-}
-
-/* What a mount requires. */
 
 static bool find_mountpoint(struct supervisor *s, const char *mountpoint) {
   struct stat found;
   if (!realpath(mountpoint, s->mountpoint) || stat(s->mountpoint, &found) != 0) return refused(mountpoint);
   if (!S_ISDIR(found.st_mode)) say("%s: not a directory", mountpoint);
   return S_ISDIR(found.st_mode);
-}
-
-static bool unwritable(const char *path) {
-  say("%s can't be written: %s", path, strerror(errno));
-  return false;
-}
-
-/* Whether another process has a database locked, as a server does while it runs. */
-static bool is_held(int file) {
-  struct flock held = {.l_type = F_WRLCK, .l_whence = SEEK_SET, .l_start = SQLITE_LOCKS, .l_len = SQLITE_LOCKS_SIZE};
-  return fcntl(file, F_OFD_GETLK, &held) == 0 && held.l_type != F_UNLCK;
-}
-
-/* Creates the store's file if it is missing (an empty file is no store yet), so that it has one real path, and takes the lock
- * beside it. The servers get the lock's file as their standard error. So a server that outlives this process holds the lock. */
-static bool hold_store(struct supervisor *s, const char *store) {
-  char path[PATH_MAX + 8];
-  int file = open(store, O_RDWR | O_CREAT | O_CLOEXEC, 0644);
-  if (file < 0 || !realpath(store, s->store)) return unwritable(store);
-  snprintf(path, sizeof path, "%s" LOCK_SUFFIX, s->store);
-  s->lock = open(path, O_RDWR | O_CREAT | O_APPEND | O_CLOEXEC, 0644);
-  if (s->lock < 0) return unwritable(path);
-  for (int left = LOCK_TRIES; flock(s->lock, LOCK_EX | LOCK_NB) != 0; left--) {
-    if (errno != EWOULDBLOCK) return refused(path);
-    if (left == 0) return say("%s is mounted already: another fusekeep-mount holds %s", store, path), false;
-    poll(NULL, 0, LOCK_PAUSE);
-  }
-  bool held = is_held(file);
-  if (held) say("%s is held by another server, or by a program that has it open", store);
-  close(file);
-  return !held;
-}
-
-/* Says why an engine could not write, if the disk is full or the store's folder is read-only. */
-static void explain(const struct supervisor *s) {
-  char folder[PATH_MAX];
-  struct statvfs room;
-  strcpy(folder, s->store);
-  char *end = strrchr(folder, '/');
-  end[end == folder] = '\0';
-  if (access(folder, W_OK) != 0) unwritable(folder);
-  else if (statvfs(folder, &room) == 0 && room.f_bavail * room.f_frsize < LEAST_ROOM) say("%s has no room left", folder);
-}
-
-/* Children. */
-
-/* A child that dies with this process. It has a process group of its own, so that a terminal's signals reach this process alone.
- * Signals stay blocked until the child has joined its group. */
-static pid_t fork_child(void) {
-  pid_t parent = getpid(), child = fork();
-  if (child < 0) refused("fork");
-  if (child != 0) return child;
-  if (prctl(PR_SET_PDEATHSIG, SIGKILL) != 0 || getppid() != parent) _exit(CANNOT_RUN);
-  setpgid(0, 0);
-  return 0;
-}
-
-/* Restores the signals with which this process was called, before another program is executed. */
-static void give_back_signals(const struct supervisor *s) {
-  signal(SIGPIPE, SIG_DFL);
-  sigprocmask(SIG_SETMASK, &s->mask, NULL);
-}
-
-/* Runs `fusekeep serve`. */
-static pid_t start_engine(const struct supervisor *s, const char *mode, int device) {
-  if (ftruncate(s->lock, 0) != 0) refused("lock");
-  pid_t child = fork_child();
-  if (child != 0) return child;
-  if (dup2(s->lock, STDERR_FILENO) < 0) _exit(CANNOT_RUN);
-  if (dup2(device, STDIN_FILENO) < 0 || dup2(device, STDOUT_FILENO) < 0) _exit(CANNOT_RUN);
-  close_range(FIRST_OTHER, ~0U, 0);
-  give_back_signals(s);
-  execlp(s->engine, "fusekeep", "serve", "--db", s->store, mode, s->wary ? "--wary" : NULL, NULL);
-  dprintf(STDERR_FILENO, "%s: %s\n", s->engine, strerror(errno));
-  _exit(CANNOT_RUN);
-}
-
-/* Begins a mount in the store. Returns this program's exit status; unless it is 0, the engine's line was written. */
-static int begin_in_store(const struct supervisor *s) {
-  int status, null = open("/dev/null", O_RDWR | O_CLOEXEC);
-  pid_t engine = start_engine(s, "--fresh", null);
-  close(null);
-  if (engine < 0 || waitpid(engine, &status, 0) != engine) return FAILED;
-  if (WIFEXITED(status) && WEXITSTATUS(status) == 0) return 0;
-  const char *line = last_line(s->lock);
-  if (WIFEXITED(status) && *line) dprintf(STDERR_FILENO, "%s\n", line);
-  else say("the engine ended, %s", ending(s, status));
-  explain(s);
-  return WIFEXITED(status) ? WEXITSTATUS(status) : FAILED;
 }
 
 /* Asks for the root's attributes, which are answered after the first INIT. */
@@ -181,136 +55,63 @@ static pid_t start_probe(const struct supervisor *s) {
   _exit(stat(s->mountpoint, &root) == 0 ? 0 : errno);
 }
 
-/* A field of the table of mounts, in which blanks and some other characters are written as three octal digits. getmntent(3)
- * doesn't decode the one for #. */
-static char *plain(char *field) {
-  char *to = field;
-  unsigned byte;
-  for (const char *from = field; *from; to++) {
-    bool is_octal = sscanf(from, "\\%3o", &byte) == 1;
-    *to = is_octal ? (char)byte : *from;
-    from += is_octal ? 4 : 1;
-  }
-  *to = '\0';
-  return field;
-}
-
-/* Whether this store is the last file system mounted on the mountpoint. */
-static bool is_on_top(const struct supervisor *s) {
-  char *line = NULL, *rest;
-  size_t size = 0;
-  bool is_own = false;
-  FILE *table = fopen("/proc/self/mounts", "re");
-  if (!table) return true;
-  while (getline(&line, &size, table) > 0) {
-    char *source = strtok_r(line, " ", &rest), *place = strtok_r(NULL, " ", &rest), *kind = strtok_r(NULL, " ", &rest);
-    if (!kind || strcmp(plain(place), s->mountpoint) != 0) continue;
-    is_own = strcmp(kind, "fuse.fusekeep") == 0 && strcmp(plain(source), s->store) == 0;
-  }
-  free(line);
-  fclose(table);
-  return is_own;
-}
-
-/* Unmounts in a child, since servers must go on meanwhile. A mount in use is detached, and ends with its last user. Another file
- * system mounted in its place stays. */
-static pid_t start_unmounting(const struct supervisor *s) {
-  pid_t child = fork_child();
-  if (child != 0) return child;
-  close_range(FIRST_OTHER, ~0U, 0);
-  if (!is_on_top(s)) {
-    say("%s isn't mounted on %s any more: it is served until nobody uses it", s->store, s->mountpoint);
-    _exit(0);
-  }
-  if (geteuid() != 0) {
-    execlp("fusermount3", "fusermount3", "-u", "-z", "--", s->mountpoint, NULL);
-    _exit(errno);
-  }
-  if (umount2(s->mountpoint, 0) == 0) _exit(0);
-  if (errno != EBUSY) _exit(errno);
-  say("%s is in use: it is detached, and served until nobody uses it", s->mountpoint);
-  _exit(umount2(s->mountpoint, MNT_DETACH) == 0 ? 0 : errno);
-}
-
-/* The mount. */
-
-static bool mount_as_root(struct supervisor *s) {
-  char data[OPTIONS_SIZE + 128];
-  s->device = open("/dev/fuse", O_RDWR | O_CLOEXEC);
-  if (s->device < 0) return refused("/dev/fuse");
-  snprintf(data, sizeof data, "fd=%d,rootmode=40000,user_id=%u,group_id=%u,default_permissions%s",
-           s->device, getuid(), getgid(), s->data);
-  return mount(s->store, s->mountpoint, "fuse.fusekeep", s->flags, data) == 0 || refused(s->mountpoint);
-}
-
-/* The descriptor that fusermount3 sends, or -1 where it sends none. */
-static int received_descriptor(int socket) {
-  char byte;
-  union { struct cmsghdr head; char bytes[CMSG_SPACE(sizeof(int))]; } control;
-  struct iovec piece = {.iov_base = &byte, .iov_len = 1};
-  struct msghdr message = {.msg_iov = &piece, .msg_iovlen = 1, .msg_control = &control, .msg_controllen = sizeof control};
-  int device = -1;
-  if (recvmsg(socket, &message, MSG_CMSG_CLOEXEC) != 1) return -1;
-  struct cmsghdr *head = CMSG_FIRSTHDR(&message);
-  if (head && head->cmsg_type == SCM_RIGHTS) memcpy(&device, CMSG_DATA(head), sizeof device);
-  return device;
-}
-
-/* The words for fusermount3. In the source's name a comma or a backslash is marked. */
-static void put_words(const struct supervisor *s, char *out) {
-  out += sprintf(out, "default_permissions,subtype=fusekeep%s,fsname=", s->options);
-  for (const char *from = s->store; *from; *out++ = *from++)
-    if (*from == ',' || *from == '\\') *out++ = '\\';
-  *out = '\0';
-}
-
-static bool mount_by_fusermount(struct supervisor *s) {
-  char words[OPTIONS_SIZE + 2 * PATH_MAX + 64], number[16];
-  int ends[2], status;
-  if (socketpair(AF_UNIX, SOCK_STREAM | SOCK_CLOEXEC, 0, ends) != 0) return refused("socketpair");
-  pid_t child = fork_child();
-  if (child == 0) {
-    give_back_signals(s);
-    put_words(s, words);
-    snprintf(number, sizeof number, "%d", dup(ends[1]));
-    setenv("_FUSE_COMMFD", number, 1);
-    execlp("fusermount3", "fusermount3", "-o", words, "--", s->mountpoint, NULL);
-    refused("fusermount3");
-    _exit(CANNOT_RUN);
-  }
-  close(ends[1]);
-  s->device = child < 0 ? -1 : received_descriptor(ends[0]);
-  close(ends[0]);
-  if (child > 0 && waitpid(child, &status, 0) == child && status != 0) say("fusermount3 didn't mount %s", s->mountpoint);
-  return s->device >= 0;
-}
-
-/* Whether the connection has ended. */
-static bool has_ended(const struct supervisor *s) {
-  struct pollfd device = {.fd = s->device};
-  return poll(&device, 1, 0) == 1 && device.revents & POLLERR;
-}
-
 /* Supervision. */
 
-/* A server ended, or could not be started. After each short life in a row the pause before the next server doubles. */
-static void server_ended(struct supervisor *s, int status) {
-  bool is_short = now() - s->started < SHORT_LIFE;
-  int pause = is_short ? FIRST_PAUSE << s->short_lives : 0;
-  if (pause > LONGEST_PAUSE) pause = LONGEST_PAUSE;
-  s->short_lives = is_short ? s->short_lives + 1 : 0;
-  s->last_status = status;
-  s->next_start = now() + pause;
+/* Says how a server ended, and when the next one runs. */
+static void say_end(const struct supervisor *s, int status, long long pause) {
   const char *how = ending(s, status);
   if (has_ended(s)) say("server %d ended, %s", s->server, how);
-  else if (s->short_lives < MOST_SHORT_LIVES) say("server %d ended, %s; the next one runs in %d ms", s->server, how, pause);
+  else if (s->failed_lives < MOST_FAILED_LIVES) say("server %d ended, %s; the next one runs in %lld ms", s->server, how, pause);
+}
+
+/* A server ended for lack of room: the reserve gives the next one some. Without it calls wait. */
+static void wait_for_room(struct supervisor *s) {
+  s->next_start = now();
+  if (give_up_reserve(s)) return;
+  s->next_start += FULL_PAUSE;
+  if (!s->is_full) say("%s has no room left: calls wait until there is room", folder_of(s));
+  s->is_full = true;
+}
+
+/* A server ended, or could not be started. After each failed life in a row the pause before the next server doubles. */
+static void server_ended(struct supervisor *s, int status) {
+  if (s->asked != 0 && (status == 0 || WIFSIGNALED(status))) write_death(s, s->asked - s->death.ended);
+  if (status != 0) note_death(s, status);
+  s->last_status = status;
+  if (!WIFSIGNALED(status) && !has_ended(s) && lacks_room(s)) {
+    wait_for_room(s);
+  } else {
+    bool failed = has_failed(s, status);
+    long long pause = failed ? FIRST_PAUSE << s->failed_lives : now() - s->started < SHORT_LIFE ? FIRST_PAUSE : 0;
+    if (pause > LONGEST_PAUSE) pause = LONGEST_PAUSE;
+    s->failed_lives = failed ? s->failed_lives + 1 : 0;
+    s->next_start = now() + pause;
+    say_end(s, status, pause);
+  }
   s->server = 0;
 }
 
 static void start_server(struct supervisor *s) {
+  if (!can_start(s)) {
+    s->next_start = now() + FULL_PAUSE;
+    return;
+  }
   s->started = now();
+  s->asked = 0;
+  s->mark = mark_log(s);
   s->server = start_engine(s, "--resume", s->device);
   if (s->server < 0) server_ended(s, W_EXITCODE(CANNOT_RUN, 0));
+}
+
+/* What is looked for while a server runs: that it has asked for the pending requests, and that there is room again. There is if the
+ * reserve was made again, or if the server goes on with less. */
+static void look_at_server(struct supervisor *s) {
+  keep_reserve(s);
+  if (!has_asked(s)) return;
+  write_death(s, s->asked - s->death.ended);
+  if (!s->is_full || (!s->has_reserve && now() - s->started < FULL_PAUSE)) return;
+  s->is_full = false;
+  say("there is room again: %s is served", s->store);
 }
 
 /* Reports that the mount is ready, and continues in the background. Later lines go to the system's log. */
@@ -335,6 +136,11 @@ static void stop(struct supervisor *s) {
 /* The probe has the root's attributes, or an error. */
 static void probe_ended(struct supervisor *s, int status) {
   s->probe = 0;
+  if (WIFSIGNALED(status) && !s->stop_requested) {
+    say("the process that asked for the root was killed by signal %d: another one asks", WTERMSIG(status));
+    s->probe = start_probe(s);
+    if (s->probe > 0) return;
+  }
   s->ready = status == 0;
   if (!s->ready && !s->stop_requested) say("%s doesn't answer: %s", s->mountpoint, strerror(WEXITSTATUS(status)));
   if (s->ready && s->foreground) say("%s is mounted on %s", s->store, s->mountpoint);
@@ -350,6 +156,7 @@ static void unmounter_ended(struct supervisor *s, int status) {
 
 static void reap(struct supervisor *s) {
   int status;
+  has_asked(s);
   for (pid_t child; (child = waitpid(-1, &status, WNOHANG)) > 0;) {
     if (child == s->server) server_ended(s, status);
     else if (child == s->probe) probe_ended(s, status);
@@ -357,14 +164,17 @@ static void reap(struct supervisor *s) {
   }
 }
 
-/* Waits for a signal and, while no server runs, for the end of the connection and for the time of the next server. While a server
- * runs the device isn't polled, since each request would wake this process. */
-static void await_event(struct supervisor *s) {
+/* The milliseconds until this process must look for itself; below 0 where only events wake it. */
+static int pause_before_look(const struct supervisor *s) {
+  long long until = s->next_start - now();
+  if (s->server == 0) return until > 0 ? (int)until : 0;
+  if (s->asked == 0) return now() - s->started < SHORT_LIFE ? LOOK_PAUSE : LATER_LOOK_PAUSE;
+  return s->is_full || !s->has_reserve ? FULL_PAUSE : -1;
+}
+
+static void take_signal(struct supervisor *s) {
   struct signalfd_siginfo event;
-  struct pollfd awaited[] = {{.fd = s->signals, .events = POLLIN}, {.fd = s->device}};
-  long long pause = s->next_start - now();
-  if (poll(awaited, s->server ? 1 : 2, s->server ? -1 : pause > 0 ? (int)pause : 0) <= 0) return;
-  if (!(awaited[0].revents & POLLIN) || read(s->signals, &event, sizeof event) != sizeof event) return;
+  if (read(s->signals, &event, sizeof event) != sizeof event) return;
   if (event.ssi_signo == SIGCHLD) {
     reap(s);
   } else {
@@ -373,12 +183,24 @@ static void await_event(struct supervisor *s) {
   }
 }
 
+/* Waits for a signal, for a change of the store's files and, while no server runs, for the end of the connection and for the time
+ * of the next server. While a server runs the device isn't polled, since each request would wake this process. */
+static void await_event(struct supervisor *s) {
+  struct pollfd awaited[] = {{.fd = s->signals, .events = POLLIN}, {.fd = s->watch, .events = POLLIN}, {.fd = s->device}};
+  int count = poll(awaited, s->server ? 2 : 3, pause_before_look(s));
+  if (count > 0 && awaited[0].revents & POLLIN) take_signal(s);
+  if (count > 0 && awaited[1].revents & POLLIN) look_at_files(s);
+  if (s->server > 0) look_at_server(s);
+}
+
 /* Closes the last descriptor, which ends the connection and all waiting calls. A mount that was ready stays in its place and
  * answers with errors, so that nobody mistakes the directory under it for the store. */
 static int give_up(struct supervisor *s) {
-  const char *how = ending(s, s->last_status);
-  say("gave up: %d servers in a row lived less than a second, the last one ended with %s", s->short_lives, how);
+  if (s->trouble == REMOVED) say("gave up: %s was removed", s->store);
+  else say("gave up: %d servers in a row ended before their first commit, the last one with %s",
+           s->failed_lives, ending(s, s->last_status));
   explain(s);
+  write_death(s, -1);
   close(s->device);
   if (s->ready || s->is_unmounted) return FAILED;
   if (s->probe > 0) waitpid(s->probe, NULL, 0);
@@ -393,10 +215,11 @@ static int supervise(struct supervisor *s) {
   if (s->probe < 0) stop(s);
   for (;;) {
     if (s->server == 0 && has_ended(s)) break;
-    if (s->short_lives == MOST_SHORT_LIVES) return give_up(s);
+    if (s->failed_lives == MOST_FAILED_LIVES || (s->server == 0 && s->trouble == REMOVED)) return give_up(s);
     if (s->server == 0 && now() >= s->next_start) start_server(s);
     await_event(s);
   }
+  write_death(s, -1);
   say("the connection of %s has ended", s->mountpoint);
   return s->ready || s->stop_requested ? 0 : FAILED;
 }
@@ -415,11 +238,12 @@ static bool take_signals(struct supervisor *s) {
 }
 
 static int run(struct supervisor *s, const char *store, const char *mountpoint) {
-  if (!find_engine(s) || !find_mountpoint(s, mountpoint) || !hold_store(s, store)) return FAILED;
-  int status = begin_in_store(s);
-  if (status != 0) return status;
-  if (!take_signals(s) || !(geteuid() == 0 ? mount_as_root(s) : mount_by_fusermount(s))) return FAILED;
-  return supervise(s);
+  if (!find_engine(s) || !find_mountpoint(s, mountpoint)) return FAILED;
+  int status = hold_store(s, store) ? begin_in_store(s) : FAILED;
+  if (status == 0) watch_store(s);
+  if (status == 0 && take_signals(s) && mount_store(s)) return supervise(s);
+  leave_no_trace(s);
+  return status == 0 ? FAILED : status;
 }
 
 /* Waits until the background process reports that the mount is ready, or has ended. */

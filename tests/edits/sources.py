@@ -97,7 +97,7 @@ class Sources:
     def naming(self, name, home):
         """The functions that name a constant, or another constant that names it; unless it is public, only those of its own file."""
         word = re.compile(rf"\b{name}\b")
-        names = lambda file, first, last: any(word.search(it) for it in self.lines[file][first : last + 1])
+        names = lambda file, first, last: word.search(without_strings("\n".join(self.lines[file][first : last + 1])))
         found = {path for file, path, first, last in self.items(self.functions) if names(file, first, last)}
         above = {(other, file) for file, other, first, last in self.items(self.constants) if other != name and names(file, first, last)}
         found = found.union(*(self.naming(*it) for it in above))
@@ -164,6 +164,11 @@ class Sources:
             found |= inside | named_in
             checked |= inside or {self.shortest(named_in)}
         return found, checked
+
+
+def without_strings(text):
+    """A source without the texts in it, which name nothing."""
+    return re.sub(r'"(?:[^"\\]|\\.)*"', '""', text.replace("'\"'", "''"), flags=re.S)
 
 
 def added_function(old, new):

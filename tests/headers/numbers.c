@@ -80,6 +80,7 @@ static void opcodes(void)
 	NUMBER(FUSE_ACCESS);
 	NUMBER(FUSE_CREATE);
 	NUMBER(FUSE_FALLOCATE);
+	NUMBER(FUSE_READDIRPLUS);
 	NUMBER(FUSE_LSEEK);
 	NUMBER(FUSE_COPY_FILE_RANGE);
 }
@@ -118,6 +119,11 @@ static void bits(void)
 	NUMBER(FATTR_KILL_SUIDGID);
 	NUMBER(FUSE_ASYNC_READ);
 	NUMBER(FUSE_BIG_WRITES);
+	NUMBER(FUSE_DO_READDIRPLUS);
+	NUMBER(FUSE_READDIRPLUS_AUTO);
+	NUMBER(FUSE_PARALLEL_DIROPS);
+	NUMBER(FUSE_CACHE_SYMLINKS);
+	NUMBER(FOPEN_KEEP_CACHE);
 #ifdef FUSE_INIT_EXT
 	NUMBER(FUSE_INIT_EXT);
 #else
@@ -145,6 +151,7 @@ static void bits(void)
 	NUMBER(S_IFBLK);
 	NUMBER(S_IFIFO);
 	NUMBER(S_IFSOCK);
+	NUMBER(S_ISGID);
 }
 
 static void others(void)
@@ -157,6 +164,11 @@ static void others(void)
 #else
 	LACKS(FUSE_KERNEL_MINOR_VERSION);
 	LACKS(FUSE_NOTIFY_RESEND);
+#endif
+#if FUSE_KERNEL_MINOR_VERSION >= 44
+	NUMBER(FUSE_NOTIFY_INC_EPOCH);
+#else
+	LACKS(FUSE_NOTIFY_INC_EPOCH);
 #endif
 	NUMBER(FUSE_ROOT_ID);
 	NUMBER(FUSE_NAME_OFFSET);
@@ -388,6 +400,9 @@ static void answers(void)
 #else
 	LACKS(fuse_init_out.max_stack_depth);
 #endif
+	/* an entry of READDIRPLUS is one of LOOKUP, and then one of READDIR, as PlusEntries of fuse_answer says */
+	_Static_assert(FUSE_NAME_OFFSET_DIRENTPLUS == sizeof(struct fuse_entry_out) + FUSE_NAME_OFFSET, "fuse_direntplus");
+	_Static_assert(offsetof(struct fuse_direntplus, dirent) == sizeof(struct fuse_entry_out), "fuse_direntplus");
 	FIELD(fuse_dirent, ino);
 	FIELD(fuse_dirent, off);
 	FIELD(fuse_dirent, namelen);

@@ -39,7 +39,7 @@ round() {
   if [ "$3" = stop ]; then
     kill -TERM "$supervisor"
     python3 "$here/killer.py" "$supervisor" 5 || status=1
-    expect "it is detached" isnt_mounted "$PWD/mnt" || status=1
+    await 60 isnt_mounted "$PWD/mnt" || status=1
     end_workers && ended 0 || return 1
   else
     end_workers && compare_tree && unmount_and_end mnt || return 1
@@ -79,6 +79,27 @@ kills() {
   python3 -m mount.kills work mnt store "$supervisor" "${kills:-20}" "$seed" models && unmount_and_end mnt || return 1
   python3 -m mount.kills compare-left store models && start store mnt log-next || return 1
   python3 -m mount.kills compare mnt models && unmount_and_end mnt && python3 -m mount.kills compare-next store models
+}
+
+# The same random operations on a mount and in a tmpfs give the same, while servers are killed. Each mount has room for so many operations.
+differential() {
+  local left=$operations number=1 part killer status
+  mkdir other && mount -t tmpfs none other || return 1
+  while [ "$left" -gt 0 ]; do
+    part=$((left < operations_of_a_mount ? left : operations_of_a_mount))
+    start store mnt "log-$number" || return 1
+    python3 "$here/killer.py" "$supervisor" 1000000 0.5 2>/dev/null &
+    killer=$!
+    record "$killer"
+    python3 -m mount.differ work mnt other plain "$seed-$number" "$part"
+    status=$?
+    kill "$killer" 2>/dev/null
+    [ "$status" -eq 0 ] && unmount_and_end mnt || return 1
+    start store mnt "log-$number-next" && python3 -m mount.differ compare mnt other && unmount_and_end mnt || return 1
+    left=$((left - part))
+    number=$((number + 1))
+  done
+  umount other
 }
 
 # Of five servers four die as they enter a call of one kind for the Nth time, and one is killed after more than a second.
@@ -123,4 +144,55 @@ at_calls() {
   await 400 has_lives 40 || return 1
   kill "$killer"
   end_workers && compare_tree && unmount_and_end mnt && compare_again log-again && stop_and_end
+}
+
+# Any number of kills ends no mount, whether processes work on it or none does.
+kills_without_end() {
+  start store mnt log && python3 "$here/killer.py" "$supervisor" 15 0.4 || return 1
+  start_workers
+  python3 "$here/killer.py" "$supervisor" 15 0.4 || return 1
+  end_workers && compare_tree || return 1
+  expect "it didn't give up" [ "$(grep -c "gave up" log) $(kills_in log)" = "0 30" ] || return 1
+  unmount_and_end mnt
+}
+
+# The deaths of servers are listed beside the store, with the time and how long the next one took.
+deaths() {
+  local line='^20[0-9-]*T[0-9:]*[.][0-9]{3}Z'
+  write_broken_engine
+  start store mnt log && python3 "$here/killer.py" "$supervisor" 3 0.5 && ls mnt && unmount_and_end mnt || return 1
+  expect "three were killed" [ "$(grep -cE "$line signal=9 lived=[0-9]+[.][0-9]{3} restart=[0-9]+[.][0-9]{3}\$" store-mount.log)" -eq 3 ] || return 1
+  expect "that is all" [ "$(wc -l <store-mount.log)" -eq 3 ] || return 1
+  start store mnt log-broken && touch broken && kill -KILL "$("$program" --server store)" && ended 1 || return 1
+  expect "one was killed" [ "$(grep -cE "$line signal=9 lived=[0-9.]+ restart=-\$" store-mount.log)" -eq 1 ] || return 1
+  expect "ten ended" [ "$(grep -cE "$line status=3 lived=[0-9.]+ restart=- store: Damaged\$" store-mount.log)" -eq 10 ] || return 1
+  umount -l mnt
+}
+
+# The process that asks for the root is killed before the first server serves: another one asks.
+killed_probe() {
+  cat >slow-engine <<END
+#!/bin/sh
+[ "\$4" != --resume ] || until [ -e "$PWD/may-serve" ]; do sleep 0.1; done
+exec "$engine" "\$@"
+END
+  chmod +x slow-engine
+  FUSEKEEP=$PWD/slow-engine "$program" -f store mnt 2>log &
+  supervisor=$!
+  record "$supervisor"
+  await 120 has_probe || return 1
+  kill -KILL "$probe"
+  await 120 grep -q "the process that asked for the root was killed by signal 9: another one asks" log || return 1
+  touch may-serve
+  await 120 grep -q "is mounted on" log && unmount_and_end mnt
+}
+
+# Whether the supervisor has two children: a server, and the process that asks for the root.
+has_probe() {
+  local child has_server=
+  probe=
+  for child in $(cat "/proc/$supervisor/task/$supervisor/children"); do
+    if has_word "$child" --resume; then has_server=1; else probe=$child; fi
+  done
+  [ -n "$has_server" ] && [ -n "$probe" ]
 }

@@ -1,9 +1,9 @@
 #!/usr/bin/env python3
 """Kills the servers of a fusekeep-mount by SIGKILL: killer.py SUPERVISOR KILLS [SHORTEST]
 
-After ten short lives in a row the supervisor gives up. So of each five servers four are killed at any moment of their first 300 ms,
-even before they serve, and one after more than a second. With SHORTEST only servers are killed that have lived for this many
-seconds; then it goes on until the supervisor has ended."""
+After ten servers in a row that were killed before they asked for the pending requests the supervisor gives up. So of each five servers
+four are killed at any moment of their first 300 ms, even before they ask, and one more than a second after it asked. With SHORTEST
+each is killed so many seconds after it asked; then it goes on until the supervisor has ended."""
 import os
 import random
 import select
@@ -11,7 +11,8 @@ import signal
 import sys
 import time
 
-PATIENCE = 120.0  # seconds until the next server must be there
+PATIENCE = 120.0  # seconds until the next server must be there, or have asked
+NOTICE = 16  # bytes that a server writes when it asks
 
 
 def parent_of(process):
@@ -43,6 +44,24 @@ def next_server(supervisor, last):
     sys.exit(f"killer: no server was there for {PATIENCE:.0f} s")
 
 
+def written_by(process):
+    """The bytes that a process has written; None where it has ended, or where they aren't counted."""
+    try:
+        with open(f"/proc/{process}/io") as counts:
+            return next((int(line.split()[1]) for line in counts if line.startswith("wchar:")), None)
+    except OSError:
+        return None
+
+
+def await_asking(server):
+    """Waits until a server has asked for the pending requests, or has ended."""
+    begin = time.monotonic()
+    while (written := written_by(server)) is not None and written < NOTICE:
+        if time.monotonic() - begin > PATIENCE:
+            sys.exit(f"killer: server {server} asked for nothing for {PATIENCE:.0f} s")
+        time.sleep(0.005)
+
+
 def kill(supervisor, server, waits=False):
     """Whether it was killed, and not another process of that number. With `waits` it has ended, which closed its files."""
     try:
@@ -71,10 +90,10 @@ def main():
     made, last = 0, None
     while made < kills:
         last = next_server(supervisor, last)
-        if shortest:
-            time.sleep(shortest)
-        else:
-            time.sleep(1.05 + random.random() / 5 if made % 5 == 4 else random.random() * 0.3)
+        is_long = shortest or made % 5 == 4
+        if is_long:
+            await_asking(last)
+        time.sleep(shortest or (1.05 + random.random() / 5 if is_long else random.random() * 0.3))
         made += kill(supervisor, last)
 
 

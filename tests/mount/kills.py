@@ -8,7 +8,7 @@
 
 Each writer has a directory of its own and a model of it (model.py). A step is one call that changes the tree, or none, and no step may
 fail. Some servers live for some milliseconds, so that the next one is killed while it resumes, some for a third of a second, and each
-fifth at the latest for more than a second: after ten short lives in a row the supervisor gives up.
+fifth at the latest for more than a second after it asked for the pending requests: after ten that didn't ask the supervisor gives up.
 
 Now and then the supervisor is stopped while its server is killed, and a copy of the store and its log, as the dead server left them, is
 read by SQL: each writer's tree is the model's before the step that it waits in or after it. Now and then the writers pause, and
@@ -24,7 +24,7 @@ import threading
 import time
 
 from mount import model as m
-from mount.killer import kill, next_server
+from mount.killer import await_asking, kill, next_server
 from mount.writer import Writer
 
 WRITERS = 3
@@ -140,6 +140,8 @@ class Run:
         whole = None
         while self.killed < self.kills:
             last, seconds = next_server(self.supervisor, last), next(lives)
+            if seconds > 1:
+                await_asking(last)
             time.sleep(seconds)
             looks = self.killed % look_each == look_each - 1
             if (self.look if looks else self.end)(last):

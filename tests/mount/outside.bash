@@ -115,3 +115,79 @@ unit_stops() {
   sh stops "$PWD/mnt"
   expect "a dead one goes" isnt_mounted "$PWD/mnt"
 }
+
+# Starts a call that waits for the next server, in the background.
+start_waiting() {
+  mkdir "mnt/$1" &
+  waiting=$!
+  record "$waiting"
+  sleep 1
+  expect "the call waits" kill -0 "$waiting"
+}
+
+# The store gets a second name while it is mounted: the line comes at once, and calls wait from the server's end until that name is removed.
+hard_link() {
+  start store mnt log && ln store twice || return 1
+  await 10 grep -q "store has another name (a hard link), so no server can open it: remove that name" log || return 1
+  mkdir mnt/before && kill -KILL "$("$program" --server store)" && start_waiting after && rm twice || return 1
+  expect "the call succeeds" wait "$waiting" || return 1
+  expect "both are there" [ "$(ls mnt | xargs)" = "after before" ] || return 1
+  unmount_and_end mnt
+}
+
+moved_store() {
+  start store mnt log && mv store elsewhere || return 1
+  await 10 grep -q "/store was moved to $PWD/elsewhere: no server can open it until it is back" log || return 1
+  mkdir mnt/before && kill -KILL "$(server_by_parent)" && start_waiting after && mv elsewhere store || return 1
+  expect "the call succeeds" wait "$waiting" || return 1
+  expect "both are there" [ "$(ls mnt | xargs)" = "after before" ] || return 1
+  unmount_and_end mnt
+}
+
+# The server, by its parent: without the store's file --server doesn't find it.
+server_by_parent() {
+  local child
+  for child in $(cat "/proc/$supervisor/task/$supervisor/children"); do
+    ! has_word "$child" --resume || echo "$child"
+  done
+}
+
+# The store is removed while it is mounted: its bytes and its log are copied from the descriptors that the line names.
+removed_store() {
+  start store mnt log && mkdir mnt/before && rm store || return 1
+  await 10 grep -q "/store was removed while it was mounted: until its server ends, .* has its log" log || return 1
+  mkdir mnt/after || return 1
+  cp "$(grep -o '/proc/[0-9]*/fd/[0-9]* has its bytes' log | cut -d ' ' -f 1)" copy || return 1
+  cp "$(grep -o '/proc/[0-9]*/fd/[0-9]* has its log' log | cut -d ' ' -f 1)" copy-wal || return 1
+  kill -KILL "$(server_by_parent)"
+  ended 1 || return 1
+  expect "it says why" grep -q "gave up: .*/store was removed" log || return 1
+  umount -l mnt && start copy mnt log-copy || return 1
+  expect "both are there" [ "$(ls mnt | xargs)" = "after before" ] || return 1
+  unmount_and_end mnt
+}
+
+# The log is removed while the store is mounted: it is written anew, and no call fails.
+removed_log() {
+  start store mnt log && echo one >mnt/one && rm store-wal && await 10 grep -q "/store-wal was removed" log && echo two >mnt/two || return 1
+  expect "the log is there" [ -s store-wal ] || return 1
+  kill -KILL "$("$program" --server store)" || return 1
+  expect "both files are there" [ "$(cat mnt/one mnt/two | xargs)" = "one two" ] || return 1
+  unmount_and_end mnt && start store mnt log-again || return 1
+  expect "both files are still there" [ "$(cat mnt/one mnt/two | xargs)" = "one two" ] || return 1
+  unmount_and_end mnt
+}
+
+# A mount that another namespace has too: after an unmount here it is served on, and the next mount is refused with a line that names the
+# process there.
+other_namespace() {
+  start store mnt log || return 1
+  unshare --mount --propagation private sleep 120 &
+  local sleeper=$!
+  record "$sleeper"
+  await 10 sh -c 'grep -q sleep "/proc/$0/comm"' "$sleeper" || return 1
+  umount mnt || return 1
+  refuses 1 ".*/store is mounted already: process $supervisor serves it, and process $sleeper .sleep. has the mount in its namespace" "$program" store || return 1
+  kill "$sleeper"
+  ended 0 && start store mnt log-again && unmount_and_end mnt
+}

@@ -1,17 +1,24 @@
 # Phases of tests/mount/run: refused mounts, and a store whose disk gets full. Each runs in a folder of its own.
 
-# Runs fusekeep-mount, which must end with this status, print this line, and mount nothing, before the pauses between ten servers would
-# end (16 seconds): refuses STATUS LINE WORD..
+# Runs fusekeep-mount, which must end with this status, print this line, mount nothing, and leave no file that wasn't there, before the
+# pauses between ten servers would end (16 seconds): refuses STATUS LINE WORD..
 refuses() {
-  local status=$1 line=$2 began ended
+  local status=$1 line=$2 began ended before
   shift 2
+  before=$(files_here)
   began=$(date +%s)
   timeout -k 1 60 "$@" mnt 2>line
   ended=$?
   expect "the status is $status (it is $ended)" [ "$ended" -eq "$status" ] || return 1
   expect "before any pause" [ $(($(date +%s) - began)) -le 10 ] || return 1
   expect "it says: $line (it says: $(cat line))" grep -qxE "$line" line || return 1
+  expect "it leaves the files: $before (it leaves: $(files_here))" [ "$(files_here)" = "$before" ] || return 1
   expect "nothing is mounted" isnt_mounted "$PWD/mnt"
+}
+
+# The files of this folder and those below it, but for what this test writes and what is mounted.
+files_here() {
+  find . -xdev -not -path './mnt/*' -not -name line -not -name said | sort | xargs
 }
 
 refusals() {
@@ -27,10 +34,14 @@ refusals() {
   expect "no lock is made" [ ! -e store-mount ] || return 1
   printf 'this is no store, and was never one' >junk
   refuses 3 "store: NotAStore" "$program" junk || return 1
-  mkdir first
+  mkdir first below
+  refuses 1 ".*: No such file or directory" "$program" no-folder/store || return 1
+  refuses 1 ".*: mnt/store lies below $PWD/mnt, which would hide it" "$program" mnt/store || return 1
+  touch twice && ln twice twice-again
+  refuses 1 ".*: twice has another name .a hard link.: remove that name first" "$program" twice || return 1
   start store first log || return 1
   ln -s store other-name
-  refuses 1 ".*other-name is mounted already: .*" "$program" other-name || return 1
+  refuses 1 ".*/store is mounted already: process $supervisor serves it on $PWD/first" "$program" other-name || return 1
   expect "the first one goes on" mkdir first/a || return 1
   stop_and_end
 }
@@ -48,7 +59,7 @@ held_store() {
   record "$server"
   exec 9>silence
   await 120 is_locked store || return 1
-  refuses 1 "fusekeep-mount: store is held by another server, or by a program that has it open" "$program" store || return 1
+  refuses 1 "fusekeep-mount: store is held by process $server .fusekeep., another server or a program that has it open" "$program" store || return 1
   "$engine" serve --db store --resume </dev/null 2>line
   expect "the engine's status is 3" [ $? -eq 3 ] || return 1
   expect "the engine reports it" [ "$(cat line)" = "store: Sql" ] || return 1
@@ -92,24 +103,63 @@ compare_pieces() {
   done
 }
 
-has_ended_servers() {
-  [ "$(grep -c "status 3" log)" -ge "$1" ]
+# Whether the log of the supervisor has this line so many times.
+has_lines() {
+  [ "$(grep -c "$2" log)" -eq "$1" ]
 }
 
-# While the disk is full calls wait; they go on once there is room. Where it stays full they return an error, and once there is room all
-# answered writes are there.
+# Whether it was said that calls wait, and each time then that there is room again.
+has_room_again() {
+  grep -oE "calls wait|room again" log | xargs | grep -qxE "(calls wait room again ?)+"
+}
+
+# While the disk is full calls wait, without end. They go on once there is room, and the reserve is made again. The disk may get full
+# again at once.
 full_disk() {
-  mkdir disk && mount -t tmpfs -o size=2m none disk && start disk/store mnt log || return 1
+  mkdir disk && mount -t tmpfs -o size=8m none disk && start disk/store mnt log || return 1
+  expect "there is a reserve" [ "$(stat -c '%s %a' disk/store-reserve)" = "1048576 600" ] || return 1
   write_pieces &
-  local writer=$!
+  local writer=$! written_before
   record "$writer"
-  await 120 has_ended_servers 3 && mount -o remount,size=6m disk || return 1
+  await 120 has_lines 1 "disk has no room left: calls wait until there is room" || return 1
+  expect "the reserve was given up" [ ! -e disk/store-reserve ] || return 1
+  expect "it was said once" has_lines 1 "disk/store-reserve is given up" || return 1
+  sleep 5
+  written_before=$(cat written)
+  sleep 30
+  expect "the writer waits" [ "$(cat written)" = "$written_before" ] && kill -0 "$writer" || return 1
+  mount -o remount,size=16m disk && sleep 10 && mount -o remount,size=1g disk && await 120 has_room_again || return 1
+  touch enough
   wait "$writer"
-  expect "at last a write fails" [ $? -ne 0 ] || return 1
-  ended 1 || return 1
-  expect "it names the reason" grep -q "disk has no room left" log || return 1
-  expect "more was written than had room at first" [ "$(cat written)" -gt 20 ] || return 1
-  umount -l mnt
+  expect "no write failed" [ $? -eq 0 ] || return 1
+  expect "more was written than had room at first" [ "$(cat written)" -gt "$written_before" ] || return 1
+  compare_pieces && unmount_and_end mnt || return 1
+  expect "it was said each time" has_room_again || return 1
+  expect "the reserve is made again" [ -e disk/store-reserve ] || return 1
+  start disk/store mnt log-again && compare_pieces && unmount_and_end mnt && umount disk
+}
+
+# Fills a disk to its last byte.
+fill() {
+  cat /dev/zero >"$1" 2>line
+  expect "the disk is full" grep -q "No space left" line
+}
+
+has_no_handles() {
+  "$engine" store "$1" | grep -qx handles=0
+}
+
+# A store on a disk that has become full keeps its reserve when it is unmounted. It is mounted, and files are removed from it. The second
+# time there is no reserve.
+full_mount() {
+  mkdir disk && mount -t tmpfs -o size=8m none disk && start disk/store mnt log || return 1
+  piece 1 >mnt/1 && piece 2 >mnt/2 && await 60 has_no_handles disk/store && fill disk/filler && unmount_and_end mnt || return 1
+  expect "an unmount leaves the reserve" [ -e disk/store-reserve ] || return 1
+  start disk/store mnt log-full && piece 2 | cmp - mnt/2 && rm mnt/1 || return 1
+  expect "it names the reserve" grep -q "disk has no room left: .*disk/store-reserve is given up" log-full || return 1
+  stop_and_end && fill disk/filler-too || return 1
   refuses 3 "fusekeep-mount: .*disk has no room left" "$program" disk/store || return 1
-  mount -o remount,size=64m disk && start disk/store mnt log-again && compare_pieces && unmount_and_end mnt && umount disk
+  rm disk/filler && start disk/store mnt log-again && piece 2 | cmp - mnt/2 || return 1
+  expect "the file that was removed is gone" [ "$(ls mnt)" = 2 ] || return 1
+  unmount_and_end mnt && umount disk
 }

@@ -65,6 +65,25 @@ def refusals():
         yield Case(f"version 1 without row {key} of meta", first, (f"DELETE FROM meta WHERE k = {key}",), "store: Damaged")
 
 
+# Node 5, handle 3, entry 9 and lot 1 are there, each below its counter.
+COUNTED = ("INSERT INTO lots VALUES (1)", "INSERT INTO kept VALUES (2, 1, 2, x'')", "UPDATE meta SET v = 2 WHERE k = 11",
+           "INSERT INTO nodes SELECT 5, 33188, 0, 0, 0, 0, 0, 0, 0, 0, 0, 0, 1, 0", "INSERT INTO entries VALUES (9, 1, x'61', 5)",
+           "INSERT INTO handles VALUES (3, 5, 2)", "UPDATE meta SET v = 6 WHERE k = 2", "UPDATE meta SET v = 4 WHERE k = 3",
+           "UPDATE meta SET v = 10 WHERE k = 4", "UPDATE meta SET v = 2 WHERE k = 5", "UPDATE meta SET v = 1 WHERE k = 6")
+
+
+def lies():
+    """Counters of `meta` at or below a number that is there."""
+    for key, what, most in ((2, "node", 5), (3, "fh", 3), (4, "cookie", 9), (11, "lot", 1)):
+        for number in sorted({most, most - 1, 0}):
+            change = f"UPDATE meta SET v = {number} WHERE k = {key}"
+            yield Case(f"the next {what} is {number}, and {most} is there", of_version(2), (*COUNTED, change), "store: Damaged")
+    for key, what, most in ((2, "node", 2), (4, "cookie", 3)):
+        for number in (most, most - 1):
+            change = f"UPDATE meta SET v = {number} WHERE k = {key}"
+            yield Case(f"version 1, the next {what} is {number}, and {most} is there", of_version(1), (change,), "store: Damaged")
+
+
 def below_zero():
     """Versions below 0, which are reported by their bits."""
     for number, bits in ((-1, (1 << 64) - 1), (-(1 << 63), 1 << 63)):
@@ -195,6 +214,25 @@ def try_beside(tally, room):
         tally.compare("others' tables beside ours: they stay", theirs, theirs_in(path))
 
 
+def try_index(tally, room):
+    """A store of version 2 without its index gets it, and then is as one that had it. `store` and `ls` leave it without."""
+    for number, words in enumerate(OPENINGS):
+        whole = store_with(room, f"indexed-{number}")
+        path = store_with(room, f"not-indexed-{number}", "DROP INDEX entries_in_order")
+        left = content_of(path)
+        ended = [run(path, words)[1], run(whole, words)[1]]
+        tally.compare(f"no index, {' '.join(words[:1] + words[3:4])}: how it ends", [[0], [0]], ended)
+        tally.compare(f"no index, {' '.join(words[:1] + words[3:4])}: what it leaves", content_of(whole) if number < 3 else left, content_of(path))
+
+
+def try_counted(tally, room):
+    """A store whose counters are each one above what is there opens."""
+    for number, words in enumerate((OPENINGS[0], OPENINGS[1], OPENINGS[3])):
+        path = f"{room}/counted-{number}"
+        make(Case("counted", of_version(2), COUNTED, ""), path, False)
+        tally.compare(f"counters above what is there, {' '.join(words[:1])}", [0], run(path, words)[1])
+
+
 # A block of the letter y, and the bytes that a file of x or y has.
 OF_Y = "UPDATE blocks SET bytes = CAST(replace(hex(zeroblob(2048)), '0', 'y') AS BLOB)"
 
@@ -218,13 +256,15 @@ def try_past_size(tally, room):
 def main():
     tally = Tally()
     with tempfile.TemporaryDirectory(dir=quick_folder()) as folder:
-        for number, case in enumerate([*refusals(), *below_zero()]):
+        for number, case in enumerate([*refusals(), *lies(), *below_zero()]):
             room = f"{folder}/{number}"
             os.mkdir(room)
             try_refusal(tally, case, room)
         os.mkdir(f"{folder}/opened")
         try_beside(tally, f"{folder}/opened")
         try_past_size(tally, f"{folder}/opened")
+        try_index(tally, f"{folder}/opened")
+        try_counted(tally, f"{folder}/opened")
     return print_counts("stores openings", tally.passed, tally.failed)
 
 

@@ -16,6 +16,7 @@ use Rattle.fuse_answer.specs.Entries.{Entry}
 use Rattle.fuse_answer.specs.FurtherAnswers.{statfs_bytes}
 use Rattle.fuse_answer.specs.Laws.{RecordSizes}
 use Rattle.fuse_answer.specs.Said.{Said, FitsAnswer}
+use Rattle.fuse_init.specs.declared.profile.Profile.TheVariants as profiles
 use Rattle.fuse_init.specs.Agree.{agree}
 use Rattle.fuse_init.specs.declared.negotiation.Negotiated.{Negotiated}
 use Rattle.fuse_init.specs.declared.negotiation.Negotiated.TheVariants.{Agreed, Again, Refused}
@@ -151,7 +152,7 @@ init_fits sizes (Again out) = given _ (omega (arith, sizes.4 out))
 init_fits sizes (Refused errno) = refused errno
 
 offered_fits : RecordSizes → (agreed : Option Settings) (asked : Asked) (offer : Option InitIn) → FitsAnswer (said_offered agreed asked offer)
-offered_fits sizes agreed asked (Some offer) = init_fits sizes (agree offer)
+offered_fits sizes agreed asked (Some offer) = init_fits sizes (agree profiles.Plain offer)
 offered_fits sizes None asked None = refused _
 offered_fits sizes (Some settings) asked None = agreed_fits sizes asked (names_node asked.act)
 

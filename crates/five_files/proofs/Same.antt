@@ -2,6 +2,7 @@
 use Rattle.std.proofs.Common.{◌≡◌, true, [], ◌∷◌, Option, Some, None, is_some, refl}
 use Rattle.fuse_request.specs.declared.request.InitIn.{InitIn}
 use Rattle.fuse_request.specs.Act.{Asked}
+use Rattle.fuse_init.specs.declared.profile.Profile.TheVariants as profiles
 use Rattle.fuse_init.specs.Agree.{agree}
 use Rattle.fuse_init.specs.declared.negotiation.Negotiated.{Negotiated}
 use Rattle.fuse_init.specs.declared.negotiation.Negotiated.TheVariants.{Agreed, Again, Refused}
@@ -26,7 +27,7 @@ some_by s (Again out) some = some
 some_by s (Refused errno) some = some
 
 some_offered : (s : Option Settings) (offer : Option InitIn) → is_some s ≡ true → is_some (agreed_offered s offer) ≡ true
-some_offered s (Some offer) some = some_by s (agree offer) some
+some_offered s (Some offer) some = some_by s (agree profiles.Plain offer) some
 some_offered s None some = some
 
 pub some_next : (s : Option Settings) (asked : Asked) → is_some s ≡ true → is_some (agreed_after s asked) ≡ true

@@ -52,15 +52,15 @@ few_marks s g worked marks later e =
     omega (arith, ap length e, length-append (replies marks) later, length-map marks (λ (m : Mark). m.reply), length-map worked (answered the_files s g))
 
 -- what messages leave answers as it did since INIT
-pub lived_same : (k : KeeperState the_files) (at : Standing the_files) (x : Exchange) (part : List ℕ) → Lived the_files at x (HoldsAt k) part
+pub lived_same : (k : KeeperState the_files) (at : Standing the_files) (x : Exchange) (answer : List ℕ) → Lived the_files at x (HoldsAt k) answer
     → StayAsAgreed k at x
-lived_same k at x part lived = λ n few some.
+lived_same k at x answer lived = λ n few some.
     let s = at.state in
     let h = at.history in
     let timed = x.timed in
     let g : History = grown h (kept_in serves_further lived.worked) in
     let f : History = grown h (kept_in serves_further (take n timed)) in
-    let within : n ≤ length lived.worked = omega (arith, few, few_marks s g lived.worked x.marks lived.later lived.sent) in
+    let within : n ≤ length lived.worked = omega (arith, few, few_marks s g lived.worked x.marks lived.sent.later lived.sent.first) in
     let first : take n timed ≡ take n lived.worked = ap (take n) lived.parts ∙ take-append-le n lived.worked lived.unprocessed within in
     let grows : grown f (kept_in serves_further (drop n lived.worked)) ≡ g =
     ap (λ (xs : List Timed). grown (grown h (kept_in serves_further xs)) (kept_in serves_further (drop n lived.worked))) first

@@ -16,6 +16,7 @@ use Rattle.fuse_request.specs.Act as acts
 use Rattle.fuse_request.specs.Opcodes.{OpcodeSet}
 use Rattle.fuse_answer.specs.Said.{Said}
 use Rattle.fuse_answer.specs.Bodies.{init_bytes}
+use Rattle.fuse_init.specs.declared.profile.Profile.TheVariants as profiles
 use Rattle.fuse_init.specs.Agree.{agree}
 use Rattle.fuse_init.specs.declared.negotiation.Negotiated.{Negotiated}
 use Rattle.fuse_init.specs.declared.negotiation.Negotiated.TheVariants.{Agreed, Again, Refused}
@@ -167,7 +168,7 @@ offer_of _ = None
 
 -- INIT is answered always, and all else where settings are agreed on
 abbrev pub said_offered : Option Settings → Asked → Option InitIn → Said
-said_offered agreed asked (Some offer) = said_init (agree offer)
+said_offered agreed asked (Some offer) = said_init (agree profiles.Plain offer)
 said_offered agreed asked None = if is_some agreed then said_agreed asked else refuse eproto
 
 unfoldable pub said : Option Settings → Asked → Said
@@ -181,7 +182,7 @@ agreed_by agreed (Again out) = agreed
 agreed_by agreed (Refused errno) = agreed
 
 abbrev pub agreed_offered : Option Settings → Option InitIn → Option Settings
-agreed_offered agreed (Some offer) = agreed_by agreed (agree offer)
+agreed_offered agreed (Some offer) = agreed_by agreed (agree profiles.Plain offer)
 agreed_offered agreed None = agreed
 
 -- INIT alone changes anything

@@ -7,10 +7,11 @@ use Rattle.fuse_wire.specs.Layout.{Part, number, unused, text, bytes, Lays, HasF
 use Rattle.fuse_wire.specs.Laws.{NumbersRead, LayoutsStand}
 use Rattle.fuse_wire.specs.Written.{AllFit}
 use Rattle.fuse_answer.specs.inner.NoText.{HasNoText}
-use Rattle.fuse_answer.specs.Bodies.{header_parts, header_bytes}
+use Rattle.fuse_answer.specs.Bodies.{header_parts, header_bytes, attr_parts, entry_parts, entry_bytes}
 use Rattle.fuse_answer.specs.Laws.{BeginsWithLen}
 use Rattle.fuse_answer.specs.Wire.{negated, wire, wire_head}
 use Rattle.fuse_answer.specs.declared.records.OutHeader.{OutHeader}
+use Rattle.fuse_answer.specs.declared.records.EntryOut.{EntryOut}
 
 pub form-append : (ps qs : List Part) → form (ps ++ qs) ≡ form ps ++ form qs
 form-append [] qs = refl
@@ -68,3 +69,30 @@ len_first laws errno body unique short =
       four = omega arith;
       fits = omega arith;
     }
+
+-- ---- entries
+
+-- the parts before the attributes
+abbrev pub entry_first : EntryOut → List Part
+entry_first e =
+    number 8 e.nodeid ∷ number 8 e.generation ∷ number 8 e.entry_valid ∷ number 8 e.attr_valid
+    ∷ number 4 e.entry_valid_nsec ∷ number 4 e.attr_valid_nsec ∷ []
+
+-- they are appended, and then the attributes
+pub entry_put : (e : EntryOut) (old middle new : List ℕ) → middle ≡ old ++ form (entry_first e) → new ≡ middle ++ form (attr_parts e.attr)
+    → new ≡ old ++ entry_bytes e
+unfolding entry_bytes
+entry_put e old middle new first last =
+    last ∙ ap (λ (x : List ℕ). x ++ form (attr_parts e.attr)) first ∙ append_assoc old (form (entry_first e)) (form (attr_parts e.attr))
+    ∙ ap (λ (x : List ℕ). old ++ x) (sym (form-append (entry_first e) (attr_parts e.attr)))
+
+pub entry_fits : (e : EntryOut) → AllFit (entry_first e) → AllFit (attr_parts e.attr) → AllFit (entry_parts e)
+entry_fits e h g = (h.0, (h.1.0, (h.1.1.0, (h.1.1.1.0, (h.1.1.1.1.0, (h.1.1.1.1.1.0, g))))))
+
+pub entry_len : LayoutsStand → (e : EntryOut) → length (entry_bytes e) ≡ 128
+unfolding entry_bytes
+entry_len laws e = laws.form_len (entry_parts e)
+
+pub entry_laid : LayoutsStand → (e : EntryOut) → AllFit (entry_parts e) → Lays (entry_parts e) (entry_bytes e)
+unfolding entry_bytes
+entry_laid laws e fits = laws.formed (entry_parts e) (has-form (entry_parts e) tt fits)

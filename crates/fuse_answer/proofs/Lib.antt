@@ -3,4 +3,5 @@ pub mod Readings
 pub mod Listings
 pub mod Answering
 pub mod Packings
+pub mod PlusPackings
 pub mod ReadingBack

@@ -6,7 +6,7 @@ use Rattle.std.proofs.lemmas.List.{append-nil, take_more, take-take, length-appe
 use Rattle.std.proofs.lemmas.List.Sums.{sum_by-cons, sum_by_more, sum_by-take-le}
 use Rattle.fuse_wire.specs.Layout.{form, HasForm}
 use Rattle.fuse_wire.specs.Laws.{LayoutsStand}
-use Rattle.fuse_answer.specs.Entries.{Entry, IsNamed, dirent_parts, Lists, packed_len, entries_bytes, IsLongest}
+use Rattle.fuse_answer.specs.Entries.{Entry, IsNamed, dirent_parts, Lists, packed_len, entries_bytes, IsLongest, IsLongestBy}
 
 pub length_entries : LayoutsStand → (es : List Entry) → length (entries_bytes es) ≡ sum_by packed_len es
 length_entries laws [] = refl
@@ -53,22 +53,32 @@ filled_more laws es size n body new e within is f named has room put =
       fits = omega (arith, ap length put, length-append body b, len, room, f.fits);
     }
 
--- the next entry doesn't fit, so no more do
-pub longest_before : (es : List Entry) (size n : ℕ) (body : List ℕ) (e : Entry) → n < length es → get_or es n e ≡ e → Filled es size n body
-    → size - length body < packed_len e → IsLongest es size n
-longest_before es size n body e within is f big =
-    let total = sum_by_more packed_len es n e within ∙ ap (λ (x : Entry). sum_by packed_len (take n es) + packed_len x) is in
+-- the first n take so many bytes, and the next one doesn't fit, so no more do
+pub longest_first : {A : Type 0} (len : A → ℕ) (es : List A) (size n total : ℕ) (e : A) → n < length es → get_or es n e ≡ e
+    → total ≡ sum_by len (take n es) → total ≤ size → size - total < len e → IsLongestBy len es size n
+longest_first {A} len es size n total e within is put fit big =
+    let more = sum_by_more len es n e within ∙ ap (λ (x : A). sum_by len (take n es) + len x) is in
     record {
       within = omega (arith, within);
-      fits = omega (arith, f.len, f.fits);
+      fits = omega (arith, put, fit);
       longest = λ m _ fits. elim (cases_lt n m) [
         | inl lt ↦ (let part : take (n + 1) (take m es) ≡ take (n + 1) es = take-take (n + 1) m es (omega (arith, lt)) in
-            let low = sum_by-take-le packed_len (take m es) (n + 1) in
-            absurd (omega (arith, ap (sum_by packed_len) part, low, total, fits, f.len, f.fits, big)))
+            let low = sum_by-take-le len (take m es) (n + 1) in
+            absurd (omega (arith, ap (sum_by len) part, low, more, fits, put, fit, big)))
         | inr le ↦ le
       ];
     }
 
+-- they all fit
+pub longest_whole : {A : Type 0} (len : A → ℕ) (es : List A) (size n total : ℕ) → n ≡ length es
+    → total ≡ sum_by len (take n es) → total ≤ size → IsLongestBy len es size n
+longest_whole len es size n total all put fit = record { within = omega (arith, all); fits = omega (arith, put, fit); longest = λ m few _. omega (arith, few, all) }
+
+-- the next entry doesn't fit, so no more do
+pub longest_before : (es : List Entry) (size n : ℕ) (body : List ℕ) (e : Entry) → n < length es → get_or es n e ≡ e → Filled es size n body
+    → size - length body < packed_len e → IsLongest es size n
+longest_before es size n body e within is f big = longest_first packed_len es size n (length body) e within is f.len f.fits big
+
 -- all fit
 pub longest_all : (es : List Entry) (size n : ℕ) (body : List ℕ) → n ≡ length es → Filled es size n body → IsLongest es size n
-longest_all es size n body all f = record { within = omega (arith, all); fits = omega (arith, f.len, f.fits); longest = λ m few _. omega (arith, few, all) }
+longest_all es size n body all f = longest_whole packed_len es size n (length body) all f.len f.fits

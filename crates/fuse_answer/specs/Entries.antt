@@ -57,13 +57,19 @@ abbrev pub entries_bytes : List Entry → List ℕ
 entries_bytes [] = []
 entries_bytes (e ∷ es) = form (dirent_parts e) ++ entries_bytes es
 
--- the first n entries fit into size, and no more of them do
-pub record IsLongest (es : List Entry) (size n : ℕ) : Type 0 where
+-- by the length of each entry: the first n fit into size, and no more of them do
+pub record IsLongestBy {A : Type 0} (len : A → ℕ) (es : List A) (size n : ℕ) : Type 0 where
   pub within : n ≤ length es
-  pub fits : sum_by packed_len (take n es) ≤ size
-  pub longest : (m : ℕ) → m ≤ length es → sum_by packed_len (take m es) ≤ size → m ≤ n
+  pub fits : sum_by len (take n es) ≤ size
+  pub longest : (m : ℕ) → m ≤ length es → sum_by len (take m es) ≤ size → m ≤ n
+
+abbrev pub IsLongest : List Entry → ℕ → ℕ → Type 0
+IsLongest es size n = IsLongestBy packed_len es size n
 
 -- there is a first entry, and it doesn't fit
+abbrev pub FirstIsTooBigBy : {A : Type 0} → (A → ℕ) → List A → ℕ → Type 0
+FirstIsTooBigBy len [] size = ⊥
+FirstIsTooBigBy len (e ∷ es) size = size < len e
+
 abbrev pub FirstIsTooBig : List Entry → ℕ → Type 0
-FirstIsTooBig [] size = ⊥
-FirstIsTooBig (e ∷ es) size = size < packed_len e
+FirstIsTooBig es size = FirstIsTooBigBy packed_len es size

@@ -4,6 +4,7 @@ pub mod Bodies
 pub mod Wire
 pub mod Notice
 pub mod Entries
+pub mod PlusEntries
 pub mod FirstEntry
 pub mod Replies
 pub mod Laws

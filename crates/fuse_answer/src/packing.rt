@@ -36,7 +36,7 @@ impl From<Memory> for PackFault {
 }
 
 // Appends an entry and its padding.
-fn put_dirent(out: &mut Vec<u8>, dirent: &Dirent<'_>) -> Result<(), Memory>
+pub(crate) fn put_dirent(out: &mut Vec<u8>, dirent: &Dirent<'_>) -> Result<(), Memory>
     requires { IsNamed (entry_of dirent.now) }
     ensures { Puts (dirent_parts (entry_of dirent.now)) out.old.items out.new.items result }
 {

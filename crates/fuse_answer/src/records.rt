@@ -1,6 +1,6 @@
-ghost use Rattle.std.specs.Prelude.{◌≡◌, ◌++◌, length, IfOk};
+ghost use Rattle.std.specs.Prelude.{◌≡◌, ◌++◌, length, IfOk, OnOk};
 ghost use Rattle.fuse_wire.specs.Layout.{HasForm, Lays, form, widths};
-ghost use Rattle.fuse_wire.specs.Written.{Puts, laid};
+ghost use Rattle.fuse_wire.specs.Written.{AllFit, Puts, laid};
 ghost use Rattle.fuse_answer.specs.inner.NoText.{HasNoText};
 ghost use Rattle.fuse_answer.specs.Bodies.{header_parts, attr_parts, entry_parts, attr_out_parts};
 ghost use Rattle.fuse_answer.specs.Bodies.{open_parts, write_parts, header_bytes, attr_bytes};
@@ -168,22 +168,35 @@ impl EntryOut {
     /// The bytes that it takes.
     pub const SIZE: usize = 128;
 
+    // Appends the bytes. An `Err` may leave a part of them.
+    pub(crate) fn put(&self, out: &mut Vec<u8>) -> Result<(), Memory>
+        ensures bytes { OnOk result (out.new.items ≡ out.old.items ++ entry_bytes self.now) }
+        ensures fits { OnOk result (AllFit (entry_parts self.now)) }
+    {
+        put_fields(
+            out,
+            &[
+                U64(self.nodeid),
+                U64(self.generation),
+                U64(self.entry_valid),
+                U64(self.attr_valid),
+                U32(self.entry_valid_nsec),
+                U32(self.attr_valid_nsec),
+            ],
+        )?;
+        self.attr.put(out)
+    }
+
     /// The body of an answer to LOOKUP, MKNOD or MKDIR.
-    #[tactic(auto, unfolding(crate::specs::Bodies::entry_bytes))]
     pub fn body_of(&self, alloc: Global) -> Result<Vec<u8>, Memory>
         ensures bytes { IfOk result (λ body. body.items ≡ entry_bytes self.now) }
         ensures size { IfOk result (λ body. length body.items ≡ entry_out_size) }
         ensures laid { IfOk result (λ body. Lays (entry_parts self.now) body.items) }
     {
-        let first = [
-            U64(self.nodeid),
-            U64(self.generation),
-            U64(self.entry_valid),
-            U64(self.attr_valid),
-            U32(self.entry_valid_nsec),
-            U32(self.attr_valid_nsec),
-        ];
-        self.attr.body_after(alloc, EntryOut::SIZE, &first)
+        layouts_stand();
+        let mut body = Vec::with_capacity(alloc, EntryOut::SIZE)?;
+        self.put(&mut body)?;
+        Ok(body)
     }
 }
 

@@ -1,4 +1,4 @@
--- A keeper is as firm after the resend notice as before.
+-- A keeper is as firm after the notices of `resume` as before.
 use Rattle.std.proofs.Common.{sym, subst}
 use Rattle.fuse_keeper.specs.KeeperState.{WhereHeld, IsFirm}
 use Rattle.fuse_commands.specs.declared.serve.Begin.{Begin}

@@ -4,6 +4,7 @@ pub mod Dumps
 pub mod Faults
 pub mod Firmness
 pub mod Known
+pub mod Notices
 pub mod Lines
 pub mod Printed
 pub mod Rests

@@ -1,6 +1,6 @@
 -- The runs of scripts, and their output.
 use Rattle.std.proofs.Common.{◌≡◌, ◌⊎◌, inl, inr, refl, Bool, true, false, ℕ, zero, suc, ◌+◌, ◌<◌, ◌≤◌, List, [], ◌∷◌, ◌++◌, take, drop, map, get_or, length, All}
-use Rattle.std.proofs.Common.{Option, Some, None, sym, ap, subst, ◌∙◌, Result, Ok, Err, append_assoc}
+use Rattle.std.proofs.Common.{Option, Some, None, sym, ap, subst, ◌∙◌, Result, Ok, Err, append_assoc, arith}
 use Rattle.std.specs.Prelude.{IfSome, IfOk, IfErr, OnOk, IsSomeAnd, slice_get}
 use Rattle.std.specs.List.{AllByRecursion}
 use Rattle.std.specs.Io.KnownBytes.{Appends, Consumes, IsAtEnd}
@@ -15,14 +15,16 @@ use Rattle.fuse_keeper.specs.Model.{Model, IsRowed}
 use Rattle.fuse_keeper.specs.History.{History, after}
 use Rattle.fuse_keeper.specs.Performance.{Performance, IsPerformanceLog}
 use Rattle.fuse_keeper.specs.Stands.{Records}
-use Rattle.fuse_keeper.specs.KeeperState.{KeeperState, StandsFor, KeepsHeld, IsSound, IsFirm, WhereHeld, Looked, Reports}
+use Rattle.fuse_keeper.specs.KeeperState.{KeeperState, StandsFor, KeepsHeld, IsSound, IsFirm, IsCount, WhereHeld, Looked, Reports}
 use Rattle.fuse_sim.specs.declared.event.Event.{Event}
 use Rattle.fuse_sim.specs.declared.event.Outcome.{Outcome}
 use Rattle.fuse_sim.specs.declared.event.DriveFault.{DriveFault}
 use Rattle.fuse_sim.specs.declared.event.DriveFault.TheVariants.{NotAMessage, ZeroUnique, Store, Memory}
 use Rattle.fuse_sim.specs.Driving.{IsFit, CausedBy, Names, StandsIn, OfRestart, AnsweredBy, is_store, settles, committed, outcome_of, settled_by, bytes_given}
 use Rattle.fuse_sim.specs.Driving.{NoneReused, told_in, became_in, performed_in, Opened, deaths, before, event_of, LeftBy}
+use Rattle.fuse_sim.specs.AfterEvents.{DeletesHanded}
 use Rattle.fuse_sim.specs.HandedOn.{performances, AsksUpTo, AskedSome}
+use Rattle.fuse_sim.specs.LeftRecords.{RecordsLeft, HoldsRecords}
 use Rattle.fuse_sim.specs.Twice.{Seen}
 use Rattle.fuse_commands.specs.declared.ending.Ending.{Ending}
 use Rattle.fuse_commands.specs.declared.simulate.Simulation.{Simulation}
@@ -136,6 +138,34 @@ asked_all performed (Some a) left k k' asked log is so last =
     let there : performed a k asked = subst (λ o. performed_in performed (Some a) o asked) is so in
     subst (performed a k') (append-nil asked) (log.onward a k k' asked [] there last)
 
+-- a look at the end opens nothing
+opened_on : {K : Type 0} (became : K → K → ℕ → Type 0) → IsCount became → (o : Option K) (k k' : K) (n : ℕ) → became_in became o (Some k) n → became k k' 0
+    → became_in became o (Some k') n
+opened_on became count None k k' n is last = absurd is
+opened_on became count (Some a) k k' n is last =
+    let all : n + 0 ≡ n = omega arith in
+    subst (became a k') all (count.then a k k' n 0 is last)
+
+pub opened_all : {M : Model} {K : Type 0} (told : K → KeeperState M) (became : K → K → ℕ → Type 0) (old left : Option K) (k k' : K) (events : List Event)
+    → IsCount became → left ≡ Some k → ((told k').is_honest → (told k).is_honest) → became k k' 0 → Opened told became old left events
+    → Opened told became old (Some k') events
+opened_all told became old left k k' events count is honest last opened =
+    let so = subst (λ o. Opened told became old o events) is opened in
+    record {
+      often = opened_on became count old k k' (deaths events) so.often last;
+      each = λ at dies.
+          let one = so.each at dies in
+          record {
+            left = one.left;
+            opened = one.opened;
+            before = one.before;
+            once = one.once;
+            after = opened_on became count one.opened k k' (deaths at.later) one.after last;
+            kept = λ now. one.kept (honest now);
+            stood = λ now. one.stood (honest now);
+          };
+    }
+
 -- ---- what is left
 
 -- where the store is clean, it is honest
@@ -167,9 +197,10 @@ pub fault_left : {M : Model} {K : Type 0} (k : Seen M K) (old new : Option K) (e
     → ((s : M.State) (h : History) (t : List ℕ) → StandsIn k.told old s h t → NoneReused M.serves t (before fault events)
     → LeftBy (told_in k.told new) (is_store fault) (StandsIn k.told new s (committed M.serves h (before fault events))
     (settled_by M.serves t (before fault events))))
+    → LeftBy (told_in k.told new) (is_store fault) (DeletesHanded k.told old new (performances M.serves (before fault events)) (before fault events))
     → (¬ (new ≡ None) → AskedSome k.performed old new (AsksUpTo M.serves events fault))
     → LeftBySome k old new events
-fault_left {M} k old new events fault sound stands asked = record {
+fault_left {M} k old new events fault sound stands records asked = record {
   first = before fault events;
   rest = drop (event_of fault) events;
   parts = sym (take-append-drop (event_of fault) events);
@@ -177,6 +208,9 @@ fault_left {M} k old new events fault sound stands asked = record {
       left_by (told_in k.told new) (is_store fault)
       (StandsIn k.told new s (committed M.serves [] (before fault events)) (settled_by M.serves [] (before fault events)))
       (stands s [] [] so none) clean (clean_in k.told sound new clean);
+  records = λ clean.
+      left_by (told_in k.told new) (is_store fault)
+      (DeletesHanded k.told old new (performances M.serves (before fault events)) (before fault events)) records clean (clean_in k.told sound new clean);
   asked = λ some. asks_first M.serves k.performed old new events fault (asked some);
 }
 
@@ -185,9 +219,9 @@ pub all_left : {M : Model} {K : Type 0} (k : Seen M K) (old left : Option K) (x 
     → left ≡ Some x → IsSound (k.told x') → ((k.told x').is_honest → (k.told x).is_honest) → ((k.told x').is_clean → KeepsHeld (k.told x) (k.told x'))
     → ((told_in k.told left).is_honest → (s : M.State) (h : History) (t : List ℕ) → StandsIn k.told old s h t → NoneReused M.serves t events
     → StandsIn k.told left s (committed M.serves h events) (settled_by M.serves t events))
-    → performed_in k.performed old (Some x') (performances M.serves events)
+    → DeletesHanded k.told old left (performances M.serves events) events → performed_in k.performed old (Some x') (performances M.serves events)
     → LeftBySome k old (Some x') events
-all_left {M} k old left x x' events is sound honest keeps stands asked = record {
+all_left {M} k old left x x' events is sound honest keeps stands records asked = record {
   first = events;
   rest = [];
   parts = sym (append-nil events);
@@ -195,6 +229,15 @@ all_left {M} k old left x x' events is sound honest keeps stands asked = record 
       let good : (told_in k.told left).is_honest = subst (λ o. (told_in k.told o).is_honest) (sym is) (honest (sound.clean_is_honest clean)) in
       stands_kept (k.told x) (k.told x') s (committed M.serves [] events) (settled_by M.serves [] events) (keeps clean)
       (subst (λ o. StandsAfter k.told o s events) is (stands good s [] [] so none));
+  records = λ clean good rows before held rowed.
+      let there = subst (λ o. DeletesHanded k.told old o (performances M.serves events) events) is records (honest good) rows before held rowed in
+      record {
+        rows = there.rows;
+        records = there.records;
+        held = keeps clean there.rows there.records there.held;
+        rowed = there.rowed;
+        left = there.left;
+      };
   asked = λ some. (
     performances M.serves events,
     record { first = events; rest = []; parts = sym (append-nil events); asked_are = refl },
@@ -226,18 +269,19 @@ pub ran : {M : Model} {K : Type 0} (k : Seen M K) (old new : Option K) (r : Resu
     → Went k.told old new s events simulation)
     → IfOk r (λ simulation. length simulation.outcomes.items ≡ length events)
     → IfOk r (λ simulation. BeginSo k.told old new events (map bytes_given simulation.outcomes.items))
-    → OnOk r (performed_in k.performed old new (performances M.serves events))
+    → OnOk r (performed_in k.performed old new (performances M.serves events)) → OnOk r (Opened k.told k.became old new events)
     → IfSome known (λ xs. script ≡ xs) → slice ≡ script → WritesAll (lines_of slice) items → events ≡ items
     → IfOk r (λ simulation. IfSome known (λ xs. RanScript k old new xs simulation))
-ran k old new (Err ending) known script slice items events went count begin asked all same described is = tt
-ran k old new (Ok simulation) None script slice items events went count begin asked all same described is = tt
-ran k old new (Ok simulation) (Some xs) script slice items events went count begin asked all same described is =
+ran k old new (Err ending) known script slice items events went count begin asked opened all same described is = tt
+ran k old new (Ok simulation) None script slice items events went count begin asked opened all same described is = tt
+ran k old new (Ok simulation) (Some xs) script slice items events went count begin asked opened all same described is =
     record {
       events = events;
       described = subst (λ x. WritesAll (lines_of x) events) (same ∙ all) (subst (WritesAll (lines_of slice)) (sym is) described);
       count = count;
       begin = begin;
       asked = asked;
+      opened = opened;
       went = went;
     }
 
@@ -347,6 +391,7 @@ simulated k keeper keeper' (Some script) simulation old new ran printed = λ sma
       described = ran.described;
       shown = λ honest s so none. shown k.told keeper keeper' old new s ran.events simulation (ran.went honest s so none) printed;
       asked = ran.asked;
+      opened = ran.opened;
       outcomes = map bytes_given simulation.outcomes.items;
       nodes = simulation.counts.nodes;
       handles = simulation.counts.handles;

@@ -1,4 +1,4 @@
--- What serving a port does: at Resume the resend notice, then a session (own profile).
+-- What serving a port does: at Resume the notices, then a session (own profile).
 use Rattle.std.specs.Prelude.{◌≡◌, ◌⊎◌, ℕ, true, List, [], Option, None, Ok, Err, OnOk}
 use Rattle.fuse_wire.specs.declared.moment.Moment.{Moment}
 use Rattle.fuse_keeper.specs.Model.{Model}
@@ -15,7 +15,7 @@ use Rattle.fuse_session.specs.Deeds.{Did}
 use Rattle.fuse_session.specs.DevicePort.{device_told}
 use Rattle.fuse_session.specs.Passage.{passage}
 use Rattle.fuse_session.specs.Session.{Session}
-use Rattle.fuse_session.specs.Resuming.{Resumed, NotResumed, NoticeHanded, of_store}
+use Rattle.fuse_session.specs.Resuming.{Resumed, NotResumed, of_store}
 use Rattle.fuse_commands.specs.declared.ending.Ending.{Ending}
 use Rattle.fuse_commands.specs.declared.serve.Begin.{Begin}
 use Rattle.fuse_commands.specs.declared.serve.Begin.TheVariants.{Fresh, Resume}
@@ -47,15 +47,14 @@ between keeper keeper' port port' = record { keeper = keeper; keeper' = keeper';
 abbrev pub most_turns : ℕ
 most_turns = 4294967295
 
--- the notice was handed to the port, and nothing else; the keeper holds the same, is as firm and was asked to perform nothing
+-- the notices were sent, and nothing else; the keeper holds the same, is as firm and was asked to perform nothing
 pub record Notified {M : Model} {K P : Type 0} (v : Views M K P) (b : Between K P) : Type 0 where
-  pub resumed : Resumed (v.keeper b.keeper) (v.keeper b.keeper') (v.port b.port) (v.port b.port')
+  pub resumed : Resumed (v.keeper b.keeper) (v.keeper b.keeper') (v.port b.port) (v.port b.port') (v.became b.port b.port')
   pub looked : Looked (v.keeper b.keeper) (v.keeper b.keeper') (of_store (Ok tt))
   pub firm : (v.keeper b.keeper').is_honest → WhereHeld (v.keeper b.keeper) (IsFirm (v.keeper b.keeper) → IsFirm (v.keeper b.keeper'))
-  pub handed : NoticeHanded (v.became b.port b.port') (Ok tt)
   pub unasked : v.performed b.keeper b.keeper' []
 
--- the notice before the session, at Resume
+-- the notices before the session, at Resume
 abbrev pub Begins : {M : Model} {K P : Type 0} → Begin → Views M K P → Between K P → Type 0
 Begins Resume v b = Notified v b
 Begins Fresh v b = (b.keeper' ≡ b.keeper) × (b.port' ≡ b.port)
@@ -72,22 +71,21 @@ pub record SessionServed {M : Model} {K P : Type 0} (v : Views M K P) (gave : Li
   pub ending_is : ending ≡ session_ending served.ended
   pub counts_are : counts ≡ served.counts
 
--- the ending of a command whose notice could not be sent
+-- the ending of a command whose notices could not be sent
 abbrev pub resume_ending : ResumeFault → Ending
 resume_ending resume.NotOffered = NotOffered
 resume_ending resume.PortFailed = PortFailed
 resume_ending (resume.Store fault) = store_ending fault
 
--- no session was served, since the notice could not be sent
+-- no session was served, since the notices could not be sent
 pub record NotServed {M : Model} {K P : Type 0} (v : Views M K P) (b : Between K P) (begin : Begin) (ending : Ending) (counts : Option SessionCounts)
     : Type 0 where
   pub resumes : begin ≡ Resume
   pub fault : ResumeFault
-  pub not_resumed : NotResumed (v.keeper b.keeper) (v.keeper b.keeper') (v.port b.port) (v.port b.port') fault
+  pub not_resumed : NotResumed (v.keeper b.keeper) (v.keeper b.keeper') (v.port b.port) (v.port b.port') (v.became b.port b.port') fault
   pub looked : Looked (v.keeper b.keeper) (v.keeper b.keeper') (of_store (Err fault))
   pub firm : OnOk (of_store (Err fault))
       ((v.keeper b.keeper').is_honest → WhereHeld (v.keeper b.keeper) (IsFirm (v.keeper b.keeper) → IsFirm (v.keeper b.keeper')))
-  pub handed : NoticeHanded (v.became b.port b.port') (Err fault)
   pub unasked : v.performed b.keeper b.keeper' []
   pub ending_is : ending ≡ resume_ending fault
   pub uncounted : counts ≡ None

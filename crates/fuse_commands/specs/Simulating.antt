@@ -11,7 +11,8 @@ use Rattle.fuse_keeper.specs.KeeperState.{KeeperState, IsFirm}
 use Rattle.fuse_sim.specs.declared.event.Event.{Event}
 use Rattle.fuse_sim.specs.declared.event.DriveFault.TheVariants.{Store}
 use Rattle.fuse_sim.specs.Driving.{committed, settled_by, outcome_of, NoneReused, told_in, became_in, performed_in, StandsIn, OutcomesBegin}
-use Rattle.fuse_sim.specs.Driving.{MayRefuse, OfRestart}
+use Rattle.fuse_sim.specs.Driving.{MayRefuse, OfRestart, Opened}
+use Rattle.fuse_sim.specs.AfterEvents.{DeletesHanded}
 use Rattle.fuse_sim.specs.HandedOn.{performances, AskedSome}
 use Rattle.fuse_sim.specs.Twice.{Seen}
 use Rattle.fuse_commands.specs.declared.ending.Ending.{Ending}
@@ -94,13 +95,14 @@ pub record StoppedIn {M : Model} {K : Type 0} (k : Seen M K) (old new : Option K
   pub asked : ¬ (new ≡ None) → AskedSome k.performed old new (AreOfFirst M.serves events)
   pub ended : (s : M.State) → StandsIn k.told old s [] [] → NoneReused M.serves [] events → StoreEnded k old new events ending
 
--- some of the first events were committed, and a keeper that is left and whose store is clean stands for these. It was asked to
--- perform just what first ones ask for: up to one group more, which its store refused
+-- some of the first events were committed, and a keeper that is left and whose store is clean stands for these and has the records that
+-- they leave. It was asked to perform just what first ones ask for: up to one group more, which its store refused
 pub record LeftBySome {M : Model} {K : Type 0} (k : Seen M K) (old new : Option K) (events : List Event) : Type 0 where
   pub first : List Event
   pub rest : List Event
   pub parts : events ≡ first ++ rest
   pub stands : (told_in k.told new).is_clean → (s : M.State) → StandsIn k.told old s [] [] → NoneReused M.serves [] first → StandsAfter k.told new s first
+  pub records : (told_in k.told new).is_clean → DeletesHanded k.told old new (performances M.serves first) first
   pub asked : ¬ (new ≡ None) → AskedSome k.performed old new (AreOfFirst M.serves events)
 
 -- so it is of the events of a script, however it ended
@@ -121,14 +123,16 @@ pub record Shown {M : Model} {K : Type 0} (told : K → KeeperState M) (old new 
   pub stands : StandsAfter told new s events
   pub firm : IsFirm (told_in told old) → IsFirm (told_in told new)
 
--- the events of a script were run to their end over the first keeper. A line for each was printed, and then the counts: those that the
--- events lead to, if no message comes again whose answer was taken, and up to such a one in any case
+-- the events of a script were run to their end over the first keeper, which was opened again wherever the server dies. A line for each
+-- was printed, and then the counts: those that the events lead to, if no message comes again whose answer was taken, and up to such a one
+-- in any case
 pub record SimulatedAll {M : Model} {K : Type 0} (k : Seen M K) (old new : Option K) (prints : List ℕ → Type 0) (script : List ℕ) : Type 0 where
   pub events : List Event
   pub described : WritesAll (lines_of script) events
   pub shown : (told_in k.told new).is_honest → (s : M.State) → StandsIn k.told old s [] [] → NoneReused M.serves [] events
       → Shown k.told old new prints s events
   pub asked : performed_in k.performed old new (performances M.serves events)
+  pub opened : Opened k.told k.became old new events
   pub outcomes : List (Option (List ℕ))
   pub nodes : ℕ
   pub handles : ℕ
@@ -140,3 +144,9 @@ pub record SimulatedAll {M : Model} {K : Type 0} (k : Seen M K) (old new : Optio
 abbrev pub Simulated : {M : Model} {K : Type 0} → Seen M K → Option K → Option K → (List ℕ → Type 0) → List ℕ → Ending → Type 0
 Simulated k old new prints script Done = SimulatedAll k old new prints script
 Simulated k old new prints script ending = NotRun script ending × (new ≡ old)
+
+-- the output of a script from a start, whatever keeper it was run over
+abbrev pub SimulatedFrom : (M : Model) → M.State → (List ℕ → Type 0) → List ℕ → Ending → Type 0
+SimulatedFrom M s prints script Done =
+    (events : List Event) × WritesAll (lines_of script) events × (NoneReused M.serves [] events → prints (simulation_text M s events))
+SimulatedFrom M s prints script ending = NotRun script ending

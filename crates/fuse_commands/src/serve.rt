@@ -20,11 +20,11 @@ use std::alloc::Global;
 pub enum Begin {
     /// A new mount, without records.
     Fresh,
-    /// The same mount goes on. First the resend notice is sent.
+    /// The same mount goes on. First the notices of `resume` are sent.
     Resume,
 }
 
-// The ending of a command whose notice could not be sent.
+// The ending of a command whose notices could not be sent.
 fn ending_of_resume(fault: ResumeFault) -> Ending
     ensures { result ≡ resume_ending fault }
 {
@@ -35,8 +35,12 @@ fn ending_of_resume(fault: ResumeFault) -> Ending
     }
 }
 
-// Sends the resend notice at `Begin::Resume`.
-fn send_notice<K: Keeper, P: Port>(keeper: &mut K, port: &mut P, begin: Begin) -> Result<(), Ending>
+// Sends the notices of `resume` at `Begin::Resume`.
+fn send_notices<K: Keeper, P: Port>(
+    keeper: &mut K,
+    port: &mut P,
+    begin: Begin,
+) -> Result<(), Ending>
     requires going { (K.told keeper.old).has_failed ≡ false }
     requires receives { (P.told port.old).receives < 2 ^ 62 }
     requires failures { (P.told port.old).failures < 2 ^ 62 }
@@ -61,8 +65,8 @@ fn send_notice<K: Keeper, P: Port>(keeper: &mut K, port: &mut P, begin: Begin) -
     }
 }
 
-/// Serves a port. At `Begin::Resume` it first sends the resend notice. Returns the ending, and the
-/// counts as the session has them.
+/// Serves a port. At `Begin::Resume` it first sends the notices of `resume`. Returns the ending, and
+/// the counts as the session has them.
 pub fn serve_port<K: Keeper, P: Port, C: Clock>(
     alloc: Global,
     keeper: &mut K,
@@ -83,7 +87,7 @@ pub fn serve_port<K: Keeper, P: Port, C: Clock>(
     ensures usage { status_of result.0 ≢ 2 }
     ensures same { K.became keeper.old keeper.new 0 }
 {
-    if let Err(ending) = send_notice(keeper, port, begin) {
+    if let Err(ending) = send_notices(keeper, port, begin) {
         return (ending, None);
     }
     let served = serve(alloc, keeper, port, clock, MAX_READS);
@@ -92,7 +96,7 @@ pub fn serve_port<K: Keeper, P: Port, C: Clock>(
 
 /// Serves a FUSE device, of which the reader and the writer are the two sides. One read is one
 /// message and one write one answer, so neither may have a buffer. At `Begin::Resume` it first sends
-/// the resend notice. Returns the ending, and the counts as the session has them.
+/// the notices of `resume`. Returns the ending, and the counts as the session has them.
 pub fn run_serve<K: Keeper, R: Source, W: Sink, C: Clock>(
     alloc: Global,
     keeper: &mut K,

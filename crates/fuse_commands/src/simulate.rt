@@ -3,7 +3,7 @@ ghost use Rattle.std.specs.Prelude.{◌≡◌, ◌≢◌, ◌⊎◌, ◌≤◌, 
 ghost use Rattle.std.specs.Prelude.{IsSomeAnd, IfSome, IfOk, IfErr, OnOk};
 ghost use Rattle.std.specs.Io.KnownBytes.{Appends};
 ghost use Rattle.fuse_sim.specs.Driving.{told_in, performed_in, StandsIn, NoneReused, IsFit};
-ghost use Rattle.fuse_sim.specs.Driving.{KeepsMedium, bytes_given};
+ghost use Rattle.fuse_sim.specs.Driving.{KeepsMedium, Opened, bytes_given};
 ghost use Rattle.fuse_sim.specs.HandedOn.{performances};
 ghost use Rattle.fuse_commands.specs.Endings.{status_of};
 ghost use Rattle.fuse_commands.specs.inner.Failing.{GaveOut};
@@ -52,6 +52,7 @@ fn run_events<K: Restart>(
         (map bytes_given simulation.outcomes.items)) }
     ensures asked { OnOk result (performed_in K.performed keeper.old keeper.new
         (performances K.model.serves events.now)) }
+    ensures opened { OnOk result (Opened K.told K.became keeper.old keeper.new events.now) }
     ensures medium { KeepsMedium K.told keeper.old keeper.new }
     ensures left { OnOk result (IsSomeAnd keeper.new (λ k. (K.told k).has_failed ≡ false)) }
     ensures err { IfErr result (λ ending. 3 ≤ status_of ending) }

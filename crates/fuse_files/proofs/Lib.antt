@@ -1,3 +1,9 @@
+mod Ends
 mod FileRuns
+mod InMemory
+mod Looks
+mod Opened
+mod Refused
 mod Served
+mod Summed
 mod Usage

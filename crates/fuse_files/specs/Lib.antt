@@ -1,3 +1,6 @@
 pub mod StoreLives
 pub mod StoreReplays
 pub mod StoreRuns
+pub mod StoreShown
+pub mod StoreSimulations
+pub mod inner

@@ -7,15 +7,21 @@ use Rattle.sqlite_store.specs.declared.store.FileStore.{FileStore}
 use Rattle.sqlite.specs.Files.{file_state, over_files, IsCleanLeft}
 use Rattle.sqlite.specs.declared.file.Leftover.{Leftover}
 use Rattle.fuse_wire.specs.declared.moment.Moment.{Moment}
+use Rattle.fuse_init.specs.declared.profile.Profile.{Profile}
+use Rattle.fuse_init.specs.declared.profile.Profile.TheVariants as profiles
+use Rattle.fuse_init.specs.declared.profile.PlainProfile.{PlainProfile}
+use Rattle.fuse_init.specs.declared.profile.EverydayProfile.{EverydayProfile}
 use Rattle.fuse_keeper.specs.declared.fault.StoreFault.{StoreFault}
-use Rattle.fuse_keeper.specs.declared.fault.StoreFault.TheVariants.{NotAStore}
 use Rattle.fuse_keeper.specs.KeeperState.{KeeperState, IsFirm}
-use Rattle.fuse_tree.specs.TheTree.{the_tree}
+use Rattle.fuse_tree.specs.TheTree.{tree_of}
+use Rattle.fuse_tree.specs.State.{profile_of}
 use Rattle.fuse_store_tables.specs.Content.{Content}
 use Rattle.fuse_store_tables.specs.Faults.{IsOutside}
 use Rattle.fuse_store_tables.specs.Moves.{RestsAs}
 use Rattle.fuse_store_tables.specs.Saying.{IsRefusal}
-use Rattle.fuse_store.specs.Opening.{Stored}
+use Rattle.fuse_store.specs.declared.new_store.StoreKind.{StoreKind}
+use Rattle.fuse_store.specs.declared.new_store.NewStore.{NewStore}
+use Rattle.fuse_store.specs.Opening.{Stored, opened_for}
 use Rattle.fuse_store.specs.declared.table_keeper.TableKeeper.{TableKeeper}
 use Rattle.fuse_store.specs.TableKeeper.{conn_of, keeper_told}
 use Rattle.fuse_store_files.specs.declared.files.Opening.TheVariants.{Any}
@@ -31,6 +37,10 @@ use Rattle.fuse_files.specs.StoreRuns.{left_closed}
 abbrev pub start : Moment
 start = record { secs = 0; nanos = 0 }
 
+-- a store that was made then
+abbrev pub made_then : StoreKind → NewStore
+made_then kind = record { kind = kind; now = start }
+
 -- the bytes that a reader will give, and those that a writer holds before and after, where they are known
 pub record Streams : Type 0 where
   pub input : Option (List ℕ)
@@ -38,34 +48,48 @@ pub record Streams : Type 0 where
   pub written' : Option (List ℕ)
 
 -- the stream was replayed over this keeper: the clauses of `run_replay`
-pub record ReplaysOver (k k' : KeeperState the_tree) (moment : Moment) (streams : Streams) (ending : Ending) : Type 0 where
+pub record ReplaysOver (p : Profile) (k k' : KeeperState (tree_of p)) (moment : Moment) (streams : Streams) (ending : Ending) : Type 0 where
   pub replayed : IsOfStream ending → (input : List ℕ) → streams.input ≡ Some input
       → Replayed k k' moment input ending (Prints streams.written streams.written')
   pub faulted : status_of ending ≡ 3 → (input : List ℕ) → streams.input ≡ Some input
       → Faulted k k' moment input ending (PrintsAnswers streams.written streams.written')
   pub kept : (input : List ℕ) → streams.input ≡ Some input → StandsForPrefix k k' (λ _. Unit {0}) moment input
 
--- a keeper of the files was opened, or made where they held nothing; the stream was replayed over it, and no other; and then it was closed
-pub record StoreReplayed {D : Type 0} {g : Ghosts D} (first : Image) (moment : Moment) (streams : Streams) (ending : Ending) (left : Option (Leftover D g))
-    : Type 0 where
-  pub keeper : TableKeeper (FileStore D g) over_files
-  pub keeper' : TableKeeper (FileStore D g) over_files
-  pub opened : (keeper_told over_files keeper).is_honest → OpensAs (Any start) first (keeper_told over_files keeper)
-  pub kept : (keeper_told over_files keeper).is_honest → (z : Stored) → FilesHold first z → KeepsStore (Any start) z (keeper_told over_files keeper)
-  pub rows : (keeper_told over_files keeper).is_honest → (c : Content) → FilesHoldRows first c → RestsAs (RowsKept (Any start) c) (file_state (conn_of over_files keeper))
-  pub firm : (keeper_told over_files keeper).is_honest → IsFirm (keeper_told over_files keeper)
-  pub replays : ReplaysOver (keeper_told over_files keeper) (keeper_told over_files keeper') moment streams ending
+-- the stream was replayed over this keeper, and no other; and then it was closed
+pub record KeeperReplayed {P D : Type 0} {g : Ghosts D} (p : Profile) (keeper : TableKeeper P (FileStore D g) over_files) (moment : Moment) (streams : Streams)
+    (ending : Ending) (left : Option (Leftover D g)) : Type 0 where
+  pub keeper' : TableKeeper P (FileStore D g) over_files
+  pub replays : ReplaysOver p (keeper_told p over_files keeper) (keeper_told p over_files keeper') moment streams ending
   pub files : Result (Files D) (FileStore D g)
-  pub closed : Closes (keeper_told over_files keeper') files
+  pub closed : Closes p keeper' files
   pub left_is : left ≡ Some (left_closed files)
+
+-- a keeper of the files was opened, or made where they held nothing; the stream was replayed over it
+pub record StoreReplayed {D : Type 0} {g : Ghosts D} (P : Type 0) (p : Profile) (first : Image) (kind : StoreKind) (moment : Moment) (streams : Streams)
+    (ending : Ending) (left : Option (Leftover D g)) : Type 0 where
+  pub keeper : TableKeeper P (FileStore D g) over_files
+  pub profile : (keeper_told p over_files keeper).is_honest → (z : Stored) → FilesHold first z → profile_of (opened_for z).tree ≡ p
+  pub opened : (keeper_told p over_files keeper).is_honest → OpensAs p (Any (made_then kind)) first (keeper_told p over_files keeper)
+  pub kept : (keeper_told p over_files keeper).is_honest → (z : Stored) → FilesHold first z
+      → KeepsStore p (Any (made_then kind)) z (keeper_told p over_files keeper)
+  pub rows : (keeper_told p over_files keeper).is_honest → (c : Content) → FilesHoldRows first c
+      → RestsAs (RowsKept (Any (made_then kind)) c) (file_state (conn_of over_files keeper))
+  pub firm : (keeper_told p over_files keeper).is_honest → IsFirm (keeper_told p over_files keeper)
+  pub ran : KeeperReplayed p keeper moment streams ending left
+
+-- so it was under one of the profiles
+abbrev pub IsReplayed : {D : Type 0} {g : Ghosts D} → Image → StoreKind → Moment → Streams → Ending → Option (Leftover D g) → Type 0
+IsReplayed first kind moment streams ending left =
+    StoreReplayed PlainProfile profiles.Plain first kind moment streams ending left
+    ⊎ StoreReplayed EverydayProfile profiles.Everyday first kind moment streams ending left
 
 -- no keeper was opened, and nothing was written. A store that is refused is left as it was found; else a crash leaves what was
 -- found, or what the opening makes of it; and the fault says nothing of a sound store
-pub record NotReplayed {D : Type 0} {g : Ghosts D} (first : Image) (streams : Streams) (ending : Ending) (left : Option (Leftover D g)) : Type 0 where
+pub record NotReplayed {D : Type 0} {g : Ghosts D} (first : Image) (kind : StoreKind) (streams : Streams) (ending : Ending) (left : Option (Leftover D g)) : Type 0 where
   pub fault : StoreFault
   pub ending_is : ending ≡ store_ending fault
   pub unwritten : streams.written' ≡ streams.written
-  pub crash : IfSome left (LeavesOpening (Any start) first)
+  pub crash : IfSome left (LeavesOpening (Any (made_then kind)) first)
   pub untouched : IsRefusal fault → IfSome left (LeavesAsFound first)
-  pub unopened : left ≡ None → IsOutside fault ⊎ (fault ≡ NotAStore)
+  pub unopened : left ≡ None → IsOutside fault
   pub outside : IfSome left (λ it. IsCleanLeft it → (z : Stored) → FilesHold first z → IsOutside fault)

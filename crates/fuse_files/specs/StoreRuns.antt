@@ -8,6 +8,10 @@ use Rattle.sqlite.specs.Files.{file_state, over_files, IsCleanLeft}
 use Rattle.sqlite.specs.declared.file.Leftover.{Leftover}
 use Rattle.sqlite.specs.declared.file.Leftover.TheVariants as leftover
 use Rattle.fuse_wire.specs.declared.moment.Moment.{Moment}
+use Rattle.fuse_init.specs.declared.profile.Profile.{Profile}
+use Rattle.fuse_init.specs.declared.profile.Profile.TheVariants as profiles
+use Rattle.fuse_init.specs.declared.profile.PlainProfile.{PlainProfile}
+use Rattle.fuse_init.specs.declared.profile.EverydayProfile.{EverydayProfile}
 use Rattle.fuse_keeper.specs.declared.fault.StoreFault.{StoreFault}
 use Rattle.fuse_keeper.specs.declared.fault.StoreFault.TheVariants.{NotAStore}
 use Rattle.fuse_keeper.specs.KeeperState.{IsFirm}
@@ -18,7 +22,9 @@ use Rattle.fuse_store_tables.specs.Content.{Content}
 use Rattle.fuse_store_tables.specs.Faults.{IsOutside}
 use Rattle.fuse_store_tables.specs.Moves.{RestsAs}
 use Rattle.fuse_store_tables.specs.Saying.{IsRefusal}
-use Rattle.fuse_store.specs.Opening.{Stored}
+use Rattle.fuse_tree.specs.State.{profile_of}
+use Rattle.fuse_store.specs.declared.new_store.StoreKind.{StoreKind}
+use Rattle.fuse_store.specs.Opening.{Stored, opened_for}
 use Rattle.fuse_store.specs.declared.table_keeper.TableKeeper.{TableKeeper}
 use Rattle.fuse_store.specs.TableKeeper.{conn_of, keeper_told}
 use Rattle.fuse_store_files.specs.declared.files.Opening.{Opening}
@@ -40,43 +46,58 @@ pub record Sides (R W C : Type 0) : Type 0 where
   pub clock' : C
 
 -- how the files are opened: to resume a mount as they are, and to begin one at the first moment that the clock gives
-abbrev pub OpensBy : {C : Type 0} → (C → C → List Moment → Type 0) → Begin → C → C → Opening → Type 0
-OpensBy gave Resume clock mid how = (how ≡ opening.Existing) × (mid ≡ clock)
-OpensBy gave Fresh clock mid how = (now : Moment) × (how ≡ opening.Fresh now) × gave clock mid (now ∷ [])
+abbrev pub OpensBy : {C : Type 0} → (C → C → List Moment → Type 0) → Begin → StoreKind → C → C → Opening → Type 0
+OpensBy gave Resume kind clock mid how = (how ≡ opening.Existing) × (mid ≡ clock)
+OpensBy gave Fresh kind clock mid how = (now : Moment) × (how ≡ opening.Fresh (record { kind = kind; now = now })) × gave clock mid (now ∷ [])
 
 -- what is left after a closing
 abbrev pub left_closed : {D : Type 0} {g : Ghosts D} → Result (Files D) (FileStore D g) → Leftover D g
 left_closed (Ok files) = leftover.Files files
 left_closed (Err it) = leftover.Store it
 
--- a keeper of the files was opened; it was served over a device with these two sides, and no other; and then it was closed
-pub record StoreServed {D R W C : Type 0} {g : Ghosts D} (first : Image) (became : DevicePort R W → DevicePort R W → List PortEvent → Type 0)
-    (gave : C → C → List Moment → Type 0) (sides : Sides R W C) (begin : Begin) (run : StoreRun D g) : Type 0 where
-  pub keeper : TableKeeper (FileStore D g) over_files
-  pub keeper' : TableKeeper (FileStore D g) over_files
+-- the keeper was served over a device with these two sides, and no other; and then it was closed
+pub record KeeperServed {P D R W : Type 0} {g : Ghosts D} (p : Profile) (keeper : TableKeeper P (FileStore D g) over_files)
+    (became : DevicePort R W → DevicePort R W → List PortEvent → Type 0) (gave : List Moment → Type 0) (reader : R) (writer : W) (begin : Begin)
+    (run : StoreRun D g) : Type 0 where
+  pub keeper' : TableKeeper P (FileStore D g) over_files
+  pub served : OverDevice reader writer (λ port port'. ServesPort (views (keeper_told p over_files) (λ a b list. Unit {0}) device_told became)
+      gave (between keeper keeper' port port') begin run.ending run.counts)
+  pub left : Result (Files D) (FileStore D g)
+  pub closed : Closes p keeper' left
+  pub left_is : run.left ≡ Some (left_closed left)
+
+-- a keeper of the files was opened, under the profile of the store; it was served, and then closed
+pub record StoreServed {D R W C : Type 0} {g : Ghosts D} (P : Type 0) (p : Profile) (first : Image)
+    (became : DevicePort R W → DevicePort R W → List PortEvent → Type 0) (gave : C → C → List Moment → Type 0) (sides : Sides R W C) (begin : Begin)
+    (kind : StoreKind) (run : StoreRun D g) : Type 0 where
+  pub keeper : TableKeeper P (FileStore D g) over_files
   pub mid : C
   pub how : Opening
-  pub opens : OpensBy gave begin sides.clock mid how
-  pub opened : (keeper_told over_files keeper).is_honest → OpensAs how first (keeper_told over_files keeper)
-  pub kept : (keeper_told over_files keeper).is_honest → (z : Stored) → FilesHold first z → KeepsStore how z (keeper_told over_files keeper)
-  pub rows : (keeper_told over_files keeper).is_honest → (c : Content) → FilesHoldRows first c → RestsAs (RowsKept how c) (file_state (conn_of over_files keeper))
-  pub firm : (keeper_told over_files keeper).is_honest → IsFirm (keeper_told over_files keeper)
-  pub served : OverDevice sides.reader sides.writer (λ port port'. ServesPort (views (keeper_told over_files) (λ a b list. Unit {0}) device_told became)
-      (gave mid sides.clock') (between keeper keeper' port port') begin run.ending run.counts)
-  pub left : Result (Files D) (FileStore D g)
-  pub closed : Closes (keeper_told over_files keeper') left
-  pub left_is : run.left ≡ Some (left_closed left)
+  pub opens : OpensBy gave begin kind sides.clock mid how
+  pub profile : (keeper_told p over_files keeper).is_honest → (z : Stored) → FilesHold first z → profile_of (opened_for z).tree ≡ p
+  pub opened : (keeper_told p over_files keeper).is_honest → OpensAs p how first (keeper_told p over_files keeper)
+  pub kept : (keeper_told p over_files keeper).is_honest → (z : Stored) → FilesHold first z → KeepsStore p how z (keeper_told p over_files keeper)
+  pub rows : (keeper_told p over_files keeper).is_honest → (c : Content) → FilesHoldRows first c → RestsAs (RowsKept how c) (file_state (conn_of over_files keeper))
+  pub firm : (keeper_told p over_files keeper).is_honest → IsFirm (keeper_told p over_files keeper)
+  pub ran : KeeperServed p keeper became (gave mid sides.clock') sides.reader sides.writer begin run
+
+-- so it was under one of the profiles
+abbrev pub IsServed : {D R W C : Type 0} {g : Ghosts D} → Image → (DevicePort R W → DevicePort R W → List PortEvent → Type 0)
+    → (C → C → List Moment → Type 0) → Sides R W C → Begin → StoreKind → StoreRun D g → Type 0
+IsServed first became gave sides begin kind run =
+    StoreServed PlainProfile profiles.Plain first became gave sides begin kind run
+    ⊎ StoreServed EverydayProfile profiles.Everyday first became gave sides begin kind run
 
 -- no keeper was opened, and nothing was served. A store that is refused is left as it was found; else a crash leaves what was
 -- found, or what the opening makes of it; and the fault says nothing of a sound store
 pub record StoreRefused {D R W C : Type 0} {g : Ghosts D} (first : Image) (gave : C → C → List Moment → Type 0) (sides : Sides R W C) (begin : Begin)
-    (run : StoreRun D g) : Type 0 where
+    (kind : StoreKind) (run : StoreRun D g) : Type 0 where
   pub how : Opening
-  pub opens : OpensBy gave begin sides.clock sides.clock' how
+  pub opens : OpensBy gave begin kind sides.clock sides.clock' how
   pub fault : StoreFault
   pub ending_is : run.ending ≡ store_ending fault
   pub uncounted : run.counts ≡ None
   pub crash : IfSome run.left (LeavesOpening how first)
   pub untouched : IsRefusal fault → IfSome run.left (LeavesAsFound first)
-  pub unopened : run.left ≡ None → IsOutside fault ⊎ (fault ≡ NotAStore)
+  pub unopened : run.left ≡ None → IsOutside fault ⊎ ((how ≡ opening.Existing) × (fault ≡ NotAStore))
   pub outside : IfSome run.left (λ it. IsCleanLeft it → (z : Stored) → FilesHold first z → IsOutside fault)

@@ -1,11 +1,16 @@
 //! A server over the files of a store: it opens them, serves, and closes them. Runs over the same
-//! files, one after another, are lives of one mount.
+//! files, one after another, are lives of one mount. Views of a store, from the bytes of its files.
 #![tactic(auto)]
 
 mod lives;
 mod replaying;
 mod serving;
+mod showing;
+mod simulating;
+mod summing;
 
 pub use lives::{files_live, runs_are_file_lives};
 pub use replaying::replay_store;
 pub use serving::{StoreRun, serve_store};
+pub use showing::{Show, StoreBytes, show_store};
+pub use simulating::simulate_store;

@@ -1,13 +1,18 @@
 // A run of a server over the files of a store.
-ghost use Rattle.std.specs.Prelude.{◌≡◌, ◌≢◌, ◌⊎◌, codes};
+ghost use Rattle.std.specs.Prelude.{◌≡◌, ◌≢◌, ◌⊎◌, false, codes};
 ghost use Rattle.sqlite_wal.specs.Files.{image_at};
+ghost use Rattle.sqlite.specs.Files.{over_files};
+ghost use Rattle.fuse_store.specs.TableKeeper.{keeper_told};
 ghost use Rattle.fuse_store_files.specs.Starting.{path_of};
 ghost use Rattle.fuse_commands.specs.Endings.{status_of, store_ending};
-ghost use Rattle.fuse_files.specs.StoreRuns.{OpensBy, left_closed, StoreServed, StoreRefused};
+ghost use Rattle.fuse_files.specs.StoreRuns.{OpensBy, left_closed, KeeperServed, IsServed};
+ghost use Rattle.fuse_files.specs.StoreRuns.{StoreRefused};
 
 use fuse_commands::{Begin, Ending, run_serve};
+use fuse_init::Profiled;
 use fuse_keeper::StoreFault;
 use fuse_session::{Clock, DevicePort, Port, SessionCounts, Sink, Source};
+use fuse_store::{StoreKeeper, StoreKind, TableKeeper};
 use fuse_store_files::{Opening, StoreFiles, close_store, open_store};
 use sqlite::{FileFrom, FileStore, Files, Leftover, Start};
 use sqlite_disk::Disk;
@@ -24,11 +29,11 @@ pub struct StoreRun<D: Disk> {
 }
 
 // How the files are opened: for a new mount, at this moment of the clock.
-fn opening_for<C: Clock>(clock: &mut C, begin: Begin) -> Opening
-    ensures { OpensBy C.gave begin clock.old clock.new result }
+fn opening_for<C: Clock>(clock: &mut C, begin: Begin, kind: StoreKind) -> Opening
+    ensures { OpensBy C.gave begin kind clock.old clock.new result }
 {
     match begin {
-        Begin::Fresh => Opening::Fresh(clock.now()),
+        Begin::Fresh => Opening::Fresh(kind.made_at(clock.now())),
         Begin::Resume => Opening::Existing,
     }
 }
@@ -51,8 +56,32 @@ pub(crate) fn left_of<D: Disk>(closed: Result<Files<D>, FileStore<D>>) -> Leftov
     }
 }
 
-/// Opens the store in these files, at `Begin::Fresh` for a mount that begins. Serves a FUSE device
-/// over it, of which the reader and the writer are the two sides. Then closes the files.
+// Serves a FUSE device over a keeper, of which the reader and the writer are the two sides. Then
+// closes its files.
+fn serve_keeper<P: Profiled, D: Disk + Drop, R: Source, W: Sink, C: Clock>(
+    alloc: Global,
+    mut keeper: TableKeeper<P, FileStore<D>>,
+    reader: R,
+    writer: W,
+    clock: &mut C,
+    begin: Begin,
+) -> StoreRun<D>
+    requires going { (keeper_told P.PROFILE over_files keeper).has_failed ≡ false }
+    ensures ran { KeeperServed P.PROFILE keeper ⟦<DevicePort<R, W> as Port>⟧.became
+        (C.gave clock.old clock.new) reader writer begin result }
+    ensures usage { status_of result.ending ≢ 2 }
+{
+    let (ending, counts) = run_serve(alloc, &mut keeper, reader, writer, clock, begin);
+    StoreRun {
+        ending,
+        counts,
+        left: Some(left_of(close_store(keeper))),
+    }
+}
+
+/// Opens the store in these files, at `Begin::Fresh` for a mount that begins; where they hold
+/// nothing, a store of this kind is made. Serves a FUSE device over it, of which the reader and the
+/// writer are the two sides. Then closes the files.
 pub fn serve_store<S: Start, R: Source, W: Sink, C: Clock>(
     alloc: Global,
     files: StoreFiles<'_, '_, S>,
@@ -60,34 +89,32 @@ pub fn serve_store<S: Start, R: Source, W: Sink, C: Clock>(
     writer: W,
     clock: &mut C,
     begin: Begin,
+    kind: StoreKind,
 ) -> StoreRun<FileFrom<S>>
-    ensures ran { StoreServed (image_at S.Start) ⟦<DevicePort<R, W> as Port>⟧.became C.gave
+    ensures ran { IsServed (image_at S.Start) ⟦<DevicePort<R, W> as Port>⟧.became C.gave
         (record { reader = reader; writer = writer; clock = clock.old; clock' = clock.new }) begin
-        result
+        kind result
         ⊎ StoreRefused (image_at S.Start) C.gave
         (record { reader = reader; writer = writer; clock = clock.old; clock' = clock.new }) begin
-        result }
+        kind result }
     // A store in memory has no files.
     ensures memory { path_of files.entry ≡ codes ":memory:" → StoreRefused (image_at S.Start) C.gave
         (record { reader = reader; writer = writer; clock = clock.old; clock' = clock.new }) begin
-        result }
+        kind result }
     ensures usage { status_of result.ending ≢ 2 }
 {
-    let opening = opening_for(clock, begin);
-    let mut keeper = match open_store(files, opening) {
-        Ok(keeper) => keeper,
-        Err((fault, left)) => {
-            return StoreRun {
-                ending: ending_of(fault),
-                counts: None,
-                left,
-            };
+    let opening = opening_for(clock, begin, kind);
+    match open_store(files, opening) {
+        Ok(StoreKeeper::Plain(keeper)) => {
+            serve_keeper(alloc, keeper, reader, writer, clock, begin)
         }
-    };
-    let (ending, counts) = run_serve(alloc, &mut keeper, reader, writer, clock, begin);
-    StoreRun {
-        ending,
-        counts,
-        left: Some(left_of(close_store(keeper))),
+        Ok(StoreKeeper::Everyday(keeper)) => {
+            serve_keeper(alloc, keeper, reader, writer, clock, begin)
+        }
+        Err((fault, left)) => StoreRun {
+            ending: ending_of(fault),
+            counts: None,
+            left,
+        },
     }
 }

@@ -8,7 +8,10 @@ use Rattle.std.proofs.lemmas.Bool.{cases_lt, cases_eq, lt-ltb, le-ltb}
 use Rattle.std.proofs.lemmas.Nat.Bits.{and_pow, bit_at_and, bit_at_or, bit_at_above, bit_at_cat_low, bit_at_cat_high, bit_at-lt, bit_at-pow_other, bit_at-zero}
 use Rattle.std.proofs.Math.Nat.{max-zero, zero-max}
 use Rattle.fuse_request.specs.declared.request.InitIn.{InitIn}
-use Rattle.fuse_init.specs.Agree.{offered, taken, agreed, agreed_out}
+use Rattle.fuse_init.specs.declared.profile.Profile.{Profile}
+use Rattle.fuse_init.specs.declared.profile.Profile.TheVariants.{Plain, Everyday}
+use Rattle.fuse_init.specs.Profile.{plain, everyday, directory_flags, terms}
+use Rattle.fuse_init.specs.Agree.{offered, agreed, agreed_out}
 use Rattle.fuse_init.specs.Sets.{IsTaken, high_bit, offered_bit, answered_bit, AgreedBits}
 
 high_below : (f k : ℕ) → k < 32 → bit_at (f * 2 ^ 32) k ≡ 0
@@ -55,49 +58,97 @@ offered_is flags None k few =
     ]
 offered_is flags (Some f) k few = rw (ext_is flags) (by_ext (bit_at flags 30 == 1) flags f k few)
 
--- the set that the server takes
-taken_is : (k : ℕ) → bit_at taken k ≡ max (max (max (bit_at (2 ^ 0) k) (bit_at (2 ^ 5) k)) (bit_at (2 ^ 30) k)) (bit_at (2 ^ 39) k)
-taken_is k =
-    bit_at_or (bit_or (bit_or (2 ^ 0) (2 ^ 5)) (2 ^ 30)) (2 ^ 39) k
-    ∙ ap (λ (n : ℕ). max n (bit_at (2 ^ 39) k)) (bit_at_or (bit_or (2 ^ 0) (2 ^ 5)) (2 ^ 30) k
-    ∙ ap (λ (n : ℕ). max n (bit_at (2 ^ 30) k)) (bit_at_or (2 ^ 0) (2 ^ 5) k))
+-- ---- the set that the server takes
 
-is_taken : (k : ℕ) → bit_at taken k ≡ 1 → IsTaken k
-is_taken k set =
-    elim (cases_eq k 0) [
-      | inl e ↦ inl e
-      | inr n0 ↦ elim (cases_eq k 5) [
-        | inl e ↦ inr (inl e)
-        | inr n5 ↦ elim (cases_eq k 30) [
-          | inl e ↦ inr (inr (inl e))
-          | inr n30 ↦ elim (cases_eq k 39) [
-            | inl e ↦ inr (inr (inr e))
-            | inr n39 ↦ (let no : 0 ≡ 1 = sym (taken_is k ∙ rw (
-              bit_at-pow_other 0 k n0,
-              bit_at-pow_other 5 k n5,
-              bit_at-pow_other 30 k n30,
-              bit_at-pow_other 39 k n39,
-            ) refl) ∙ set in
-                absurd (omega (arith, no)))
-          ]
-        ]
-      ]
-    ]
+-- a bit of a set and one flag more
+last_or : (low m k : ℕ) → bit_at (bit_or low (2 ^ m)) k ≡ 1 → (k ≡ m) ⊎ (bit_at low k ≡ 1)
+last_or low m k set = elim (cases_eq k m) [
+  | inl e ↦ inl e
+  | inr other ↦ inr (sym (max-zero (bit_at low k)) ∙ sym (bit_at_or low (2 ^ m) k ∙ ap (λ (n : ℕ). max (bit_at low k) n) (bit_at-pow_other m k other)) ∙ set)
+]
 
-taken_set : (k : ℕ) → IsTaken k → bit_at taken k ≡ 1
-taken_set k (inl e) = rw e refl
-taken_set k (inr (inl e)) = rw e refl
-taken_set k (inr (inr (inl e))) = rw e refl
-taken_set k (inr (inr (inr e))) = rw e refl
+-- of one flag alone
+one_bit : (m k : ℕ) → bit_at (2 ^ m) k ≡ 1 → k ≡ m
+one_bit m k set = elim (cases_eq k m) [
+  | inl e ↦ e
+  | inr other ↦ (let no : 0 ≡ 1 = sym (bit_at-pow_other m k other) ∙ set in absurd (omega (arith, no)))
+]
 
-settings : (i : InitIn) (k : ℕ) → i.flags < 2 ^ 32 → (bit_at (agreed i) k ≡ 1) ↔ (IsTaken k × (offered_bit i k ≡ 1))
-settings i k few =
-    let both = bit_at_and (offered i.flags i.flags2) taken k in
+-- of two sets
+both_or : (a b k : ℕ) → bit_at (bit_or a b) k ≡ 1 → (bit_at a k ≡ 1) ⊎ (bit_at b k ≡ 1)
+both_or a b k set = elim (zero_or_one (bit_at a k) (bit_at-lt a k)) [
+  | inl none ↦ inr (sym (bit_at_or a b k ∙ ap (λ (n : ℕ). max n (bit_at b k)) none ∙ zero-max (bit_at b k)) ∙ set)
+  | inr one ↦ inl one
+]
+
+abbrev first_flags : ℕ
+first_flags = bit_or (2 ^ 0) (2 ^ 5)
+
+abbrev plain_ext : ℕ
+plain_ext = bit_or first_flags (2 ^ 30)
+
+is_plain : (k : ℕ) → bit_at plain.wanted k ≡ 1 → IsTaken Plain k
+is_plain k set = elim (last_or plain_ext 39 k set) [
+  | inl e ↦ inr (inr (inr e))
+  | inr s30 ↦ elim (last_or first_flags 30 k s30) [
+    | inl e ↦ inr (inr (inl e))
+    | inr s5 ↦ elim (last_or (2 ^ 0) 5 k s5) [ inl e ↦ inr (inl e) | inr s0 ↦ inl (one_bit 0 k s0) ]
+  ]
+]
+
+is_directory : (k : ℕ) → bit_at directory_flags k ≡ 1 → IsTaken Everyday k
+is_directory k set = elim (last_or (bit_or (2 ^ 13) (2 ^ 14)) 18 k set) [
+  | inl e ↦ inr (inr (inr (inr (inl e))))
+  | inr s14 ↦ elim (last_or (2 ^ 13) 14 k s14) [ inl e ↦ inr (inr (inr (inl e))) | inr s13 ↦ inr (inr (inl (one_bit 13 k s13))) ]
+]
+
+abbrev everyday_directories : ℕ
+everyday_directories = bit_or first_flags directory_flags
+
+is_everyday_first : (k : ℕ) → bit_at everyday_directories k ≡ 1 → IsTaken Everyday k
+is_everyday_first k set = elim (both_or first_flags directory_flags k set) [
+  | inl s5 ↦ elim (last_or (2 ^ 0) 5 k s5) [ inl e ↦ inr (inl e) | inr s0 ↦ inl (one_bit 0 k s0) ]
+  | inr s ↦ is_directory k s
+]
+
+abbrev everyday_symlinks : ℕ
+everyday_symlinks = bit_or everyday_directories (2 ^ 23)
+
+is_everyday : (k : ℕ) → bit_at everyday.wanted k ≡ 1 → IsTaken Everyday k
+is_everyday k set = elim (last_or (bit_or everyday_symlinks (2 ^ 30)) 39 k set) [
+  | inl e ↦ inr (inr (inr (inr (inr (inr (inr e))))))
+  | inr s30 ↦ elim (last_or everyday_symlinks 30 k s30) [
+    | inl e ↦ inr (inr (inr (inr (inr (inr (inl e))))))
+    | inr s23 ↦ elim (last_or everyday_directories 23 k s23) [ inl e ↦ inr (inr (inr (inr (inr (inl e))))) | inr s ↦ is_everyday_first k s ]
+  ]
+]
+
+is_taken : (p : Profile) (k : ℕ) → bit_at (terms p).wanted k ≡ 1 → IsTaken p k
+is_taken Plain k set = is_plain k set
+is_taken Everyday k set = is_everyday k set
+
+taken_set : (p : Profile) (k : ℕ) → IsTaken p k → bit_at (terms p).wanted k ≡ 1
+taken_set Plain k (inl e) = rw e refl
+taken_set Plain k (inr (inl e)) = rw e refl
+taken_set Plain k (inr (inr (inl e))) = rw e refl
+taken_set Plain k (inr (inr (inr e))) = rw e refl
+taken_set Everyday k (inl e) = rw e refl
+taken_set Everyday k (inr (inl e)) = rw e refl
+taken_set Everyday k (inr (inr (inl e))) = rw e refl
+taken_set Everyday k (inr (inr (inr (inl e)))) = rw e refl
+taken_set Everyday k (inr (inr (inr (inr (inl e))))) = rw e refl
+taken_set Everyday k (inr (inr (inr (inr (inr (inl e)))))) = rw e refl
+taken_set Everyday k (inr (inr (inr (inr (inr (inr (inl e))))))) = rw e refl
+taken_set Everyday k (inr (inr (inr (inr (inr (inr (inr e))))))) = rw e refl
+
+settings : (p : Profile) (i : InitIn) (k : ℕ) → i.flags < 2 ^ 32 → (bit_at (agreed p i) k ≡ 1) ↔ (IsTaken p k × (offered_bit i k ≡ 1))
+settings p i k few =
+    let both = bit_at_and (offered i.flags i.flags2) (terms p).wanted k in
     let off = offered_is i.flags i.flags2 k few in
     let low = bit_at-lt (offered i.flags i.flags2) k in
-    let low2 = bit_at-lt taken k in (
-      (λ set. (is_taken k (omega (arith, both, set, low, low2)), sym off ∙ omega (arith, both, set, low, low2))),
-      (λ h. omega (arith, both, taken_set k h.0, off, h.1)),
+    let low2 = bit_at-lt (terms p).wanted k in (
+      (λ set. (is_taken p k (omega (arith, both, set, low, low2)), sym off ∙ omega (arith, both, set, low, low2))),
+      (λ h. omega (arith, both, taken_set p k h.0, off, h.1)),
     )
 
 -- the two halves of the set
@@ -112,8 +163,8 @@ halves set k r =
 pub agreed_bits : AgreedBits
 agreed_bits = record {
   settings = settings;
-  answer = λ i k few. (
-    (λ set. (settings i k few).0 (sym (halves (agreed i) k i.max_readahead) ∙ set)),
-    (λ h. halves (agreed i) k i.max_readahead ∙ (settings i k few).1 h),
+  answer = λ p i k few. (
+    (λ set. (settings p i k few).0 (sym (halves (agreed p i) k i.max_readahead) ∙ set)),
+    (λ h. halves (agreed p i) k i.max_readahead ∙ (settings p i k few).1 h),
   );
 }

@@ -1,12 +1,14 @@
 -- The negotiation of INIT (fuse.h's rule for versions; the numbers that are chosen are own).
 use Rattle.std.specs.Prelude.{◌*◌, ◌/◌, ◌%◌, ◌^◌, ◌==◌, ◌&&◌, ◌||◌, ℕ, min, Bool, nat_lt, if◌then◌else◌, Option, Some, None}
 use Rattle.std.specs.Int.RustNames.{bit_and, bit_or}
-use Rattle.fuse_wire.specs.Bits.{fuse_async_read, fuse_big_writes, fuse_init_ext, fuse_has_resend}
+use Rattle.fuse_wire.specs.Bits.{fuse_init_ext}
 use Rattle.fuse_wire.specs.Errnos.{eproto}
 use Rattle.fuse_request.specs.declared.request.InitIn.{InitIn}
 use Rattle.fuse_answer.specs.declared.init_out.InitOut.{InitOut}
 use Rattle.fuse_init.specs.declared.negotiation.Negotiated.{Negotiated}
 use Rattle.fuse_init.specs.declared.negotiation.Negotiated.TheVariants.{Agreed, Again, Refused}
+use Rattle.fuse_init.specs.declared.profile.Profile.{Profile}
+use Rattle.fuse_init.specs.Profile.{terms}
 use Rattle.fuse_init.specs.Numbers.{kernel_version, kernel_minor_version, oldest_minor, background_limit, congestion_limit, write_limit, time_step}
 
 -- the set that the kernel offers: flags, with flags2 as bits 32 to 63 where INIT_EXT is set and flags2 is there
@@ -14,12 +16,8 @@ abbrev pub offered : ℕ → Option ℕ → ℕ
 offered flags None = flags
 offered flags (Some flags2) = if bit_and flags fuse_init_ext.0 == fuse_init_ext.0 then bit_or flags (flags2 * 2 ^ 32) else flags
 
--- the set that the server takes
-abbrev pub taken : ℕ
-taken = bit_or (bit_or (bit_or fuse_async_read.0 fuse_big_writes.0) fuse_init_ext.0) fuse_has_resend.0
-
-abbrev pub agreed : InitIn → ℕ
-agreed i = bit_and (offered i.flags i.flags2) taken
+abbrev pub agreed : Profile → InitIn → ℕ
+agreed p i = bit_and (offered i.flags i.flags2) (terms p).wanted
 
 -- the kernel's version is too old
 abbrev pub is_older : InitIn → Bool
@@ -58,12 +56,12 @@ agreed_out max_readahead set = record {
   max_stack_depth = 0;
 }
 
-abbrev pub agree : InitIn → Negotiated
-agree i =
+abbrev pub agree : Profile → InitIn → Negotiated
+agree p i =
     if is_older i then Refused eproto
     else if nat_lt kernel_version i.major then Again again
-    else Agreed (agreed_out i.max_readahead (agreed i)) (record {
-      minor = min i.minor kernel_minor_version;
+    else Agreed (agreed_out i.max_readahead (agreed p i)) (record {
+      minor = min i.minor (terms p).newest_minor;
       max_readahead = i.max_readahead;
-      flags = record { 0 = agreed i };
+      flags = record { 0 = agreed p i };
     })

@@ -1,3 +1,4 @@
 pub mod Numbers
+pub mod Profile
 pub mod Agree
 pub mod Sets

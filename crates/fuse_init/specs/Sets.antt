@@ -3,11 +3,14 @@ use Rattle.std.specs.Prelude.{◌≡◌, ◌<◌, ◌-◌, ◌^◌, ◌==◌, �
 use Rattle.std.specs.Int.{bit_at}
 use Rattle.fuse_request.specs.declared.request.InitIn.{InitIn}
 use Rattle.fuse_answer.specs.declared.init_out.InitOut.{InitOut}
+use Rattle.fuse_init.specs.declared.profile.Profile.{Profile}
+use Rattle.fuse_init.specs.declared.profile.Profile.TheVariants.{Plain, Everyday}
 use Rattle.fuse_init.specs.Agree.{agreed, agreed_out}
 
--- ASYNC_READ, BIG_WRITES, INIT_EXT and HAS_RESEND
-abbrev pub IsTaken : ℕ → Type 0
-IsTaken k = (k ≡ 0) ⊎ ((k ≡ 5) ⊎ ((k ≡ 30) ⊎ (k ≡ 39)))
+-- ASYNC_READ, BIG_WRITES, INIT_EXT and HAS_RESEND; and DO_READDIRPLUS, READDIRPLUS_AUTO, PARALLEL_DIROPS and CACHE_SYMLINKS
+abbrev pub IsTaken : Profile → ℕ → Type 0
+IsTaken Plain k = (k ≡ 0) ⊎ ((k ≡ 5) ⊎ ((k ≡ 30) ⊎ (k ≡ 39)))
+IsTaken Everyday k = (k ≡ 0) ⊎ ((k ≡ 5) ⊎ ((k ≡ 13) ⊎ ((k ≡ 14) ⊎ ((k ≡ 18) ⊎ ((k ≡ 23) ⊎ ((k ≡ 30) ⊎ (k ≡ 39)))))))
 
 -- flags2 counts where it is there and flags have bit 30, INIT_EXT
 abbrev pub high_bit : ℕ → Option ℕ → ℕ → ℕ
@@ -22,6 +25,6 @@ answered_bit o k = if nat_lt k 32 then bit_at o.flags k else bit_at o.flags2 (k 
 
 -- in the settings and in the answer a flag is agreed on exactly where it is one of these and was offered
 pub record AgreedBits : Type 0 where
-  pub settings : (i : InitIn) (k : ℕ) → i.flags < 2 ^ 32 → (bit_at (agreed i) k ≡ 1) ↔ (IsTaken k × (offered_bit i k ≡ 1))
-  pub answer : (i : InitIn) (k : ℕ) → i.flags < 2 ^ 32
-      → (answered_bit (agreed_out i.max_readahead (agreed i)) k ≡ 1) ↔ (IsTaken k × (offered_bit i k ≡ 1))
+  pub settings : (p : Profile) (i : InitIn) (k : ℕ) → i.flags < 2 ^ 32 → (bit_at (agreed p i) k ≡ 1) ↔ (IsTaken p k × (offered_bit i k ≡ 1))
+  pub answer : (p : Profile) (i : InitIn) (k : ℕ) → i.flags < 2 ^ 32
+      → (answered_bit (agreed_out i.max_readahead (agreed p i)) k ≡ 1) ↔ (IsTaken p k × (offered_bit i k ≡ 1))

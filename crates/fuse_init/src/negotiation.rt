@@ -2,6 +2,7 @@ ghost use Rattle.std.specs.Prelude.{◌≡◌};
 ghost use Rattle.fuse_init.specs.Agree as agreement;
 ghost use Rattle.fuse_init.specs.Agree.{agree, offered};
 
+use crate::profile::Profile;
 use crate::settings::Settings;
 use bitflags::Flags;
 use fuse_answer::InitOut;
@@ -54,16 +55,6 @@ fn offer(flags: u32, flags2: Option<u32>) -> InitFlags
     }
 }
 
-// The flags that the server takes.
-fn taken() -> InitFlags
-    ensures { result.0 ≡ agreement.taken }
-{
-    InitFlags::ASYNC_READ
-        .union(InitFlags::BIG_WRITES)
-        .union(InitFlags::INIT_EXT)
-        .union(InitFlags::HAS_RESEND)
-}
-
 fn again() -> InitOut
     ensures { result ≡ agreement.again }
 {
@@ -99,9 +90,9 @@ fn agreed_out(max_readahead: u32, flags: InitFlags) -> InitOut
     }
 }
 
-/// The outcome of an INIT that offers this. Takes no memory.
-pub fn negotiate(init: &InitIn) -> Negotiated
-    ensures { result ≡ agree init.now }
+/// The outcome of an INIT that offers this to a file system of this profile. Takes no memory.
+pub fn negotiate(profile: Profile, init: &InitIn) -> Negotiated
+    ensures { result ≡ agree profile init.now }
 {
     if init.major < MAJOR || (init.major == MAJOR && init.minor < MIN_MINOR) {
         return Negotiated::Refused(Errno::EPROTO);
@@ -109,11 +100,11 @@ pub fn negotiate(init: &InitIn) -> Negotiated
     if init.major > MAJOR {
         return Negotiated::Again { out: again() };
     }
-    let flags = offer(init.flags, init.flags2).intersection(taken());
+    let flags = offer(init.flags, init.flags2).intersection(profile.wanted());
     Negotiated::Agreed {
         out: agreed_out(init.max_readahead, flags),
         settings: Settings {
-            minor: init.minor.min(MINOR),
+            minor: init.minor.min(profile.newest_minor()),
             max_readahead: init.max_readahead,
             flags,
         },

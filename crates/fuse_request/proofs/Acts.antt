@@ -70,7 +70,7 @@ one_open laws flags open_flags b h = let p = laws.0.stands (open_parts flags ope
 one_open_dir : Laws → (flags open_flags : ℕ) (b : List ℕ) → Lays (open_parts flags open_flags) b → IsOne (OpenDir flags open_flags) b
 one_open_dir laws flags open_flags b h = let p = laws.0.stands (open_parts flags open_flags) b h in (rw (p.0, p.1.0) refl, fixed_none 8 b p.1.1)
 
-read_placed : Laws → (x : ReadIn) (b : List ℕ) → Lays (read_parts x) b → (read_at b ≡ x) × (length b ≡ 40)
+pub read_placed : Laws → (x : ReadIn) (b : List ℕ) → Lays (read_parts x) b → (read_at b ≡ x) × (length b ≡ 40)
 read_placed laws x b h =
     let p = laws.0.stands (read_parts x) b h in
     (rw (p.0, p.1.0, p.1.1.0, p.1.1.1.0, p.1.1.1.1.0, p.1.1.1.1.1.0) refl, p.1.1.1.1.1.1)

@@ -8,17 +8,18 @@ use Rattle.fuse_wire.specs.Bytes.{number_of, after_nul, IsBytes}
 use Rattle.fuse_wire.specs.Layout.{Lays, Placed, text, bytes}
 use Rattle.fuse_wire.specs.Laws.{NamesEnd}
 use Rattle.fuse_request.specs.declared.decoding.Malformed.{Malformed}
+use Rattle.fuse_request.specs.declared.request.ReadIn.{ReadIn}
 use Rattle.fuse_request.specs.declared.further.Body.{Body}
 use Rattle.fuse_request.specs.Bodies.{name_fault}
 use Rattle.fuse_request.specs.Places.{before_nul}
 use Rattle.fuse_request.specs.FurtherBodies.{Content, Readlink, Symlink, Link, Statfs, Fsync, Setxattr, Getxattr, Listxattr, Removexattr, Flush, FsyncDir, Access}
-use Rattle.fuse_request.specs.FurtherBodies.{Create, Fallocate, Lseek, CopyFileRange, content, further_opcode, content_parts, copy_file_range_parts, SpellsBody}
+use Rattle.fuse_request.specs.FurtherBodies.{Create, Fallocate, ReadDirPlus, Lseek, CopyFileRange, content, further_opcode, content_parts, copy_file_range_parts, SpellsBody}
 use Rattle.fuse_request.specs.FurtherBodies.{value_fault, copy_file_range_at, further_fault, content_at, is_further, further, find_further, FurtherOpcode}
 use Rattle.fuse_request.specs.FurtherBodies.{fault_in}
 use Rattle.fuse_request.specs.inner.FurtherReaders.{ReadsAny}
 use Rattle.fuse_request.proofs.Laid.{all_bytes}
 use Rattle.fuse_request.proofs.BodyFaults.{fixed_none, at_least_after, one_name, both_names, before_nul-text}
-use Rattle.fuse_request.proofs.Acts.{Laws}
+use Rattle.fuse_request.proofs.Acts.{Laws, read_placed}
 
 pub copy_file_range_placed : (b : List ℕ) → length b ≡ 56 → Placed 0 (copy_file_range_parts (copy_file_range_at b)) b
 copy_file_range_placed b len = (refl, (refl, (refl, (refl, (refl, (refl, (refl, len)))))))
@@ -84,6 +85,9 @@ one_content laws (Create flags mode umask open_flags name) b h =
 one_content laws (Fallocate fh offset len mode) b h =
     let p = laws.0.stands (content_parts (Fallocate fh offset len mode)) b h in
     (rw (p.0, p.1.0, p.1.1.0, p.1.1.1.0) refl, fixed_none 32 b p.1.1.1.1)
+one_content laws (ReadDirPlus x) b h =
+    let p = read_placed laws x b h in
+    (ap (λ (v : ReadIn). Some (ReadDirPlus v)) p.0, fixed_none 40 b p.1)
 one_content laws (Lseek fh offset whence) b h =
     let p = laws.0.stands (content_parts (Lseek fh offset whence)) b h in
     (rw (p.0, p.1.0, p.1.1.0) refl, fixed_none 24 b p.1.1.1)
@@ -111,6 +115,7 @@ in_table (FsyncDir fh fsync_flags) = refl
 in_table (Access mask) = refl
 in_table (Create flags mode umask open_flags name) = refl
 in_table (Fallocate fh offset len mode) = refl
+in_table (ReadDirPlus x) = refl
 in_table (Lseek fh offset whence) = refl
 in_table (CopyFileRange x) = refl
 

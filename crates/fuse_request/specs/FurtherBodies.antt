@@ -4,16 +4,19 @@ use Rattle.std.specs.Option.{option_map, unwrap_or}
 use Rattle.fuse_wire.specs.Bytes.{number_of, after_nul}
 use Rattle.fuse_wire.specs.Layout.{Part, number, unused, text, bytes, Lays}
 use Rattle.fuse_wire.specs.Opcodes.{fuse_readlink, fuse_symlink, fuse_link, fuse_statfs, fuse_fsync, fuse_setxattr, fuse_getxattr, fuse_listxattr}
-use Rattle.fuse_wire.specs.Opcodes.{fuse_removexattr, fuse_flush, fuse_fsyncdir, fuse_access, fuse_create, fuse_fallocate, fuse_lseek, fuse_copy_file_range}
+use Rattle.fuse_wire.specs.Opcodes.{fuse_removexattr, fuse_flush, fuse_fsyncdir, fuse_access, fuse_create, fuse_fallocate, fuse_readdirplus, fuse_lseek}
+use Rattle.fuse_wire.specs.Opcodes.{fuse_copy_file_range}
 use Rattle.fuse_request.specs.declared.decoding.Malformed.{Malformed}
 use Rattle.fuse_request.specs.declared.decoding.Malformed.TheVariants.{NoNul, CountDiffers}
 use Rattle.fuse_request.specs.declared.further.CopyFileRangeIn.{CopyFileRangeIn}
+use Rattle.fuse_request.specs.declared.request.ReadIn.{ReadIn}
 use Rattle.fuse_request.specs.declared.further.Body.{Body}
 use Rattle.fuse_request.specs.declared.further.Body.TheVariants as bodies
 use Rattle.fuse_request.specs.Lengths.{link_in_size, fsync_in_size, getxattr_in_size, flush_in_size, access_in_size, create_in_size, fallocate_in_size}
-use Rattle.fuse_request.specs.Lengths.{lseek_in_size, copy_file_range_in_size, compat_setxattr_in_size}
+use Rattle.fuse_request.specs.Lengths.{read_in_size, lseek_in_size, copy_file_range_in_size, compat_setxattr_in_size}
 use Rattle.fuse_request.specs.Bodies.{fixed, at_least, name_fault, names_fault}
-use Rattle.fuse_request.specs.Places.{before_nul, second_name}
+use Rattle.fuse_request.specs.Spelling.{read_parts}
+use Rattle.fuse_request.specs.Places.{before_nul, second_name, read_at}
 
 -- what a body says, its names and values as lists
 pub data Content : Type 0 where
@@ -31,6 +34,7 @@ pub data Content : Type 0 where
   Access : ℕ → Content
   Create : ℕ → ℕ → ℕ → ℕ → List ℕ → Content
   Fallocate : ℕ → ℕ → ℕ → ℕ → Content
+  ReadDirPlus : ReadIn → Content
   Lseek : ℕ → ℕ → ℕ → Content
   CopyFileRange : CopyFileRangeIn → Content
 
@@ -50,6 +54,7 @@ content (bodies.FsyncDir fh fsync_flags) = FsyncDir fh fsync_flags
 content (bodies.Access mask) = Access mask
 content (bodies.Create flags mode umask open_flags name) = Create flags mode umask open_flags name.now
 content (bodies.Fallocate fh offset len mode) = Fallocate fh offset len mode
+content (bodies.ReadDirPlus x) = ReadDirPlus x
 content (bodies.Lseek fh offset whence) = Lseek fh offset whence
 content (bodies.CopyFileRange x) = CopyFileRange x
 
@@ -69,6 +74,7 @@ further_opcode (FsyncDir fh fsync_flags) = fuse_fsyncdir
 further_opcode (Access mask) = fuse_access
 further_opcode (Create flags mode umask open_flags name) = fuse_create
 further_opcode (Fallocate fh offset len mode) = fuse_fallocate
+further_opcode (ReadDirPlus x) = fuse_readdirplus
 further_opcode (Lseek fh offset whence) = fuse_lseek
 further_opcode (CopyFileRange x) = fuse_copy_file_range
 
@@ -93,6 +99,7 @@ content_parts (FsyncDir fh fsync_flags) = number 8 fh ∷ number 4 fsync_flags �
 content_parts (Access mask) = number 4 mask ∷ unused 4 ∷ []
 content_parts (Create flags mode umask open_flags name) = number 4 flags ∷ number 4 mode ∷ number 4 umask ∷ number 4 open_flags ∷ text name ∷ []
 content_parts (Fallocate fh offset len mode) = number 8 fh ∷ number 8 offset ∷ number 8 len ∷ number 4 mode ∷ unused 4 ∷ []
+content_parts (ReadDirPlus x) = read_parts x
 content_parts (Lseek fh offset whence) = number 8 fh ∷ number 8 offset ∷ number 4 whence ∷ unused 4 ∷ []
 content_parts (CopyFileRange x) = copy_file_range_parts x
 
@@ -150,6 +157,7 @@ further =
     ∷ further_row fuse_create (at_least create_in_size name_fault)
     (λ b. Create (number_of 4 b) (number_of 4 (drop 4 b)) (number_of 4 (drop 8 b)) (number_of 4 (drop 12 b)) (before_nul (drop 16 b)))
     ∷ further_row fuse_fallocate (fixed fallocate_in_size) (λ b. Fallocate (number_of 8 b) (number_of 8 (drop 8 b)) (number_of 8 (drop 16 b)) (number_of 4 (drop 24 b)))
+    ∷ further_row fuse_readdirplus (fixed read_in_size) (λ b. ReadDirPlus (read_at b))
     ∷ further_row fuse_lseek (fixed lseek_in_size) (λ b. Lseek (number_of 8 b) (number_of 8 (drop 8 b)) (number_of 4 (drop 16 b)))
     ∷ further_row fuse_copy_file_range (fixed copy_file_range_in_size) (λ b. CopyFileRange (copy_file_range_at b))
     ∷ []

@@ -179,7 +179,7 @@ fn open_of(body: &[u8]) -> Result<Op<'_>, Malformed>
     Ok(Op::OpenFile { flags, open_flags })
 }
 
-fn read_at(body: &[u8]) -> ReadIn
+pub(crate) fn read_at(body: &[u8]) -> ReadIn
     requires { length body.now ≡ lengths.read_in_size }
     ensures { result ≡ places.read_at body.now }
 {

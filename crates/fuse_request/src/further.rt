@@ -7,16 +7,17 @@ ghost use Rattle.fuse_request.specs.FurtherBodies as further;
 ghost use Rattle.fuse_request.specs.FurtherBodies.{Content, SpellsBody};
 ghost use Rattle.fuse_request.specs.inner.FurtherReaders.{GivesValue, ReadsAny, ReadsBody};
 
-use crate::bodies::{last_name, two_names};
+use crate::bodies::{last_name, read_at, two_names};
 use crate::decoding::Malformed;
 use crate::lengths::{
     ACCESS_IN, COPY_FILE_RANGE_IN, CREATE_IN, FALLOCATE_IN, FLUSH_IN, FSYNC_IN, GETXATTR_IN,
-    LINK_IN, LSEEK_IN, SETXATTR_IN,
+    LINK_IN, LSEEK_IN, READ_IN, SETXATTR_IN,
 };
 use crate::opcode::{
     ACCESS, COPY_FILE_RANGE, CREATE, FALLOCATE, FLUSH, FSYNC, FSYNCDIR, GETXATTR, LINK, LISTXATTR,
-    LSEEK, READLINK, REMOVEXATTR, SETXATTR, STATFS, SYMLINK,
+    LSEEK, READDIRPLUS, READLINK, REMOVEXATTR, SETXATTR, STATFS, SYMLINK,
 };
+use crate::request::ReadIn;
 use fuse_wire::{Fields, layouts_stand, names_end, u32_at, u64_at};
 
 /// `fuse_copy_file_range_in` of `fuse.h`.
@@ -90,6 +91,8 @@ pub enum Body<'a> {
         len: u64,
         mode: u32,
     },
+    /// Of the fields of READDIR.
+    ReadDirPlus(ReadIn),
     Lseek {
         fh: u64,
         offset: u64,
@@ -278,6 +281,15 @@ fn fallocate_of(body: &[u8]) -> Result<Body<'_>, Malformed>
     })
 }
 
+fn read_dir_plus_of(body: &[u8]) -> Result<Body<'_>, Malformed>
+    ensures { ReadsBody opcodes.fuse_readdirplus body.now result }
+{
+    if body.len() != READ_IN {
+        return Err(Malformed::BodyLength);
+    }
+    Ok(Body::ReadDirPlus(read_at(body)))
+}
+
 fn lseek_of(body: &[u8]) -> Result<Body<'_>, Malformed>
     ensures { ReadsBody opcodes.fuse_lseek body.now result }
 {
@@ -333,6 +345,7 @@ fn body_of(opcode: u32, body: &[u8]) -> Result<Option<Body<'_>>, Malformed>
         ACCESS => access_of(body),
         CREATE => create_of(body),
         FALLOCATE => fallocate_of(body),
+        READDIRPLUS => read_dir_plus_of(body),
         LSEEK => lseek_of(body),
         COPY_FILE_RANGE => copy_file_range_of(body),
         _ => return Ok(None),

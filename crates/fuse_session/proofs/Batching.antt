@@ -99,16 +99,29 @@ rests_more (m ∷ ms) ns xs ys one two = (
 pub rests_one : (m : Mark) (xs : List (List ℕ × Sent)) → RestsOfWhole m xs → RestsOfAll (m ∷ []) xs
 rests_one m xs one = (xs, [], sym (append-nil xs), one, refl)
 
-pub some_more : (ms ns : List Mark) (part : List ℕ) (xs ys : List (List ℕ × Sent)) → RestsOfAll ms xs → RestsOfSome ns part ys
-    → RestsOfSome (ms ++ ns) part (xs ++ ys)
-some_more ms ns part xs ys one two = record {
+pub some_more : (ms ns : List Mark) (answer part : List ℕ) (xs ys : List (List ℕ × Sent)) → RestsOfAll ms xs → RestsOfSome ns answer part ys
+    → RestsOfSome (ms ++ ns) answer part (xs ++ ys)
+some_more ms ns answer part xs ys one two = record {
   whole = xs ++ two.whole;
   last = two.last;
   parts = ap (λ (l : List (List ℕ × Sent)). xs ++ l) two.parts ∙ sym (append_assoc xs two.whole two.last);
   answers = rests_more ms ns xs two.whole one two.answers;
-  unsent = two.unsent;
   begun = two.begun;
+  left = two.left;
+  unsent = two.unsent;
+  sent = two.sent;
+  untaken = two.untaken;
 }
 
-pub some_all : (ms : List Mark) (xs : List (List ℕ × Sent)) → RestsOfAll ms xs → RestsOfSome ms [] xs
-some_all ms xs one = record { whole = xs; last = []; parts = sym (append-nil xs); answers = one; unsent = []; begun = tt }
+pub some_all : (ms : List Mark) (xs : List (List ℕ × Sent)) → RestsOfAll ms xs → RestsOfSome ms [] [] xs
+some_all ms xs one = record {
+  whole = xs;
+  last = [];
+  parts = sym (append-nil xs);
+  answers = one;
+  begun = tt;
+  left = λ some. some;
+  unsent = [];
+  sent = refl;
+  untaken = ([], refl);
+}

@@ -121,7 +121,7 @@ prefix_whole old new bytes rest none one = record {
 }
 
 -- the port failed
-pub prefix_failed : (old mid new : PortState) (bytes rest : List ℕ) (result : Sent) → mid.failures < new.failures → new.gone ≡ mid.gone
+abbrev pub prefix_failed : (old mid new : PortState) (bytes rest : List ℕ) (result : Sent) → mid.failures < new.failures → new.gone ≡ mid.gone
     → SentPrefix old mid bytes rest → Sends mid new result rest
     → SentPart old new bytes
 prefix_failed old mid new bytes rest result more same one two = record {

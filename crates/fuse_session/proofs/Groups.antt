@@ -9,7 +9,6 @@ use Rattle.fuse_request.specs.declared.request.Request.{Request}
 use Rattle.fuse_request.specs.declared.class.Class.{Class}
 use Rattle.fuse_request.specs.declared.class.Class.TheVariants.{Silent, Bare, Kept}
 use Rattle.fuse_request.specs.Classes.{class_for}
-use Rattle.fuse_request.specs.Stream.{joined}
 use Rattle.fuse_keeper.specs.declared.keeper.Done.{Done}
 use Rattle.fuse_keeper.specs.declared.fault.StoreFault.{StoreFault}
 use Rattle.fuse_keeper.specs.History.{Entry, History, grown, ids_in, Includes, IsUnsettled, repeats, HistoriesGrow}
@@ -38,13 +37,13 @@ use Rattle.fuse_session.specs.declared.fault.Fault.{Fault}
 use Rattle.fuse_session.specs.declared.fault.Fault.TheVariants.{PortFailed, Store, Memory}
 use Rattle.fuse_session.specs.Port.{PortState}
 use Rattle.fuse_session.specs.Processed.{Timed, bytes_of, kept_in, entry_if, timed_entry, answers, Works, StartsZero, moments_in}
-use Rattle.fuse_session.specs.Settling.{Mark, replies, settled_in, NoneComesAgain, Replied, BeginsNext, FewHave}
+use Rattle.fuse_session.specs.Settling.{Mark, replies, settled_in, NoneComesAgain, SentUpTo, Replied, FewHave}
 use Rattle.fuse_session.specs.inner.Group.{Gathers, IsStuck, answers_in, repeats_in, wires, left_by, tallied, rest_by, last_zero, AreEnough}
 use Rattle.fuse_session.proofs.Outs.{told, wires_are, told_is, answers_are_outs, outs_prefix}
 use Rattle.fuse_session.specs.inner.Sending.{sending, SentAll, SentSome}
 use Rattle.fuse_session.specs.Exchange.{Exchange, grown_by, HoldsAt, Lived, Exact}
 use Rattle.fuse_session.specs.Serving.{Turned, Broken, lasts}
-use Rattle.fuse_session.proofs.Replies.{begins_none, replied_none}
+use Rattle.fuse_session.proofs.Replies.{replied_none}
 use Rattle.fuse_session.proofs.Batching.{one_batch, are_one, asked_one, left_one, some_all}
 use Rattle.fuse_session.proofs.Transcripts.{handed_sends}
 use Rattle.fuse_session.proofs.Ending.{works_group, goes_none, goes_last, ends_last}
@@ -89,29 +88,20 @@ lived_none M Stood s h c t timed so = record {
   parts = refl;
   works = tt;
   stands = subst (λ u. Stood (standing M s h u)) (sym (append-nil t)) so;
-  later = [];
-  sent = refl;
-  unsent = [];
-  begun = refl;
-  next = refl;
+  sent = record { later = []; first = refl; next = inl refl };
 }
 
 -- all of it was
-pub lived_all : (M : Model) → (Stood : Standing M → Type 0) (at : Standing M) (x : Exchange) (part unsent : List ℕ) (later : List (List ℕ))
+pub lived_all : (M : Model) → (Stood : Standing M → Type 0) (at : Standing M) (x : Exchange) (answer : List ℕ)
     → Works M at.state at.history x.timed → Stood (grown_by at x)
-    → answers M at.state (grown at.history (kept_in M.serves x.timed)) x.timed ≡ replies x.marks ++ later → joined later ≡ part ++ unsent → BeginsNext later part
-    → Lived M at x Stood part
-lived_all M Stood at x part unsent later works so sent begun next = record {
+    → SentUpTo (answers M at.state (grown at.history (kept_in M.serves x.timed)) x.timed) x.marks answer → Lived M at x Stood answer
+lived_all M Stood at x answer works so sent = record {
   worked = x.timed;
   unprocessed = [];
   parts = sym (append-nil x.timed);
   works = works;
   stands = so;
-  later = later;
   sent = sent;
-  unsent = unsent;
-  begun = begun;
-  next = next;
 }
 
 -- exactly nothing was sent
@@ -156,6 +146,7 @@ broken_none M holds holds' did p q pending messages e inexact deeds done unasked
     first = λ _. first_unsent M holds p.confirms pending [] (λ s h. tt);
   };
   others = messages;
+  answer = [];
   part = [];
   prefix = refl;
   moments = (deeds.moments, refl);
@@ -182,9 +173,9 @@ stored : (M : Model) → (s : M.State) (h : History) (c : Bool) (t : List ℕ) (
     → Lived M (standing M s h t) (exchanged c ts []) (StandAt M x r) []
 stored M s h c t ts es x r is works either = ⊎_elim
     (λ before. lived_none M (StandAt M x r) s h c t ts before)
-    (λ after. lived_all M (StandAt M x r) (standing M s h t) (exchanged c ts []) [] (joined (answers M s (grown h (kept_in M.serves ts)) ts)) (answers M s (grown h (kept_in M.serves ts)) ts) works
+    (λ after. lived_all M (StandAt M x r) (standing M s h t) (exchanged c ts []) [] works
     (subst (λ u. Stands M x r s (grown h (kept_in M.serves ts)) u) (sym (ap (λ (q : List ℕ). t ++ q) (settled_none M.serves c (bytes_of ts)) ∙ append-nil t))
-    (subst (λ l. Stands M x r s (grown h l) t) is after)) refl refl (begins_none (answers M s (grown h (kept_in M.serves ts)) ts)))
+    (subst (λ l. Stands M x r s (grown h l) t) is after)) (record { later = answers M s (grown h (kept_in M.serves ts)) ts; first = refl; next = inl refl }))
     either
 
 pub broken_store : (M : Model) → (holds holds' : KeeperState M) (gave : List Moment → Type 0) (performed : List Performance → Type 0)
@@ -211,6 +202,7 @@ broken_store M holds holds' gave performed became p pending messages count taken
         first = λ _. first_unsent M holds p.confirms pending ts (λ s h. works_group M s h ts gathers.no_zero gathers.only);
       };
       others = drop count messages;
+      answer = [];
       part = [];
       prefix = sym (take-append-drop count messages) ∙ ap (λ f. f ++ drop count messages) gathers.bytes;
       moments = ([], sym (append-nil (moments_in M.serves ts)));
@@ -258,27 +250,45 @@ memory_is PortFailed is isnt = absurd (cc is)
 memory_is (Store x) is isnt = absurd (cc isnt)
 memory_is Memory is isnt = refl
 
--- the slices of the answers that were sent
-record SentSlices (became : List PortEvent → Type 0) (marks : List Mark) (part : List ℕ) (fault : Fault) : Type 0 where
+-- the slices of the answers that were sent, and which one was begun
+record SentSlices (became : List PortEvent → Type 0) (answers : List (List ℕ)) (marks : List Mark) (part : List ℕ) (fault : Fault) : Type 0 where
+  answer : List ℕ
+  sent : SentUpTo answers marks answer
   slices : List (List ℕ × Sent)
   calls : became (sends_of slices)
-  kind : RestsOfSome marks part slices
+  kind : RestsOfSome marks answer part slices
   all : fault ≡ Memory → RestsOfAll marks slices
 
 sent_slices : (became : List PortEvent → Type 0) (p q : PortState) (answers : List (List ℕ)) (fault : Fault) → (x : SentSome became p q answers fault)
-    → SentSlices became x.marks x.part fault
+    → SentSlices became answers x.marks x.part fault
 sent_slices became p q answers Memory x =
     let a = x.all refl in
     record {
+      answer = [];
+      sent = record { later = x.sent.later; first = x.sent.first; next = inl refl };
       slices = a.slices;
       calls = a.calls;
-      kind = subst (λ part. RestsOfSome x.marks part a.slices) (sym (x.memory refl)) (some_all x.marks a.slices a.kind);
+      kind = subst (λ part. RestsOfSome x.marks [] part a.slices) (sym (x.memory refl)) (some_all x.marks a.slices a.kind);
       all = λ _. a.kind;
     }
 sent_slices became p q answers PortFailed x =
-    record { slices = x.hands.slices; calls = x.hands.calls; kind = x.hands.kind; all = λ isnt. absurd (cc isnt) }
+    record {
+      answer = x.answer;
+      sent = x.sent;
+      slices = x.hands.slices;
+      calls = x.hands.calls;
+      kind = x.hands.kind;
+      all = λ isnt. absurd (cc isnt);
+    }
 sent_slices became p q answers (Store f) x =
-    record { slices = x.hands.slices; calls = x.hands.calls; kind = x.hands.kind; all = λ isnt. absurd (cc isnt) }
+    record {
+      answer = x.answer;
+      sent = x.sent;
+      slices = x.hands.slices;
+      calls = x.hands.calls;
+      kind = x.hands.kind;
+      all = λ isnt. absurd (cc isnt);
+    }
 
 -- its answers weren't all sent
 pub broken_sent : (M : Model) → HistoriesGrow M → GroupsGrow M → (holds holds' : KeeperState M) (gave : List Moment → Type 0) (performed_so : List Performance → Type 0)
@@ -314,23 +324,24 @@ broken_sent M grows groups holds holds' gave performed_so became p q pending mid
         batches = one_batch ts some.marks;
         are = are_one ts some.marks;
         asked = asked_one M.serves p.confirms pending ts some.marks (entries_of group) (performances_of (entries_of group) pending) es refl;
-        first = λ honest. group_first M groups holds holds' p.confirms pending ts (entries_of group) dones some.marks some.later works es acts
-            (ap (λ f. wires M.serves f (answers_in dones)) (sym bytes) ∙ some.whole) honest;
+        first = λ honest. group_first M groups holds holds' p.confirms pending ts (entries_of group) dones some.marks some.sent.later works es acts
+            (ap (λ f. wires M.serves f (answers_in dones)) (sym bytes) ∙ some.sent.first) honest;
       };
       others = drop count messages;
+      answer = sl.answer;
       part = some.part;
       prefix = sym (take-append-drop count messages) ∙ ap (λ f. f ++ drop count messages) gathers.bytes;
       moments = ([], sym (append-nil (moments_in M.serves ts)));
       answered = (inl refl, tt);
-      slices = subst (RestsOfSome some.marks some.part) (sym (handed_sends sl.slices)) sl.kind;
+      slices = subst (RestsOfSome some.marks sl.answer some.part) (sym (handed_sends sl.slices)) sl.kind;
       replied = some.replied;
       exactly = λ is. record {
         no_part = some.memory (memory_is fault is some.sends);
         slices = subst (RestsOfAll some.marks) (sym (handed_sends sl.slices)) (sl.all (memory_is fault is some.sends));
         exact = λ honest s h t so within again.
             let d = done honest s h t so within again in
-            let f = outs_prefix M s h ts some.marks some.later (works s h) (sym (answers_are_outs M grows s h ts)
-            ∙ sym (sent_are M grows holds' s h t (entries_of group) ts prefix dones d es bytes) ∙ some.whole) in
+            let f = outs_prefix M s h ts some.marks some.sent.later (works s h) (sym (answers_are_outs M grows s h ts)
+            ∙ sym (sent_are M grows holds' s h t (entries_of group) ts prefix dones d es bytes) ∙ some.sent.first) in
             record {
               worked = f.first;
               unprocessed = f.others;
@@ -342,15 +353,15 @@ broken_sent M grows groups holds holds' gave performed_so became p q pending mid
       };
       life = λ intact s h t so within again.
           let d = done intact.honest s h t so within again in
-          lived_all M (HoldsAt holds') (standing M s h t) (exchanged p.confirms ts some.marks) some.part some.unsent some.later (works s h)
-          (now_stands M holds' s h t _ (entries_of group) ts dones d es)
-          (sym (sent_are M grows holds' s h t (entries_of group) ts prefix dones d es bytes) ∙ some.whole) some.begun some.next;
+          lived_all M (HoldsAt holds') (standing M s h t) (exchanged p.confirms ts some.marks) sl.answer (works s h)
+          (now_stands M holds' s h t _ (entries_of group) ts dones d es) (subst (λ all. SentUpTo all some.marks sl.answer)
+          (sent_are M grows holds' s h t (entries_of group) ts prefix dones d es bytes) sl.sent);
       crash = λ honest firm s h t so within again.
           let d = done honest s h t so within again in
           leaves_map M holds' (λ x r. Stands M x r s (grown h (kept_in M.serves ts)) (t ++ settled_in M.serves p.confirms (bytes_of ts) some.marks))
-          (λ x r. Lived M (standing M s h t) (exchanged p.confirms ts some.marks) (StandAt M x r) some.part)
-          (λ x r stands. lived_all M (StandAt M x r) (standing M s h t) (exchanged p.confirms ts some.marks) some.part some.unsent some.later (works s h) stands
-          (sym (sent_are M grows holds' s h t (entries_of group) ts prefix dones d es bytes) ∙ some.whole) some.begun some.next)
+          (λ x r. Lived M (standing M s h t) (exchanged p.confirms ts some.marks) (StandAt M x r) sl.answer)
+          (λ x r stands. lived_all M (StandAt M x r) (standing M s h t) (exchanged p.confirms ts some.marks) sl.answer (works s h) stands
+          (subst (λ all. SentUpTo all some.marks sl.answer) (sent_are M grows holds' s h t (entries_of group) ts prefix dones d es bytes) sl.sent))
           (firm_leaves M holds' s (grown h (kept_in M.serves ts)) _ (firm_still honest firm)
           (now_stands M holds' s h t (settled_in M.serves p.confirms (bytes_of ts) some.marks) (entries_of group) ts dones d es));
       few = λ intact t again h. (

@@ -1,5 +1,6 @@
 pub mod Bytes
 pub mod Transcripts
+pub mod Notices
 pub mod Devices
 pub mod Rooms
 pub mod Standing

@@ -6,7 +6,7 @@ use Rattle.std.proofs.lemmas.List.Concat.{flat_map-append}
 use Rattle.std.specs.Io.KnownBytes.{Appends, append_known}
 use Rattle.fuse_request.specs.Stream.{joined}
 use Rattle.fuse_session.specs.Port.{PortState, MoreGone, SentWhole, SentPart}
-use Rattle.fuse_session.specs.Settling.{Mark, replies, PlaceFirst, Places, GoneHaveBytes, Replied, BeginsNext}
+use Rattle.fuse_session.specs.Settling.{Mark, replies, PlaceFirst, Places, GoneHaveBytes, Replied}
 use Rattle.fuse_session.proofs.Bytes.{appends_none, appends_more}
 
 pub joined-append : (xs ys : List (List ℕ)) → joined (xs ++ ys) ≡ joined xs ++ joined ys
@@ -64,11 +64,6 @@ known_place (Some p) (Some q) reply place a at = at ∙ ap length a
 gone-append : (ms ns : List Mark) → GoneHaveBytes ms → GoneHaveBytes ns → GoneHaveBytes (ms ++ ns)
 gone-append [] ns one two = two
 gone-append (m ∷ ms) ns one two = (one.0, gone-append ms ns one.1 two)
-
--- nothing was sent of the next one
-pub begins_none : (later : List (List ℕ)) → BeginsNext later []
-begins_none [] = refl
-begins_none (answer ∷ later) = (answer, refl)
 
 pub replied_none : (p : PortState) → Replied p p [] []
 replied_none p = record { sent = appends_none p.sent; some = tt; places = []; gone = sym (append-nil p.gone); placed = refl; confirms = refl }

@@ -1,5 +1,5 @@
 -- The answers of a group, one after another.
-use Rattle.std.proofs.Common.{◌≡◌, ℕ, zero, suc, ◌+◌, ◌<◌, true, false, List, [], ◌∷◌, ◌++◌, length, take, drop, get_or, refl, sym, ap, subst, ◌∙◌}
+use Rattle.std.proofs.Common.{◌≡◌, inl, inr, ℕ, zero, suc, ◌+◌, ◌<◌, true, false, List, [], ◌∷◌, ◌++◌, length, take, drop, get_or, refl, sym, ap, subst, ◌∙◌}
 use Rattle.std.proofs.Common.{append_assoc, arith, add-one, drop-cons, length-append}
 use Rattle.std.proofs.lemmas.List.{append-nil, take_more}
 use Rattle.std.proofs.Common.{Bool, ◌||◌, Result, Ok, Err, IfOk}
@@ -10,22 +10,21 @@ use Rattle.fuse_answer.specs.Wire.{wire}
 use Rattle.fuse_answer.specs.Said.{Said}
 use Rattle.fuse_request.specs.declared.class.Class.TheVariants.{Silent, Bare, Kept}
 use Rattle.fuse_request.specs.Classes.{class_for}
-use Rattle.fuse_request.specs.Stream.{joined}
 use Rattle.fuse_keeper.specs.declared.keeper.Done.{Done}
 use Rattle.fuse_session.specs.declared.fault.Fault.{Fault}
 use Rattle.fuse_session.specs.declared.fault.Fault.TheVariants.{PortFailed, Store, Memory}
 use Rattle.fuse_session.specs.Port.{PortState, IsYoung, IsQuiet, SentWhole, MoreGone}
 use Rattle.fuse_session.specs.Processed.{unique_of, message_id}
 use Rattle.fuse_session.specs.declared.port.Sent.{Sent}
-use Rattle.fuse_session.specs.Transcript.{PortEvent, Steps, sends_of, Hands}
+use Rattle.fuse_session.specs.Transcript.{PortEvent, Steps, sends_of, Hands, SendsPart}
 use Rattle.fuse_session.specs.Slices.{RestsOfAll, RestsOfSome}
 use Rattle.fuse_session.specs.inner.Sending.{Sending, sending, HandsSlices, SendFails, SentNext, SentAll, SentSome}
 use Rattle.fuse_session.proofs.Transcripts.{sends_more, gone_is}
 use Rattle.fuse_session.proofs.Batching.{rests_more, rests_one, some_all}
-use Rattle.fuse_session.specs.Settling.{Mark, replies, settles, settles_if, settled_in, Replied, BeginsNext}
+use Rattle.fuse_session.specs.Settling.{Mark, replies, settles, settles_if, settled_in, Replied}
 use Rattle.fuse_session.specs.inner.Group.{answers_in, head_wire, left_by, wires, AreEnough}
 use Rattle.fuse_session.proofs.Bytes.{appends_none, quiet_none, quiet_more}
-use Rattle.fuse_session.proofs.Replies.{begins_none, replied_none, replied_more, replied_one, replied_part, replies-append}
+use Rattle.fuse_session.proofs.Replies.{replied_none, replied_more, replied_one, replied_part, replies-append}
 use Rattle.fuse_session.proofs.Settled.{settled-append}
 
 -- the first of these answers were sent whole, and these are left
@@ -77,12 +76,22 @@ hands_next became became' became'' joins b c tells marks mark more one two = rec
       (two.rests, two.left, gone_is mark.gone b c two.slices (tells (sends_of two.slices) two.calls) more));
 }
 
-hands_some : (became became' became'' : List PortEvent → Type 0) → ((xs ys : List PortEvent) → became xs → became' ys → became'' (xs ++ ys)) → (marks : List Mark) (part rest : List ℕ)
-    → HandsSlices became (RestsOfAll marks) → Hands became' (part ++ rest) false → HandsSlices became'' (RestsOfSome marks part)
-hands_some became became' became'' joins marks part rest one two = record {
-  slices = one.slices ++ two.slices;
-  calls = subst became'' (sym (sends_more one.slices two.slices)) (joins (sends_of one.slices) (sends_of two.slices) one.calls two.calls);
-  kind = record { whole = one.slices; last = two.slices; parts = refl; answers = one.kind; unsent = rest; begun = two.rests };
+hands_some : (became became' became'' : List PortEvent → Type 0) → ((xs ys : List PortEvent) → became xs → became' ys → became'' (xs ++ ys)) → (b c : PortState) (marks : List Mark) (answer : List ℕ)
+    → HandsSlices became (RestsOfAll marks) → (two : SendsPart became' b c answer) → HandsSlices became'' (RestsOfSome marks answer two.sent.part)
+hands_some became became' became'' joins b c marks answer one two = record {
+  slices = one.slices ++ two.hands.slices;
+  calls = subst became'' (sym (sends_more one.slices two.hands.slices)) (joins (sends_of one.slices) (sends_of two.hands.slices) one.calls two.hands.calls);
+  kind = record {
+    whole = one.slices;
+    last = two.hands.slices;
+    parts = refl;
+    answers = one.kind;
+    begun = two.hands.rests;
+    left = λ _. two.hands.left;
+    unsent = two.sent.rest;
+    sent = two.sent.parts;
+    untaken = (two.more, two.untaken);
+  };
 }
 
 hands_same : (became became' became'' : List PortEvent → Type 0) → ((xs ys : List PortEvent) → became xs → became' ys → became'' (xs ++ ys)) → (Kind : List (List ℕ × Sent) → Type 0) → HandsSlices became Kind → became' [] → HandsSlices became'' Kind
@@ -140,12 +149,9 @@ some_by V became became' became'' joins Memory a b c prefix answers left left' b
     let all = hands_same became became' became'' joins (RestsOfAll one.marks) one.hands same.1 in
     record {
       marks = one.marks;
-      later = left;
+      answer = [];
       part = [];
-      unsent = joined left;
-      whole = one.whole;
-      begun = refl;
-      next = begins_none left;
+      sent = record { later = left; first = one.whole; next = inl refl };
       replied = subst (λ x. Replied a x one.marks []) (sym same.0) one.replied;
       memory = λ _. refl;
       hands = record {
@@ -159,18 +165,15 @@ some_by V became became' became'' joins Memory a b c prefix answers left left' b
       quiet = subst (IsQuiet a) (sym same.0) one.quiet;
     }
 some_by V became became' became'' joins PortFailed a b c prefix answers left left' bytes p q is one sent =
-    let two = sent.0 in
+    let two = sent.sent in
     record {
       marks = one.marks;
-      later = left;
+      answer = bytes;
       part = two.part;
-      unsent = two.rest ++ joined left';
-      whole = one.whole;
-      begun = ap joined is ∙ ap (λ (x : List ℕ). x ++ joined left') two.parts ∙ append_assoc two.part two.rest (joined left');
-      next = subst (λ l. BeginsNext l two.part) (sym is) (two.rest, two.parts);
+      sent = record { later = left; first = one.whole; next = inr (left', is) };
       replied = subst (λ x. Replied a c x two.part) (append-nil one.marks) (replied_more a b c one.marks [] two.part one.replied (replied_part b c bytes two));
       memory = λ isnt. absurd (cc isnt);
-      hands = hands_some became became' became'' joins one.marks two.part two.rest one.hands (subst (λ b. Hands became' b false) two.parts sent.1);
+      hands = hands_some became became' became'' joins b c one.marks bytes one.hands sent;
       all = λ isnt. absurd (cc isnt);
       sends = refl;
       failed = omega (arith, two.failures, one.failures);

@@ -8,9 +8,9 @@ use Rattle.fuse_session.specs.declared.port.Sent.{Sent}
 use Rattle.fuse_session.specs.declared.port.Sent.TheVariants.{Took, Gone, Failed}
 use Rattle.fuse_session.specs.Port.{PortState, Receives, Sends, MoreGone, is_gone}
 use Rattle.fuse_session.specs.Transcript.{PortEvent, Received, Handed, one_receive, one_send, Steps, Gave, came_with, received_in}
-use Rattle.fuse_session.specs.Transcript.{handed_with, handed_in, IsTranscript, sends_of, left_after, left_of, StopsAfter, RestsOf, IsLeft, Hands}
+use Rattle.fuse_session.specs.Transcript.{handed_with, handed_in, IsTranscript, sends_of, left_after, left_of, StopsAfter, RestsOf, IsLeft, Hands, SendsPart}
 use Rattle.fuse_session.specs.Slices.{gone_in}
-use Rattle.fuse_session.proofs.Bytes.{rest_is}
+use Rattle.fuse_session.proofs.Bytes.{SentPrefix, prefix_failed, rest_is}
 
 -- ---- one call
 
@@ -123,6 +123,23 @@ hands_last became path a b c bytes rest s whole some left one two = record {
   calls = next_call became path a b c bytes rest s one two;
   rests = next_rests (became a b) bytes rest s one some;
   left = subst (IsLeft whole) (sym (left_more bytes rest one.slices s ∙ ap (left_after s) one.left)) left;
+}
+
+-- the port failed at a slice: with its bytes, what was sent of the answer
+pub fails_last : {P : Type 0} (told : P → PortState) (became : P → P → List PortEvent → Type 0) → IsTranscript became → (a b c : P) (bytes rest more : List ℕ)
+    (s : Sent) → (rest ≡ [] → ⊥) → (left_after s rest ≡ [] → ⊥) → (told b).failures < (told c).failures → (told c).gone ≡ (told b).gone
+    → SentPrefix (told a) (told b) bytes rest → HandsSome (became a b) bytes rest → (two : Sends (told b) (told c) s rest)
+    → left_after s rest ≡ more ++ drop two.count rest → became b c (one_send rest s) → SendsPart (became a c) (told a) (told c) bytes
+fails_last told became path a b c bytes rest more s some left failed same sent one two untaken call = record {
+  sent = prefix_failed (told a) (told b) (told c) bytes rest s failed same sent two;
+  hands = record {
+    slices = one.slices ++ (rest, s) ∷ [];
+    calls = next_call became path a b c bytes rest s one call;
+    rests = next_rests (became a b) bytes rest s one some;
+    left = λ none. left (sym (left_more bytes rest one.slices s ∙ ap (left_after s) one.left) ∙ none);
+  };
+  more = more;
+  untaken = left_more bytes rest one.slices s ∙ ap (left_after s) one.left ∙ untaken;
 }
 
 -- nothing was taken of the last

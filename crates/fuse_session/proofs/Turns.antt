@@ -19,7 +19,7 @@ use Rattle.fuse_session.specs.declared.group.Next.{Next}
 use Rattle.fuse_session.specs.declared.group.Next.TheVariants.{GoesOn as GoesOnHere, Destroyed, ZeroUnique}
 use Rattle.fuse_session.specs.Port.{PortState}
 use Rattle.fuse_session.specs.Processed.{Timed, bytes_of, kept_in, answers, says_zero, message_id, StartsZero, GoesOn, Works, moments_in}
-use Rattle.fuse_session.specs.Settling.{Mark, replies, settled_in, NoneComesAgain, Replied, FewHave}
+use Rattle.fuse_session.specs.Settling.{Mark, replies, settled_in, NoneComesAgain, SentUpTo, Replied, FewHave}
 use Rattle.fuse_session.specs.Counting.{plus, none_counted, counted}
 use Rattle.fuse_session.specs.Batches.{Batch, timed_in, marks_in, pending_after, left_over, AllAnswered}
 use Rattle.fuse_session.specs.Ended.{ended_store, MayEnd}
@@ -265,11 +265,11 @@ turned_more M grows holds mid new did did' did'' p q r ids ids' ids'' prefix pre
 
 -- a life after messages that were answered
 lived_more : (M : Model) → HistoriesGrow M → (Stood : Standing M → Type 0) (s : M.State) (h : History) (c c' : Bool) (t : List ℕ) (xs ys : List Timed)
-    (ms ns : List Mark) (part : List ℕ) → c' ≡ c → length ms ≡ length xs
+    (ms ns : List Mark) (answer : List ℕ) → c' ≡ c → length ms ≡ length xs
     → GoesOn M s h xs → replies ms ≡ answers M s (grown h (kept_in M.serves xs)) xs
-    → Lived M (grown_by (standing M s h t) (exchanged c xs ms)) (exchanged c' ys ns) Stood part
-    → Lived M (standing M s h t) (exchanged c (xs ++ ys) (ms ++ ns)) Stood part
-lived_more M grows Stood s h c c' t xs ys ms ns part same full goes sent l =
+    → Lived M (grown_by (standing M s h t) (exchanged c xs ms)) (exchanged c' ys ns) Stood answer
+    → Lived M (standing M s h t) (exchanged c (xs ++ ys) (ms ++ ns)) Stood answer
+lived_more M grows Stood s h c c' t xs ys ms ns answer same full goes sent l =
     let g = grown h (kept_in M.serves xs) in
     record {
       worked = xs ++ l.worked;
@@ -278,13 +278,13 @@ lived_more M grows Stood s h c c' t xs ys ms ns part same full goes sent l =
       works = Works-append M s h xs l.worked goes l.works;
       stands = subst (λ x. Stood (standing M s x (t ++ settled_in M.serves c (bytes_of (xs ++ l.worked)) (ms ++ ns)))) (sym (grown_kept M.serves h xs l.worked))
           (subst (λ x. Stood (standing M s (grown g (kept_in M.serves l.worked)) x)) (settled_both M.serves c c' t xs l.worked ms ns same full) l.stands);
-      later = l.later;
-      sent = answers-append M grows s h xs l.worked ∙ ap (λ x. x ++ answers M s (grown g (kept_in M.serves l.worked)) l.worked) (sym sent)
-          ∙ ap (λ x. replies ms ++ x) l.sent
-          ∙ sym (append_assoc (replies ms) (replies ns) l.later) ∙ ap (λ x. x ++ l.later) (sym (replies-append ms ns));
-      unsent = l.unsent;
-      begun = l.begun;
-      next = l.next;
+      sent = record {
+        later = l.sent.later;
+        first = answers-append M grows s h xs l.worked ∙ ap (λ x. x ++ answers M s (grown g (kept_in M.serves l.worked)) l.worked) (sym sent)
+            ∙ ap (λ x. replies ms ++ x) l.sent.first
+            ∙ sym (append_assoc (replies ms) (replies ns) l.sent.later) ∙ ap (λ x. x ++ l.sent.later) (sym (replies-append ms ns));
+        next = l.sent.next;
+      };
     }
 
 exact_more : (M : Model) → HistoriesGrow M → (Stood Stood' : Standing M → Type 0) (s : M.State) (h : History) (c c' : Bool) (t : List ℕ)
@@ -330,6 +330,7 @@ turned_broken M grows holds mid new did did' did'' p q r ids ids' prefix message
     record {
       work = work_more M grows holds mid new did did' did'' p q r ids ids' prefix counts one b honest_too onward;
       others = two.others;
+      answer = two.answer;
       part = two.part;
       prefix = ap (λ f. f ++ messages) one.bytes ∙ ap (λ f. bytes_of a.timed ++ f) two.prefix
           ∙ sym (append_assoc (bytes_of a.timed) (bytes_of b.timed) two.others)
@@ -339,8 +340,8 @@ turned_broken M grows holds mid new did did' did'' p q r ids ids' prefix message
         moments_both M.serves a.timed b.timed a.deeds.moments b.deeds.moments two.moments.0 one.moments two.moments.1,
       );
       answered = answered_last a.batches b.batches one.answered two.answered;
-      slices = subst (RestsOfSome (a.marks ++ b.marks) two.part) (sym (handed_more a.deeds.events b.deeds.events))
-          (some_more a.marks b.marks two.part (handed_in a.deeds.events) (handed_in b.deeds.events) one.slices two.slices);
+      slices = subst (RestsOfSome (a.marks ++ b.marks) two.answer two.part) (sym (handed_more a.deeds.events b.deeds.events))
+          (some_more a.marks b.marks two.answer two.part (handed_in a.deeds.events) (handed_in b.deeds.events) one.slices two.slices);
       replied = replied_more p q r a.marks b.marks two.part one.replied two.replied;
       exactly = λ how.
           let x = two.exactly how in
@@ -360,16 +361,16 @@ turned_broken M grows holds mid new did did' did'' p q r ids ids' prefix message
       life = λ intact s h t so within again.
           let parts = again_both M.serves c q.confirms t a.timed b.timed a.marks b.marks same one.full again in
           let y = one.all (honest_too intact.honest) s h t so within parts.0 in
-          lived_more M grows (HoldsAt new) s h c q.confirms t a.timed b.timed a.marks b.marks two.part same one.full (y.goes refl) y.sent
+          lived_more M grows (HoldsAt new) s h c q.confirms t a.timed b.timed a.marks b.marks two.answer same one.full (y.goes refl) y.sent
           (two.life intact s (grown h (kept_in M.serves a.timed)) (settled_with t a) y.stands (still t within) parts.1);
       crash = λ is firm s h t so within again.
           let parts = again_both M.serves c q.confirms t a.timed b.timed a.marks b.marks same one.full again in
           let g = grown h (kept_in M.serves a.timed) in
           let u = settled_with t a in
           let y = one.all (honest_too is) s h t so within parts.0 in
-          leaves_map M new (λ x r. Lived M (standing M s g u) (exchanged q.confirms b.timed b.marks) (StandAt M x r) two.part)
-          (λ x r. Lived M (standing M s h t) (exchanged c (a.timed ++ b.timed) (a.marks ++ b.marks)) (StandAt M x r) two.part)
-          (λ x r l. lived_more M grows (StandAt M x r) s h c q.confirms t a.timed b.timed a.marks b.marks two.part same one.full (y.goes refl) y.sent l)
+          leaves_map M new (λ x r. Lived M (standing M s g u) (exchanged q.confirms b.timed b.marks) (StandAt M x r) two.answer)
+          (λ x r. Lived M (standing M s h t) (exchanged c (a.timed ++ b.timed) (a.marks ++ b.marks)) (StandAt M x r) two.answer)
+          (λ x r l. lived_more M grows (StandAt M x r) s h c q.confirms t a.timed b.timed a.marks b.marks two.answer same one.full (y.goes refl) y.sent l)
           (two.crash is (firm_too (honest_too is) firm) s g u y.stands (still t within) parts.1);
       few = λ intact t again h.
           let parts = again_both M.serves c q.confirms t a.timed b.timed a.marks b.marks same one.full again in
@@ -378,6 +379,10 @@ turned_broken M grows holds mid new did did' did'' p q r ids ids' prefix message
             subst (λ (u : List ℕ). FewHave new u f.0) (settled_both M.serves c q.confirms t a.timed b.timed a.marks b.marks same one.full) f.1,
           );
     }
+
+-- all answers were sent
+sent_up_to : (marks : List Mark) (answers : List (List ℕ)) → replies marks ≡ answers → SentUpTo answers marks []
+sent_up_to marks answers sent = record { later = []; first = sym (append-nil (replies marks) ∙ sent); next = inl refl }
 
 -- messages that were answered, as a life, with others after them
 pub turned_life : (M : Model) → (holds new : KeeperState M) (did : Deeds → Type 0) (p q : PortState) (ids ids' : List ℕ)
@@ -390,6 +395,7 @@ turned_life M holds new did p q ids ids' prefix others messages going counts e i
     record {
       work = w;
       others = others;
+      answer = [];
       part = [];
       prefix = parts ∙ ap (λ f. f ++ others) one.bytes;
       moments = ([], one.moments ∙ sym (append-nil (moments_in M.serves w.timed)));
@@ -406,12 +412,12 @@ turned_life M holds new did p q ids ids' prefix others messages going counts e i
       };
       life = λ intact s h t so within again.
           let a = one.all intact.honest s h t so within again in
-          lived_all M (HoldsAt new) (standing M s h t) x [] [] [] a.works a.stands (sym (append-nil (replies w.marks) ∙ a.sent)) refl refl;
+          lived_all M (HoldsAt new) (standing M s h t) x [] a.works a.stands (sent_up_to w.marks _ a.sent);
       crash = λ is firm s h t so within again.
           let a = one.all is s h t so within again in
           leaves_map M new (λ x r. Stands M x r s (grown h (kept_in M.serves w.timed)) (settled_with t w))
           (λ rows r. Lived M (standing M s h t) x (StandAt M rows r) [])
-          (λ rows r stands. lived_all M (StandAt M rows r) (standing M s h t) x [] [] [] a.works stands (sym (append-nil (replies w.marks) ∙ a.sent)) refl refl)
+          (λ rows r stands. lived_all M (StandAt M rows r) (standing M s h t) x [] a.works stands (sent_up_to w.marks _ a.sent))
           (firm_leaves M new s (grown h (kept_in M.serves w.timed)) (settled_with t w) (firm_still is firm) a.stands);
       few = λ intact t again h. (ids', one.few intact.honest t again h);
     }

@@ -1,13 +1,12 @@
 -- Messages and the answers to them, over the history that a keeper stands for (own profile).
 use Rattle.std.specs.Prelude.{◌≡◌, ℕ, Bool, true, false, List, ◌++◌, length, take}
-use Rattle.fuse_request.specs.Stream.{joined}
 use Rattle.fuse_keeper.specs.History.{History, grown, Includes}
 use Rattle.fuse_keeper.specs.Model.{Model}
 use Rattle.fuse_keeper.specs.Stands.{Standing}
 use Rattle.fuse_keeper.specs.KeeperState.{KeeperState, StandsFor}
 use Rattle.fuse_session.specs.declared.counts.SessionCounts.{SessionCounts}
 use Rattle.fuse_session.specs.Processed.{Timed, bytes_of, kept_in, answers, GoesOn, Works, EndsLast}
-use Rattle.fuse_session.specs.Settling.{Mark, replies, settled_in, NoneComesAgain, BeginsNext}
+use Rattle.fuse_session.specs.Settling.{Mark, replies, settled_in, NoneComesAgain, SentUpTo}
 use Rattle.fuse_session.specs.Counting.{counted}
 
 -- messages, the whole answers that were sent for the first of them, and whether the port confirms
@@ -42,18 +41,14 @@ pub record Answered (M : Model) (at : Standing M) (x : Exchange) (Stood : Standi
   pub sent : replies x.marks ≡ answers M at.state (grown at.history (kept_in M.serves x.timed)) x.timed
   pub counts_are : counts ≡ counted M.serves at.history x.timed
 
--- some of the messages were processed, and a prefix of their answers was sent: whole ones, and then this part of one
-pub record Lived (M : Model) (at : Standing M) (x : Exchange) (Stood : Standing M → Type 0) (part : List ℕ) : Type 0 where
+-- some of the messages were processed, and their first answers were sent: whole ones, and then this one was begun
+pub record Lived (M : Model) (at : Standing M) (x : Exchange) (Stood : Standing M → Type 0) (answer : List ℕ) : Type 0 where
   pub worked : List Timed
   pub unprocessed : List Timed
   pub parts : x.timed ≡ worked ++ unprocessed
   pub works : Works M at.state at.history worked
   pub stands : Stood (grown_by at (record x { timed = worked }))
-  pub later : List (List ℕ)
-  pub sent : answers M at.state (grown at.history (kept_in M.serves worked)) worked ≡ replies x.marks ++ later
-  pub unsent : List ℕ
-  pub begun : joined later ≡ part ++ unsent
-  pub next : BeginsNext later part
+  pub sent : SentUpTo (answers M at.state (grown at.history (kept_in M.serves worked)) worked) x.marks answer
 
 -- some of the messages were processed, and exactly their answers were sent
 pub record Exact (M : Model) (at : Standing M) (x : Exchange) (Stood : Standing M → Type 0) : Type 0 where

@@ -109,22 +109,24 @@ pub record SentExactly {M : Model} (p : Passage M) (pending : List ℕ) (work : 
   pub exact : p.keeper'.is_honest → IfNoneComesAgain p.keeper pending (exchange work) (λ at. Exact M at (exchange work)
       (λ after. ended_store ended ≡ true → p.keeper'.is_clean → HoldsAt p.keeper' after × MayEnd p.keeper.may_answer ended))
 
--- some of these messages were processed, and a prefix of the answers to those was sent. The keeper stands for the messages
--- processed, and where it was firm so does whatever a crash leaves. Few of the settled ids have a record, if so it was before
+-- some of these messages were processed, and a prefix of the answers to those was sent: whole ones, and a part of the next one. No
+-- other bytes were handed to the port. The keeper stands for the messages processed, and where it was firm so does whatever a crash
+-- leaves. Few of the settled ids have a record, if so it was before
 pub record Broken {M : Model} (p : Passage M) (pending : List ℕ) (messages : List (List ℕ)) (ended : Ended) : Type 0 where
   pub work : Work p pending
   pub others : List (List ℕ)
+  pub answer : List ℕ
   pub part : List ℕ
   pub prefix : messages ≡ bytes_of work.timed ++ others
   pub moments : TimedFirst M.serves work.deeds.moments work.timed
   pub answered : AnsweredButLast work.batches
-  pub slices : RestsOfSome work.marks part (handed_in work.deeds.events)
+  pub slices : RestsOfSome work.marks answer part (handed_in work.deeds.events)
   pub replied : Replied p.port p.port' work.marks part
   pub exactly : ended_between ended ≡ true → SentExactly p pending work part ended
   pub life : IsIntact p.keeper' ended
-      → IfNoneComesAgain p.keeper pending (exchange work) (λ at. Lived M at (exchange work) (HoldsAt p.keeper') part)
+      → IfNoneComesAgain p.keeper pending (exchange work) (λ at. Lived M at (exchange work) (HoldsAt p.keeper') answer)
   pub crash : p.keeper'.is_honest → IsFirm p.keeper → IfNoneComesAgain p.keeper pending (exchange work) (λ at. Leaves p.keeper'
-      (λ x r. Lived M at (exchange work) (StandsAt M (record { rows = x; records = r })) part))
+      (λ x r. Lived M at (exchange work) (StandsAt M (record { rows = x; records = r })) answer))
   pub few : IsIntact p.keeper' ended → (t : List ℕ) → NoneComesAgain M.serves p.port.confirms t (bytes_of work.timed) work.marks
       → FewHave p.keeper t pending → FewRecorded p.keeper' (settled_with t work)
 

@@ -17,9 +17,9 @@ pub record Session {M : Model} (p : Passage M) (turns : ℕ) (served : Served) :
   -- by batch, with which settled ids; and the slices that the port was handed, each all that is left of one answer
   pub ends : SessionEnds p turns served
   -- however it ended: the bytes sent are a prefix of the answers to messages that the keeper stands for, and that whatever a crash
-  -- leaves stands for; and few of the ids that the answers settled have a record. Where the store or a lack of memory ended it,
-  -- exactly the answers to some of the messages were sent. Up to the first message that comes again, each answer is the one to be
-  -- sent
+  -- leaves stands for; each slice that the port was handed is of the next of these, that of a write that failed too; and few of the
+  -- ids that the answers settled have a record. Where the store or a lack of memory ended it, exactly the answers to some of the
+  -- messages were sent. Up to the first message that comes again, each answer is the one to be sent
   pub life : Run p nothing_waits served.ended
   -- before more is received, all that came is answered, and nothing ended the session; where nothing more comes, it stops
   pub prompt : Prompt p

@@ -75,10 +75,11 @@ pub record Replied (old new : PortState) (marks : List Mark) (part : List ℕ) :
   pub placed : Places old.sent marks places
   pub confirms : new.confirms ≡ old.confirms
 
--- a part of the next one of the answers that are left
-abbrev pub BeginsNext : List (List ℕ) → List ℕ → Type 0
-BeginsNext [] part = part ≡ []
-BeginsNext (answer ∷ later) part = (unsent : List ℕ) × (answer ≡ part ++ unsent)
+-- of these answers the first ones were sent whole, and then the next one was begun: this one, or none where it is empty
+pub record SentUpTo (answers : List (List ℕ)) (marks : List Mark) (answer : List ℕ) : Type 0 where
+  pub later : List (List ℕ)
+  pub first : answers ≡ replies marks ++ later
+  pub next : (answer ≡ []) ⊎ ((others : List (List ℕ)) × (later ≡ answer ∷ others))
 
 -- of these ids at most 16 have a record, and those are among the second ones
 pub record FewHave {M : Model} (k : KeeperState M) (ids more : List ℕ) : Type 0 where

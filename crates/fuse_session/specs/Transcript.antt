@@ -4,7 +4,7 @@ use Rattle.fuse_session.specs.declared.port.Received.{Received as Receipt}
 use Rattle.fuse_session.specs.declared.port.Received.TheVariants.{Got, End, Failed as ReceiveFailed}
 use Rattle.fuse_session.specs.declared.port.Sent.{Sent}
 use Rattle.fuse_session.specs.declared.port.Sent.TheVariants.{Took, Gone, Failed}
-use Rattle.fuse_session.specs.Port.{PortState, Receives, Sends}
+use Rattle.fuse_session.specs.Port.{PortState, Receives, Sends, SentPart}
 
 -- one call: a receive with its result and the bytes that came, or a send with its slice and its result
 pub data PortEvent : Type 0 where
@@ -113,3 +113,10 @@ pub record Hands (became : List PortEvent → Type 0) (bytes : List ℕ) (whole 
   pub calls : became (sends_of slices)
   pub rests : RestsOf bytes slices
   pub left : IsLeft whole (left_of bytes slices)
+
+-- the port failed with a part of an answer sent: what it took of the slices, and maybe some of the one that failed
+pub record SendsPart (became : List PortEvent → Type 0) (old new : PortState) (bytes : List ℕ) : Type 0 where
+  pub sent : SentPart old new bytes
+  pub hands : Hands became bytes false
+  pub more : List ℕ
+  pub untaken : left_of bytes hands.slices ≡ more ++ sent.rest

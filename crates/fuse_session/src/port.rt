@@ -1,9 +1,9 @@
 // Where messages come from and answers go to.
-ghost use Rattle.std.specs.Prelude.{◌≡◌, ◌≢◌, ◌≤◌, [], length, List, IfOk, OnErr, is_ok};
+ghost use Rattle.std.specs.Prelude.{◌≡◌, ◌≢◌, ◌≤◌, [], length, List, IfOk, OnOk, OnErr, true};
 ghost use Rattle.fuse_request.specs.declared.header.TheConstants.{MAX_MESSAGE as max_message};
 ghost use Rattle.fuse_session.specs.Port.{PortState, IsYoung, Receives, Sends};
-ghost use Rattle.fuse_session.specs.Port.{SentWhole, SentPart};
-ghost use Rattle.fuse_session.specs.Transcript.{PortEvent, IsTranscript, Tells, Hands};
+ghost use Rattle.fuse_session.specs.Port.{SentWhole};
+ghost use Rattle.fuse_session.specs.Transcript.{PortEvent, IsTranscript, Tells, Hands, SendsPart};
 ghost use Rattle.fuse_session.specs.Transcript.{one_receive, one_send};
 ghost use Rattle.fuse_session.specs.inner.Sending.{reports_gone};
 
@@ -83,8 +83,9 @@ pub(crate) fn send_whole<P: Port>(port: &mut P, bytes: &[u8]) -> Result<Passed, 
     requires young { IsYoung (P.told port.old) }
     ensures ok { IfOk result (λ passed. SentWhole (P.told port.old) (P.told port.new)
         bytes.now (reports_gone passed)) }
-    ensures err { OnErr result (SentPart (P.told port.old) (P.told port.new) bytes.now) }
-    ensures same { Hands (P.became port.old port.new) bytes.now (is_ok result) }
+    ensures hands { OnOk result (Hands (P.became port.old port.new) bytes.now true) }
+    ensures err { OnErr result (SendsPart (P.became port.old port.new) (P.told port.old)
+        (P.told port.new) bytes.now) }
 {
     let mut rest = bytes;
     while !rest.is_empty() {

@@ -3,6 +3,5 @@ pub mod Once
 pub mod Pages
 pub mod Shows
 pub mod Splits
-pub mod Summaries
 pub mod Trees
 pub mod Walks

@@ -1,16 +1,19 @@
 -- Properties of the rows of a tree, by the law `rows_of_trees`, which is the first argument of each.
 use Rattle.std.proofs.Common.{◌≡◌, ◌≤◌, ◌==◌, ℕ, Bool, true, false, cond, eqb, List, [], ◌∷◌, length, take, zero, suc}
-use Rattle.std.proofs.Common.{Some, None, refl, sym, ap, subst, ◌∙◌}
+use Rattle.std.proofs.Common.{Some, None, refl, sym, ap, subst, ◌∙◌, arith}
 use Rattle.std.specs.Prelude.{find, filter}
 use Rattle.std.specs.Option.{option_map}
 use Rattle.std.specs.List.{AllByRecursion}
 use Rattle.std.proofs.lemmas.Bool.{eqb-true}
+use Rattle.fuse_init.specs.declared.profile.Profile.{Profile}
+use Rattle.fuse_init.specs.declared.profile.Profile.TheVariants.{Plain, Everyday}
+use Rattle.fuse_init.specs.Profile.{terms}
 use Rattle.fuse_tree.specs.Bounds.{fuse_root_id, file_limit}
 use Rattle.fuse_tree.specs.declared.rows.EntryRow.{EntryRow}
 use Rattle.fuse_tree.specs.declared.rows.NodeRow.{NodeRow}
 use Rattle.fuse_tree.specs.declared.rows.Full.{Full}
 use Rattle.fuse_tree.specs.State.{is_entry}
-use Rattle.fuse_tree.specs.Rows.{Rows, IsRowed, row_at, entry_at, is_after, entries_after}
+use Rattle.fuse_tree.specs.Rows.{Rows, IsRowed, profile_at, row_at, entry_at, is_after, entries_after}
 use Rattle.fuse_tree.specs.RowsOfTrees.{RowsOfTrees, LeadsToRow}
 use Rattle.fuse_show.specs.Content.{content_at}
 
@@ -24,7 +27,13 @@ pub sized_right : RowsOfTrees → (rows : Rows) (number : ℕ) (row : NodeRow) �
 sized_right law rows number row is e = ((law rows is).sizes number row e).told
 
 pub small : RowsOfTrees → (rows : Rows) (number : ℕ) (row : NodeRow) → IsRowed rows → row_at rows number ≡ Some row → row.size ≤ file_limit
-small law rows number row is e = ((law rows is).sizes number row e).within
+small law rows number row is e =
+    let within : row.size ≤ (terms (profile_at rows)).file_limit = ((law rows is).sizes number row e).within in
+    omega (arith, within, most (profile_at rows))
+  where
+    most : (p : Profile) → (terms p).file_limit ≤ file_limit
+    most Plain = omega arith
+    most Everyday = omega arith
 
 -- ---- entries
 

@@ -1,5 +1,5 @@
-//! Read-only views of a store over any `Keeper` and `Look`: a summary, the entries of a directory,
-//! the bytes of a file.
+//! Read-only views of a store: the entries of a directory and the bytes of a file over any `Look`,
+//! and a summary.
 #![tactic(auto)]
 
 mod content;
@@ -16,4 +16,4 @@ pub use content::show_content;
 pub use fault::ShowFault;
 pub use laws::found_once;
 pub use listing::show_listing;
-pub use summary::{SummaryFault, show_summary};
+pub use summary::{Summary, show_summary};

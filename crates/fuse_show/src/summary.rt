@@ -1,43 +1,12 @@
-ghost use Rattle.std.specs.Prelude.{◌≡◌, ℕ, OnOk, OnErr, length};
+ghost use Rattle.std.specs.Prelude.{◌≡◌, OnOk, IfErr};
 ghost use Rattle.std.specs.Io.KnownBytes.{Appends};
-ghost use Rattle.fuse_keeper.specs.Stands.{CountsRecords};
-ghost use Rattle.fuse_keeper.specs.KeeperState.{Reports};
-ghost use Rattle.fuse_show.specs.Summary.{store_text, count_of, of_keeper, OnlyAsked};
+ghost use Rattle.fuse_show.specs.Summary.{store_text};
 
+use crate::fault::ShowFault;
 use fuse_init::Settings;
-use fuse_keeper::{Keeper, StoreCounts, StoreFault};
+use fuse_keeper::StoreCounts;
+use std::fmt;
 use std::io::Write;
-use std::{fmt, io};
-
-/// Why a summary is not written.
-#[derive(Debug, Drop)]
-pub enum SummaryFault {
-    Store(StoreFault),
-    /// Writing failed.
-    Output,
-}
-
-impl From<StoreFault> for SummaryFault {
-    ghost use Rattle.std.specs.Prelude.{◌≡◌};
-    ghost use Rattle.fuse_show.specs.declared.summary.SummaryFault.TheVariants.{Store as OfStore};
-
-    ghost from_gives = { λ fault e. e ≡ OfStore fault };
-
-    fn from(fault: StoreFault) -> SummaryFault {
-        SummaryFault::Store(fault)
-    }
-}
-
-impl From<io::Error> for SummaryFault {
-    ghost use Rattle.std.specs.Prelude.{◌≡◌};
-    ghost use Rattle.fuse_show.specs.declared.summary.SummaryFault.TheVariants.{Output as OfOutput};
-
-    ghost from_gives = { λ _ e. e ≡ OfOutput };
-
-    fn from(_e: io::Error) -> SummaryFault {
-        SummaryFault::Output
-    }
-}
 
 // The settings that INIT agreed on.
 #[derive(Clone, Copy)]
@@ -80,16 +49,18 @@ impl fmt::Display for CountsText {
     }
 }
 
-// The lines of a summary.
+/// What a summary says of a store.
 #[derive(Clone, Copy)]
-struct StoreText {
-    version: u64,
-    counts: StoreCounts,
-    bytes: u64,
-    agreed: Option<Settings>,
+pub struct Summary {
+    pub version: u64,
+    pub counts: StoreCounts,
+    /// The size of all contents.
+    pub bytes: u64,
+    /// The settings that INIT agreed on.
+    pub agreed: Option<Settings>,
 }
 
-impl fmt::Display for StoreText {
+impl fmt::Display for Summary {
     ghost use Rattle.std.specs.Prelude.{Some};
     ghost use Rattle.fuse_show.specs.Summary.{store_text};
 
@@ -107,34 +78,13 @@ impl fmt::Display for StoreText {
     }
 }
 
-/// Writes a summary of a store: its version, its counts, the bytes of all contents, and the
-/// settings that INIT agreed on.
-pub fn show_summary<K: Keeper, W: Write>(
-    keeper: &mut K,
-    version: u64,
-    bytes: u64,
-    writer: &mut W,
-) -> Result<(), SummaryFault>
-    ensures shown { OnOk result (Reports (K.told keeper.old) (K.told keeper.new) (λ rows records.
-        (n : ℕ) × CountsRecords records n
-        × Appends (W.contents writer.old) (W.contents writer.new)
-        (store_text version (count_of (K.model.nodes rows) (K.model.handles rows) n
-        (length (K.told keeper.old).lots.numbers)) bytes (K.model.settings rows)))) }
-    // The store holds the same, and a crash can leave no more than before.
-    ensures asked { OnlyAsked (K.told keeper.old) (K.told keeper.new) (of_keeper result) }
-    ensures same { K.became keeper.old keeper.new 0 }
-    // A fault of the keeper writes nothing.
-    ensures silent { OnErr (of_keeper result) (W.contents writer.new ≡ W.contents writer.old) }
+/// Writes the lines of a summary.
+pub fn show_summary<W: Write>(summary: &Summary, writer: &mut W) -> Result<(), ShowFault>
+    ensures shown { OnOk result (Appends (W.contents writer.old) (W.contents writer.new)
+        (store_text summary.now.version summary.now.counts summary.now.bytes summary.now.agreed)) }
+    ensures fault { IfErr result (λ fault. fault ≡ ShowFault.Output) }
 {
-    let counts = keeper.counts()?;
-    let agreed = keeper.settings()?;
-    let text = StoreText {
-        version,
-        counts,
-        bytes,
-        agreed,
-    };
-    write!(writer, "{text}")?;
+    write!(writer, "{summary}")?;
     writer.flush()?;
     Ok(())
 }

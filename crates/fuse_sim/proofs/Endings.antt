@@ -16,6 +16,7 @@ use Rattle.fuse_sim.specs.declared.event.Outcome.{Outcome}
 use Rattle.fuse_sim.specs.declared.event.DriveFault.{DriveFault}
 use Rattle.fuse_sim.specs.Driving.{commits_in, committed, outcome_of, bytes_given, settled_by, NoneReused, told_in, StandsIn, became_in, deaths, Opened, AnsweredBy}
 use Rattle.fuse_sim.specs.Driving.{OfRestart, IsFit, event_of, before, is_store, LeftBy, OutcomesBegin, StoodBefore, KeepsMedium, performed_in}
+use Rattle.fuse_sim.specs.AfterEvents.{DeletesHanded}
 use Rattle.fuse_sim.specs.HandedOn.{Ledger, empty_ledger, performances, handed_in, AsksUpTo, AskedSome}
 use Rattle.fuse_sim.specs.inner.HandedBy.{ledger_after, handed_on, AsksOne}
 use Rattle.fuse_sim.specs.LeftRecords.{RecordsLeft, HoldsRecords}
@@ -196,6 +197,20 @@ stopped M seen old mid new events at fault p outcomes too moved stops s h t so n
     (clean_too M seen.told new too) stops.left (λ is left.
     stands_kept M (told_in seen.told mid) (told_in seen.told new) s (committed M.serves h (before fault events)) (settled_by M.serves t (before fault events)) left.1
     (stopped_at M seen.told old mid events at fault p outcomes moved left.0 (stops.was_honest is) s h t so none))
+
+-- the records that a fault leaves are those that the events before it left
+pub stopped_records : (M : Model) → {K : Type 0} (seen : Seen M K) (old mid new : Option K)
+    (events : List Event) (at : ℕ) (fault : DriveFault) (p : List ℕ) (outcomes : List (Option Outcome))
+    → ((k : K) → (seen.told k).is_clean → (seen.told k).is_honest) → Moved (stage (told_in seen.told old) [] []) (stage (told_in seen.told mid) p outcomes) 0 (take at events) (drop at events) → Stops seen mid new events at fault
+    → LeftBy (told_in seen.told new) (is_store fault) (DeletesHanded seen.told old new (performances M.serves (before fault events)) (before fault events))
+stopped_records M seen old mid new events at fault p outcomes too moved stops =
+    left_map M seen.told (is_store fault) new ((event_of fault ≡ at) × KeepsHeld (told_in seen.told mid) (told_in seen.told new))
+    (DeletesHanded seen.told old new (performances M.serves (before fault events)) (before fault events))
+    (clean_too M seen.told new too) stops.left (λ is left.
+    subst (λ es. DeletesHanded seen.told old new (performances M.serves es) es) (sym (ap (λ n. take n events) left.0))
+    (λ honest rows records held rowed.
+    let done = moved_records M (told_in seen.told old) (told_in seen.told mid) (take at events) (drop at events) p outcomes moved (stops.was_honest honest) rows records held rowed in
+    record { rows = done.rows; records = done.records; held = left.1 done.rows done.records done.held; rowed = done.rowed; left = done.left }))
 
 -- which fault of the store it was
 

@@ -153,8 +153,18 @@ timed_prefix V given xs ys timed = (
   timed.1 ∙ ap (λ (r : List Moment). r ++ timed.0) (moments-append V xs ys) ∙ append_assoc (moments_in V xs) (moments_in V ys) timed.0,
 )
 
+-- the bytes of the answers that are left begin with a part of the first one
+begun_bytes : (later : List (List ℕ)) (answer part rest : List ℕ) → (answer ≡ []) ⊎ ((others : List (List ℕ)) × (later ≡ answer ∷ others))
+    → answer ≡ part ++ rest → (unsent : List ℕ) × (joined later ≡ part ++ unsent)
+begun_bytes later answer [] rest next sent = (joined later, refl)
+begun_bytes later answer (x ∷ part) rest (inl none) sent = absurd (cc (none, sent))
+begun_bytes later answer (x ∷ part) rest (inr next) sent = (
+  rest ++ joined next.0,
+  ap joined next.1 ∙ ap (λ (bytes : List ℕ). bytes ++ joined next.0) sent ∙ append_assoc (x ∷ part) rest (joined next.0),
+)
+
 pub run_lived : (M : Model) (Stood : Standing M → Type 0) (p : Passage M) (ended : Ended) (run : Run p nothing_waits ended) (s : M.State) (h : History) (t : List ℕ)
-    → Lived M (record { state = s; history = h; settled = t }) (exchange run.broken.work) Stood run.broken.part
+    → Lived M (record { state = s; history = h; settled = t }) (exchange run.broken.work) Stood run.broken.answer
     → RanAsLife run (record { state = s; history = h; settled = t }) Stood
 run_lived M Stood p ended run s h t l =
     let b = run.broken in
@@ -164,18 +174,20 @@ run_lived M Stood p ended run s h t l =
     let parts : bytes_of w.timed ++ b.others ≡ bytes_of l.worked ++ (bytes_of l.unprocessed ++ b.others) =
     ap (λ (x : List Timed). bytes_of x ++ b.others) l.parts ∙ ap (λ (x : List (List ℕ)). x ++ b.others) (map-append (λ (x : Timed). x.bytes) l.worked l.unprocessed)
     ∙ append_assoc (bytes_of l.worked) (bytes_of l.unprocessed) b.others in
-    let split : out M s h l.worked ≡ joined (replies marks) ++ joined l.later =
-    ap joined l.sent ∙ flat_map-append (λ (m : List ℕ). m) (replies marks) l.later in
-    let begun : joined (replies marks) ++ joined l.later ≡ sent ++ l.unsent =
-    ap (λ (x : List ℕ). joined (replies marks) ++ x) l.begun ∙ sym (append_assoc (joined (replies marks)) b.part l.unsent) in
+    let split : out M s h l.worked ≡ joined (replies marks) ++ joined l.sent.later =
+    ap joined l.sent.first ∙ flat_map-append (λ (m : List ℕ). m) (replies marks) l.sent.later in
+    let more = begun_bytes l.sent.later b.answer b.part b.slices.unsent l.sent.next b.slices.sent in
+    let begun : joined (replies marks) ++ joined l.sent.later ≡ sent ++ more.0 =
+    ap (λ (x : List ℕ). joined (replies marks) ++ x) more.1 ∙ sym (append_assoc (joined (replies marks)) b.part more.0) in
     record {
       life = record { received = run.received; sent = sent; worked = l.worked; settled = settled_in M.serves p.port.confirms (bytes_of l.worked) marks };
-      lived = record { others = bytes_of l.unprocessed ++ b.others; prefix = b.prefix ∙ parts; works = l.works; unsent = l.unsent; sends = split ∙ begun };
+      lived = record { others = bytes_of l.unprocessed ++ b.others; prefix = b.prefix ∙ parts; works = l.works; unsent = more.0; sends = split ∙ begun };
       received = refl;
       unprocessed = l.unprocessed;
       parts = l.parts;
       moments = timed_prefix M.serves w.deeds.moments l.worked l.unprocessed (subst (TimedFirst M.serves w.deeds.moments) l.parts b.moments);
       sent = refl;
+      up_to = l.sent;
       slices = b.slices;
       settled_are = refl;
       stands = l.stands;

@@ -10,18 +10,19 @@ use Rattle.fuse_session.specs.Deeds.{Deeds}
 use Rattle.fuse_session.specs.declared.ended.Ended.{Ended}
 use Rattle.fuse_session.specs.Exchange.{Exchange}
 use Rattle.fuse_session.specs.Passage.{Passage}
-use Rattle.fuse_session.specs.Processed.{Timed, bytes_of, kept_in}
+use Rattle.fuse_session.specs.Processed.{Timed, bytes_of, kept_in, answers}
 use Rattle.fuse_session.specs.Serving.{nothing_waits, Run, exchange}
-use Rattle.fuse_session.specs.Settling.{replies, settled_in, NoneComesAgain}
+use Rattle.fuse_session.specs.Settling.{replies, settled_in, NoneComesAgain, SentUpTo}
 use Rattle.fuse_session.specs.Slices.{RestsOfSome}
 use Rattle.fuse_session.specs.Transcript.{received_in, handed_in}
 use Rattle.fuse_sim.specs.Lives.{Lifetime, IsLife, after_lives, all_processed, AllSend}
 
 -- a run: what its clock gave and what happened at its port, the messages that it took up and the whole answers that were sent for
--- the first of them, the part of another answer, and the files as the next run finds them
+-- the first of them, the answer that was begun and the part of it that was sent, and the files as the next run finds them
 pub record FileRun (Image : Type 0) : Type 0 where
   pub deeds : Deeds
   pub exchange : Exchange
+  pub answer : List ℕ
   pub part : List ℕ
   pub left : Image
 
@@ -30,6 +31,7 @@ abbrev pub run_over : {M : Model} {p : Passage M} {ended : Ended} {Image : Type 
 run_over run image = record {
   deeds = run.broken.work.deeds;
   exchange = exchange run.broken.work;
+  answer = run.broken.answer;
   part = run.broken.part;
   left = image;
 }
@@ -39,6 +41,7 @@ abbrev pub no_run : {Image : Type 0} → Image → FileRun Image
 no_run image = record {
   deeds = record { moments = []; asked = []; events = [] };
   exchange = record { confirms = true; timed = []; marks = [] };
+  answer = [];
   part = [];
   left = image;
 }
@@ -52,7 +55,7 @@ abbrev pub RunHasNew : {Image : Type 0} → OpcodeSet → List ℕ → FileRun I
 RunHasNew V t r = NoneComesAgain V r.exchange.confirms t (bytes_of r.exchange.timed) r.exchange.marks
 
 -- it was this life: these bytes came to its port, the first messages of these were taken up and the first of those processed, with the
--- moments that its clock gave, and its answers were handed to the port slice by slice
+-- moments that its clock gave, and its answers were handed to the port slice by slice, up to the one that was begun
 pub record LivedAs {Image : Type 0} (M : Model) (s : M.State) (h : History) (r : FileRun Image) (life : Lifetime) : Type 0 where
   pub lived : IsLife M s h life
   pub came : life.received ≡ received_in r.deeds.events
@@ -62,7 +65,8 @@ pub record LivedAs {Image : Type 0} (M : Model) (s : M.State) (h : History) (r :
   pub parts : r.exchange.timed ≡ life.worked ++ unprocessed
   pub moments : TimedFirst M.serves r.deeds.moments life.worked
   pub sent : life.sent ≡ joined (replies r.exchange.marks) ++ r.part
-  pub slices : RestsOfSome r.exchange.marks r.part (handed_in r.deeds.events)
+  pub up_to : SentUpTo (answers M s (grown h (kept_in M.serves life.worked)) life.worked) r.exchange.marks r.answer
+  pub slices : RestsOfSome r.exchange.marks r.answer r.part (handed_in r.deeds.events)
   pub settled : life.settled ≡ settled_in M.serves r.exchange.confirms (bytes_of life.worked) r.exchange.marks
 
 -- ---- one run: `Stand` are the histories that files stand for

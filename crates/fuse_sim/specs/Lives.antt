@@ -12,10 +12,10 @@ use Rattle.fuse_session.specs.Batches.{TimedFirst}
 use Rattle.fuse_session.specs.Ended.{IsIntact}
 use Rattle.fuse_session.specs.Exchange.{HoldsAt, IfNoneComesAgain}
 use Rattle.fuse_session.specs.Serving.{nothing_waits, Run, exchange}
-use Rattle.fuse_session.specs.Settling.{replies, settled_in}
+use Rattle.fuse_session.specs.Settling.{replies, settled_in, SentUpTo}
 use Rattle.fuse_session.specs.Slices.{RestsOfSome}
 use Rattle.fuse_session.specs.Transcript.{handed_in}
-use Rattle.fuse_session.specs.Processed.{Timed, bytes_of, kept_in, out, Works}
+use Rattle.fuse_session.specs.Processed.{Timed, bytes_of, kept_in, answers, out, Works}
 
 -- the bytes that came, those that were sent, the messages that were processed, and the ids that their answers settled
 pub record Lifetime : Type 0 where
@@ -54,7 +54,7 @@ AllSend M s last [] = Unit {0}
 AllSend M s last (life ∷ lives) = ((unsent : List ℕ) × (out M s last life.worked ≡ life.sent ++ unsent)) × AllSend M s last lives
 
 -- a run of a server was a life, of which its port was handed the answers slice by slice: these bytes came, the first messages were
--- processed, with the moments that the clock gave, and the answers that were sent whole and the part of another one are the run's;
+-- processed, with the moments that the clock gave, and the answers that were sent whole and the one that was begun are the run's;
 -- and this is left
 pub record RanAsLife {M : Model} {p : Passage M} {ended : Ended} (run : Run p nothing_waits ended) (at : Standing M) (Stood : Standing M → Type 0)
     : Type 0 where
@@ -65,7 +65,8 @@ pub record RanAsLife {M : Model} {p : Passage M} {ended : Ended} (run : Run p no
   pub parts : run.broken.work.timed ≡ life.worked ++ unprocessed
   pub moments : TimedFirst M.serves run.broken.work.deeds.moments life.worked
   pub sent : life.sent ≡ joined (replies run.broken.work.marks) ++ run.broken.part
-  pub slices : RestsOfSome run.broken.work.marks run.broken.part (handed_in run.broken.work.deeds.events)
+  pub up_to : SentUpTo (answers M at.state (grown at.history (kept_in M.serves life.worked)) life.worked) run.broken.work.marks run.broken.answer
+  pub slices : RestsOfSome run.broken.work.marks run.broken.answer run.broken.part (handed_in run.broken.work.deeds.events)
   pub settled_are : life.settled ≡ settled_in M.serves p.port.confirms (bytes_of life.worked) run.broken.work.marks
   pub stands : Stood (record { state = at.state; history = grown at.history (kept_in M.serves life.worked); settled = at.settled ++ life.settled })
 

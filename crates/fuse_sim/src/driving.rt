@@ -286,6 +286,10 @@ pub fn drive<K: Restart>(
         (StandsIn K.told keeper.new start
         (committed K.model.serves h (before fault events.now))
         (settled_by K.model.serves settled (before fault events.now)))) }
+    // has the records that these leave,
+    ensures records_at_fault { IfErr result (λ fault. LeftBy (told_in K.told keeper.new)
+        (is_store fault) (DeletesHanded K.told keeper.old keeper.new
+        (performances K.model.serves (before fault events.now)) (before fault events.now))) }
     // was opened again once for each of these at which the server died,
     ensures opened_before { IfErr result (λ fault. ¬ (keeper.new ≡ None)
         → Opened K.told K.became keeper.old keeper.new (before fault events.now)) }

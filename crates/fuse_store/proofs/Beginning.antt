@@ -1,7 +1,7 @@
 -- A mount that begins, in the words of a keeper.
 use Rattle.std.proofs.Common.{◌≡◌, ℕ, Bool, List, [], Option, None, Ok, Result, refl, sym, ap, subst, ◌∙◌}
 use Rattle.sqlite.specs.State.{State}
-use Rattle.fuse_tree.specs.State.{State as TreeState, Tree}
+use Rattle.fuse_tree.specs.State.{State as TreeState}
 use Rattle.fuse_tree.specs.Clearing.{cleared}
 use Rattle.fuse_tree.specs.Rows.{Rows, rowed}
 use Rattle.fuse_tree.specs.Plan.{RowsTellState}
@@ -9,22 +9,23 @@ use Rattle.fuse_keeper.specs.History.{History, after, said, Distinct}
 use Rattle.fuse_keeper.specs.Stands.{Records, Stands}
 use Rattle.fuse_keeper.specs.KeeperState.{BeginsMount, DropsLots, LeavesMount, StandsFor}
 use Rattle.fuse_keeper.specs.declared.fault.StoreFault.{StoreFault}
-use Rattle.fuse_tree.specs.TheTree.{the_tree}
+use Rattle.fuse_init.specs.declared.profile.Profile.{Profile}
 use Rattle.fuse_store_tables.specs.Moves.{RestsAs, ServesAs}
 use Rattle.fuse_store_tree.specs.Store.{records_of}
 use Rattle.fuse_store_tree.specs.Holding.{Holding, HeldFor}
 use Rattle.fuse_store_tree.specs.Lots.{LotsAreSame}
 use Rattle.fuse_store_tree.specs.Performing.{OneHolding, HoldingStands}
+use Rattle.fuse_tree.specs.TheTree.{tree_of}
 use Rattle.fuse_store.specs.Mounting.{cleared_for}
 use Rattle.fuse_store.specs.TableState.{IsOf, table_told}
 use Rattle.fuse_store.proofs.Serving.{Settled, stands_on, holds_at, leaves_either}
 use Rattle.fuse_store.proofs.Grouping.{its_own}
 
 -- a start stands for no history
-pub starts : (s : TreeState) → Tree s → Stands the_tree (rowed s) (records_of []) s [] []
+pub starts : (p : Profile) (s : TreeState) → (tree_of p).IsGood s → Stands (tree_of p) (rowed s) (records_of []) s [] []
 unfolding after said Distinct
-starts s tree = record {
-  tree = tree;
+starts p s good = record {
+  tree = good;
   distinct = tt;
   rows_are = refl;
   right = λ i a there. absurd cc;
@@ -40,29 +41,29 @@ pub record Clears (g : Holding → Holding) : Type 0 where
 pub clears_all : Clears cleared_for
 clears_all = record { tree = λ y. refl; kept = λ y. refl; lots = λ y. refl }
 
-module _ (rows_tell : RowsTellState) (g : Holding → Holding) (clears : Clears g) where
+module _ (p : Profile) (rows_tell : RowsTellState) (clear : (s : TreeState) → (tree_of p).IsGood s → (tree_of p).IsGood (cleared s)) (g : Holding → Holding) (clears : Clears g) where
   -- it stands for the mount that begins
-  begun : (y : Holding) (rows : Rows) (records : Records) (s : TreeState) (h : History) (t : List ℕ) → IsOf y rows records → Stands the_tree rows records s h t
-      → Tree (g y).tree → HoldingStands (g y) (cleared (after the_tree s h)) [] []
-  begun y rows records s h t is so tree =
-      let same : y.tree ≡ after the_tree s h = rows_tell y.tree (after the_tree s h) (sym is.rows_are ∙ so.rows_are) in
-      let new : (g y).tree ≡ cleared (after the_tree s h) = clears.tree y ∙ ap cleared same in
-      subst (λ ks. Stands the_tree (rowed (g y).tree) (records_of ks) (cleared (after the_tree s h)) [] []) (sym (clears.kept y))
-      (subst (λ u. Stands the_tree (rowed (g y).tree) (records_of []) u [] []) new (starts (g y).tree tree))
+  begun : (y : Holding) (rows : Rows) (records : Records) (s : TreeState) (h : History) (t : List ℕ) → IsOf y rows records
+      → Stands (tree_of p) rows records s h t → HoldingStands p (g y) (cleared (after (tree_of p) s h)) [] []
+  begun y rows records s h t is so =
+      let same : y.tree ≡ after (tree_of p) s h = rows_tell y.tree (after (tree_of p) s h) (sym is.rows_are ∙ so.rows_are) in
+      let new : (g y).tree ≡ cleared (after (tree_of p) s h) = clears.tree y ∙ ap cleared same in
+      subst (λ ks. Stands (tree_of p) (rowed (g y).tree) (records_of ks) (cleared (after (tree_of p) s h)) [] []) (sym (clears.kept y))
+      (subst (λ u. Stands (tree_of p) (rowed (g y).tree) (records_of []) u [] []) new (starts p (g y).tree (subst (tree_of p).IsGood (sym new) (clear (after (tree_of p) s h) so.tree))))
 
   -- a store of which a mount began, where it stood for this
   pub begun_after : OneHolding → (b : State) (y : Holding) → RestsAs (HeldFor (g y)) b → (s : TreeState) (h : History) (t : List ℕ)
-      → Stands the_tree (rowed y.tree) (records_of y.kept) s h t → (lot : Option ℕ) (failed : Bool)
-      → StandsFor (table_told ⊥ b lot failed) (cleared (after the_tree s h)) [] []
+      → Stands (tree_of p) (rowed y.tree) (records_of y.kept) s h t → (lot : Option ℕ) (failed : Bool)
+      → StandsFor (table_told p ⊥ b lot failed) (cleared (after (tree_of p) s h)) [] []
   begun_after one b y at s h t so lot failed = record {
     rows = rowed (g y).tree;
     records = records_of (g y).kept;
     held = holds_at one b (g y) (rowed (g y).tree) (records_of (g y).kept) at (its_own (g y));
-    stands = begun y (rowed y.tree) (records_of y.kept) s h t (its_own y) so at.holds.tree;
+    stands = begun y (rowed y.tree) (records_of y.kept) s h t (its_own y) so;
   }
 
   module _ (one : OneHolding) (a b : State) {X : Type 0} (x : X) (serves : ServesAs {E = StoreFault} HeldFor (λ y. HeldFor (g y)) a b (Ok x)) where
-    pub begins_mount : (lot now : Option ℕ) (was is : Bool) → BeginsMount (table_told ⊥ a lot was) (table_told ⊥ b now is)
+    pub begins_mount : (lot now : Option ℕ) (was is : Bool) → BeginsMount (table_told p ⊥ a lot was) (table_told p ⊥ b now is)
     begins_mount lot now was is clean s h t so =
         let y = so.held.holding in
         let after = serves.done clean y so.held.rests in
@@ -70,19 +71,18 @@ module _ (rows_tell : RowsTellState) (g : Holding → Holding) (clears : Clears 
           rows = rowed (g y).tree;
           records = records_of (g y).kept;
           held = holds_at one b (g y) (rowed (g y).tree) (records_of (g y).kept) after (its_own (g y));
-          stands = begun y so.rows so.records s h t so.held.is_of so.stands after.holds.tree;
+          stands = begun y so.rows so.records s h t so.held.is_of so.stands;
         }
 
-    pub drops_lots : LotsAreSame → (lot : Option ℕ) (was is : Bool) → DropsLots (table_told ⊥ a lot was) (table_told ⊥ b None is)
+    pub drops_lots : LotsAreSame → (lot : Option ℕ) (was is : Bool) → DropsLots (table_told p ⊥ a lot was) (table_told p ⊥ b None is)
     drops_lots told lot was is clean rows records at =
         let y = at.holding in
         let same = told None (g y) b.now (serves.done clean y at.rests).holds in
         record { numbers = same.numbers ∙ clears.lots y; current = same.current }
 
-  pub leaves_mount : ((s : TreeState) → Tree s → Tree (cleared s)) → OneHolding → {X : Type 0} → (a b : State) → Settled a → (r : Result X StoreFault)
-      → ServesAs HeldFor (λ y. HeldFor (g y)) a b r → (lot now : Option ℕ) (was is : Bool) → LeavesMount (table_told ⊥ a lot was) (table_told ⊥ b now is)
-  leaves_mount tree one a b settled r serves lot now was is s h t so firm =
+  pub leaves_mount : OneHolding → {X : Type 0} → (a b : State) → Settled a → (r : Result X StoreFault)
+      → ServesAs HeldFor (λ y. HeldFor (g y)) a b r → (lot now : Option ℕ) (was is : Bool) → LeavesMount (table_told p ⊥ a lot was) (table_told p ⊥ b now is)
+  leaves_mount one a b settled r serves lot now was is s h t so firm =
       let y = so.held.holding in
-      let kept : Tree (g y).tree = subst Tree (sym (clears.tree y)) (tree y.tree so.held.rests.holds.tree) in
-      leaves_either one g a b settled serves.survives y so.held.rests now is s (cleared (after the_tree s h)) h [] t []
-      (stands_on y so.rows so.records s h t so.held.is_of so.stands) (begun y so.rows so.records s h t so.held.is_of so.stands kept)
+      leaves_either one g a b settled serves.survives y so.held.rests p now is s (cleared (after (tree_of p) s h)) h [] t []
+      (stands_on p y so.rows so.records s h t so.held.is_of so.stands) (begun y so.rows so.records s h t so.held.is_of so.stands)

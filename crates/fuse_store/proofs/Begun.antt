@@ -9,13 +9,13 @@ use Rattle.fuse_store_tables.specs.Opening.{IsStored, IsSecond, migrated}
 use Rattle.fuse_store_tree.specs.inner.Reading.{Describes}
 use Rattle.fuse_store_tree.specs.Holding.{Holding, HeldFor, TreesAreInOrder, store_of}
 use Rattle.fuse_store.specs.Mounting.{cleared_for}
-use Rattle.fuse_store.specs.Opening.{Stored, First, Second, StoredFor, opened_for}
+use Rattle.fuse_store.specs.Opening.{Stored, First, Second, Unindexed, StoredFor, opened_for}
 use Rattle.fuse_store.specs.Starting.{BegunFor}
 use Rattle.fuse_store.proofs.Fitting.{second_for}
 use Rattle.fuse_store.proofs.FirstVersion.{old_for, describes_migrated}
 use Rattle.fuse_store.proofs.Mounted.{describes_cleared}
-use Rattle.fuse_store.proofs.Reopening.{first_of, second_of, opened_first, opened_second}
-use Rattle.fuse_store.proofs.Retelling.{Retold}
+use Rattle.fuse_store.proofs.Reopening.{unindexed_for, opened_first, opened_second}
+use Rattle.fuse_store.proofs.Retelling.{Reread}
 
 module _ (clearing : trees.Clearing) (ordered : TreesAreInOrder) where
   -- what the begin of a mount makes of what is held
@@ -28,23 +28,29 @@ module _ (clearing : trees.Clearing) (ordered : TreesAreInOrder) where
     held = (cleared c, k, describes_cleared clearing ordered y c tree told);
   }
 
-  pub begun_told : (z : Stored) (d : Database) → StoredFor z d → Retold IsStored IsBegun StoredFor BegunFor z d
-  begun_told (First tree answers) d at =
-      let old = old_for ordered tree answers at.held.0 at.tree at.held.2 in
+  pub begun_read : (z : Stored) (d : Database) → StoredFor z d → Reread IsStored IsBegun StoredFor BegunFor z d
+  begun_read (First tree answers) d at =
+      let old = old_for ordered tree answers at.held.0 at.tree at.plain at.held.2 in
       record {
         content = at.held.0;
-        holds = inl (record { holds = at.held.1; old = old });
-        same = λ e k. first_of tree answers d e at old k;
+        holds = inl (inl (record { holds = at.held.1; old = old }));
         made = λ e k.
-            held_cleared (opened_for (First tree answers)) (migrated at.held.0) e at.tree (omega arith) (describes_migrated tree answers at.held.0 at.held.2)
+            held_cleared (opened_for (First tree answers)) (migrated at.held.0) e at.tree (omega arith) (describes_migrated tree answers at.held.0 at.plain at.held.2)
             (subst (λ x. IsSecond (cleared x) e) (opened_first at.held.0 old.version) k).holds;
       }
-  begun_told (Second y) d at =
+  begun_read (Second y) d at =
       let second = second_for ordered y d at in
       record {
         content = at.held.0;
-        holds = inr second;
-        same = λ e k. second_of y d e at second k;
+        holds = inl (inr second);
         made = λ e k.
             held_cleared y at.held.0 e at.tree at.next at.held.2 (subst (λ x. IsSecond (cleared x) e) (opened_second at.held.0 second.fit.version) k).holds;
+      }
+  begun_read (Unindexed y) d at =
+      let unindexed = unindexed_for ordered y d at in
+      record {
+        content = at.held.0;
+        holds = inr unindexed;
+        made = λ e k.
+            held_cleared y at.held.0 e at.tree at.next at.held.2 (subst (λ x. IsSecond (cleared x) e) (opened_second at.held.0 unindexed.fit.version) k).holds;
       }

@@ -5,7 +5,6 @@ use Rattle.sqlite.specs.Schema.{Schema}
 use Rattle.sqlite.specs.State.{State, IsLive, Survives}
 use Rattle.sqlite.proofs.StateLemmas.{survives_weaker}
 use Rattle.sqlite_schema.specs.Names.{table_named}
-use Rattle.fuse_wire.specs.declared.moment.Moment.{Moment}
 use Rattle.fuse_keeper.specs.declared.fault.StoreFault.{StoreFault}
 use Rattle.fuse_keeper.specs.declared.fault.StoreFault.TheVariants.{Memory, Sql, NotAStore, Version, Damaged}
 use Rattle.fuse_store_tables.specs.Content.{LeftAs}
@@ -14,10 +13,12 @@ use Rattle.fuse_store_tables.specs.Saying.{IsRefusal}
 use Rattle.fuse_store_tables.specs.Layout.{no_schema}
 use Rattle.fuse_store_tables.specs.Making.{IsBare}
 use Rattle.fuse_store_tables.specs.Moves.{RestsAs}
+use Rattle.fuse_store.specs.declared.new_store.NewStore.{NewStore}
 use Rattle.fuse_store.specs.Creating.{IsBlank, LeavesNew}
 use Rattle.fuse_store.specs.Opening.{Stored, OpenedFor, WasFor}
 use Rattle.fuse_store.specs.Starting.{BegunFor, LeavesStarted, LeavesFresh}
-use Rattle.fuse_store.proofs.Reopening.{rests_was, has_meta, no_none}
+use Rattle.fuse_store.proofs.Reopening.{has_meta, no_none}
+use Rattle.fuse_store.specs.inner.Leaving.{rests_was}
 
 -- where nothing was made, nothing is stored
 pub unstored : (s : State) → IsLive s → (IsTrue s.is_open → s.now ≡ s.committed) → s.now.schema ≡ no_schema → (z : Stored) → WasFor z s → ⊥
@@ -36,24 +37,24 @@ no_refusal Damaged outside refused = absurd outside
 pub bare_is_blank : (s : State) → RestsAs (IsBare no_schema tt) s → IsBlank s
 bare_is_blank s bare = (bare.autocommit, bare.holds.schema)
 
-pub left_made : (now : Moment) (a b : State) → ((z : Stored) → WasFor z a → ⊥) → Survives a b (LeavesNew now a) → Survives a b (LeavesStarted now a)
-left_made now a b none one =
-    survives_weaker a b _ (LeavesStarted now a)
+pub left_made : (new : NewStore) (a b : State) → ((z : Stored) → WasFor z a → ⊥) → Survives a b (LeavesNew new.kind.profile new.kind.capacity new.now a) → Survives a b (LeavesStarted new a)
+left_made new a b none one =
+    survives_weaker a b _ (LeavesStarted new a)
     (λ clean db left. record { made = λ blank is_open. left.1 is_open; opened = λ z was. absurd (none z was) }) one
 
-pub left_opened : (now : Moment) (a b : State) → (IsBlank a → ⊥) → Survives a b (λ db. (z : Stored) → WasFor z a → LeftAs (OpenedFor z) db)
-    → Survives a b (LeavesStarted now a)
-left_opened now a b stored one =
-    survives_weaker a b _ (LeavesStarted now a) (λ clean db left. record { made = λ blank is_open. absurd (stored blank); opened = left }) one
+pub left_opened : (new : NewStore) (a b : State) → (IsBlank a → ⊥) → Survives a b (λ db. (z : Stored) → WasFor z a → LeftAs (OpenedFor z) db)
+    → Survives a b (LeavesStarted new a)
+left_opened new a b stored one =
+    survives_weaker a b _ (LeavesStarted new a) (λ clean db left. record { made = λ blank is_open. absurd (stored blank); opened = left }) one
 
 -- ---- with a mount that begins
 
-pub fresh_made : (now : Moment) (a b : State) → ((z : Stored) → WasFor z a → ⊥) → Survives a b (LeavesNew now a) → Survives a b (LeavesFresh now a)
-fresh_made now a b none one =
-    survives_weaker a b _ (LeavesFresh now a)
+pub fresh_made : (new : NewStore) (a b : State) → ((z : Stored) → WasFor z a → ⊥) → Survives a b (LeavesNew new.kind.profile new.kind.capacity new.now a) → Survives a b (LeavesFresh new a)
+fresh_made new a b none one =
+    survives_weaker a b _ (LeavesFresh new a)
     (λ clean db left. record { made = λ blank is_open. left.1 is_open; begun = λ z was. absurd (none z was) }) one
 
-pub fresh_begun : (now : Moment) (a b : State) → (IsBlank a → ⊥) → Survives a b (λ db. (z : Stored) → WasFor z a → LeftAs (BegunFor z) db)
-    → Survives a b (LeavesFresh now a)
-fresh_begun now a b stored one =
-    survives_weaker a b _ (LeavesFresh now a) (λ clean db left. record { made = λ blank is_open. absurd (stored blank); begun = left }) one
+pub fresh_begun : (new : NewStore) (a b : State) → (IsBlank a → ⊥) → Survives a b (λ db. (z : Stored) → WasFor z a → LeftAs (BegunFor z) db)
+    → Survives a b (LeavesFresh new a)
+fresh_begun new a b stored one =
+    survives_weaker a b _ (LeavesFresh new a) (λ clean db left. record { made = λ blank is_open. absurd (stored blank); begun = left }) one

@@ -1,19 +1,20 @@
 -- What is left of rows, and of the blocks of their nodes.
-use Rattle.std.proofs.Common.{◌≡◌, ◌≤◌, ◌<◌, ◌*◌, ℕ, ◌==◌, ◌&&◌, ◌||◌, List, [], ◌∷◌, map, filter, find, Bool, true, false, not, cond}
+use Rattle.std.proofs.Common.{◌≡◌, ◌≤◌, ◌<◌, ◌*◌, ◌+◌, ℕ, ◌==◌, ◌&&◌, ◌||◌, List, [], ◌∷◌, map, filter, find, Bool, true, false, not, cond}
 use Rattle.std.proofs.Common.{Some, None, Option, inl, inr, refl, sym, ap, subst, arith, ◌∙◌}
-use Rattle.std.specs.List.{AllByRecursion, list_any}
+use Rattle.std.specs.List.{AllByRecursion, list_any, sum_by}
 use Rattle.std.specs.Ordering.{is_eq, is_gt, nat_cmp}
 use Rattle.std.proofs.lemmas.Bool.{cases_Bool}
 use Rattle.std.proofs.lemmas.Bool.Decides.{nat_tests}
+use Rattle.std.proofs.lemmas.List.Sums.{sum_by-cons}
 use Rattle.fuse_tree.specs.Bounds.{block_bytes}
 use Rattle.fuse_tree.specs.declared.rows.NodeRow.{NodeRow}
 use Rattle.fuse_tree.specs.declared.rows.Full.{Full}
-use Rattle.fuse_tree.specs.State.{State, Node, IsNode, Apart}
+use Rattle.fuse_tree.specs.State.{State, Node, IsNode, Apart, terms_of, blocks_for}
 use Rattle.fuse_tree.specs.Rows.{full_of, row_is_named, content_of}
-use Rattle.fuse_tree.specs.Clearing.{is_named_row}
+use Rattle.fuse_tree.specs.Clearing.{is_named_row, blocks_freed}
 use Rattle.fuse_store_tables.specs.Blocks.{Block, block_at, is_at}
 use Rattle.fuse_store_tables.specs.Content.{is_unnamed}
-use Rattle.fuse_store_tables.specs.Clearing.{named, has_unnamed}
+use Rattle.fuse_store_tables.specs.Clearing.{named, has_unnamed, unnamed_blocks, blocks_in}
 use Rattle.fuse_store_tree.specs.Store.{byte_at, bytes_of, AreWithin}
 
 -- ---- tests
@@ -63,7 +64,7 @@ module _ (s : State) where
   abbrev goes : List Node → ℕ → Bool
   goes ns node = has_unnamed (rows ns) node
 
-  pub named_rows : (next : ℕ) (ns : List Node) → AllByRecursion (IsNode next) ns → named (rows ns) ≡ map (λ f. f.row) (filter is_named_row (fulls ns))
+  pub named_rows : (next : ℕ) (ns : List Node) → AllByRecursion (IsNode (terms_of s) next) ns → named (rows ns) ≡ map (λ f. f.row) (filter is_named_row (fulls ns))
   named_rows next [] all = refl
   named_rows next (n ∷ ns) all = by (named_rows next ns all.1) (is_unnamed (full_of s n).row) (is_named_row (full_of s n))
       (named_is (full_of s n).row all.0.from_one)
@@ -74,6 +75,23 @@ module _ (s : State) where
       by more true true is = absurd cc
       by more true false is = more
       by more false true is = ap (λ l. (full_of s n).row ∷ l) more
+      by more false false is = absurd cc
+
+  -- the blocks of the nodes that go
+  pub freed_blocks : (next : ℕ) (ns : List Node) → AllByRecursion (IsNode (terms_of s) next) ns → unnamed_blocks (rows ns) ≡ blocks_freed (fulls ns)
+  freed_blocks next [] all = refl
+  freed_blocks next (n ∷ ns) all = by (freed_blocks next ns all.1) (is_unnamed (full_of s n).row) (is_named_row (full_of s n))
+      (named_is (full_of s n).row all.0.from_one)
+    where
+      by : unnamed_blocks (rows ns) ≡ blocks_freed (fulls ns) → (u v : Bool) → v ≡ not u
+          → sum_by (λ r. blocks_in r.size) (cond u ((full_of s n).row ∷ filter is_unnamed (rows ns)) (filter is_unnamed (rows ns)))
+          ≡ sum_by (λ f. blocks_for f.row.size) (cond (not v) (full_of s n ∷ filter (λ f. not (is_named_row f)) (fulls ns)) (filter (λ f. not (is_named_row f)) (fulls ns)))
+      by more true true is = absurd cc
+      by more true false is =
+          sum_by-cons (λ r. blocks_in r.size) (full_of s n).row (filter is_unnamed (rows ns))
+          ∙ ap (λ k. blocks_in (full_of s n).row.size + k) more
+          ∙ sym (sum_by-cons (λ f. blocks_for f.row.size) (full_of s n) (filter (λ f. not (is_named_row f)) (fulls ns)))
+      by more false true is = more
       by more false false is = absurd cc
 
   none_later : (node : ℕ) (p : Full → Bool) (ns : List Node) → AllByRecursion (λ m. (m.number == node) ≡ false) ns
@@ -106,7 +124,7 @@ module _ (s : State) where
   all_apart a node (n ∷ ns) is above = (later_row a n.number node above.0 is, all_apart a node ns is above.1)
 
   -- a node is found among those that are left unless it goes
-  pub found_left : (node next : ℕ) (ns : List Node) → AllByRecursion (IsNode next) ns → Apart (λ n m. n.number < m.number) ns
+  pub found_left : (node next : ℕ) (ns : List Node) → AllByRecursion (IsNode (terms_of s) next) ns → Apart (λ n m. n.number < m.number) ns
       → find (number_is node) (filter is_named_row (fulls ns)) ≡ cond (goes ns node) None (find (number_is node) (fulls ns))
   found_left node next [] all apart = refl
   found_left node next (n ∷ ns) all apart =

@@ -1,7 +1,9 @@
 -- A store of version 1, and what its migration makes of it.
-use Rattle.std.proofs.Common.{◌≤◌, ◌<◌, ◌^◌, List, [], ◌∷◌, map, length, refl, sym, ap, subst, arith, ◌∙◌}
+use Rattle.std.proofs.Common.{◌≡◌, ◌≤◌, ◌<◌, ◌^◌, ℕ, Option, None, List, [], ◌∷◌, map, length, refl, sym, ap, subst, arith, ◌∙◌}
 use Rattle.std.specs.List.{AllByRecursion}
-use Rattle.fuse_tree.specs.State.{State, Tree}
+use Rattle.fuse_init.specs.declared.profile.Profile.TheVariants.{Plain}
+use Rattle.fuse_init.specs.Profile.{terms}
+use Rattle.fuse_tree.specs.State.{State, Tree, profile_for}
 use Rattle.fuse_tree.specs.Rows.{rowed}
 use Rattle.fuse_store_tables.specs.Content.{Content, Answer, value_at}
 use Rattle.fuse_store_tables.specs.Opening.{IsMetaFrom, IsOld, under, marked, migrated}
@@ -10,13 +12,13 @@ use Rattle.fuse_store_tree.specs.Store.{FitsSettings}
 use Rattle.fuse_store_tree.specs.inner.Reading.{Describes}
 use Rattle.fuse_store_tree.specs.Holding.{TreesAreInOrder, store_of}
 use Rattle.fuse_store.specs.Opening.{DescribesFirst, first_counters, First, opened_for}
-use Rattle.fuse_store.proofs.Fitting.{nodes_length, settings_low, all_less}
+use Rattle.fuse_store.proofs.Fitting.{counters_with, nodes_length, settings_low, all_less, above_for}
 
-meta_old : (s : State) → Tree s → FitsSettings (rowed s).settings → IsMetaFrom 1 10 (first_counters (rowed s).counters (rowed s).settings)
+meta_old : (s : State) → Tree s → length s.nodes ≤ 65536 → FitsSettings (rowed s).settings → IsMetaFrom Plain 1 10 (first_counters (rowed s).counters (rowed s).settings)
 unfolding rowed
-meta_old s tree fits =
+meta_old s tree few fits =
     let low = settings_low s fits in
-    let limits = tree.limits in (
+    let limits = tree.shape.limits in (
       refl,
       omega arith,
       (
@@ -28,19 +30,32 @@ meta_old s tree fits =
           (
             refl,
             limits.next_cookie,
-            (refl, limits.nodes, (refl, limits.handles, (refl, low.there, (refl, low.minor, (refl, low.readahead, (refl, low.flags, tt)))))),
+            (refl, few, (refl, limits.handles, (refl, low.there, (refl, low.minor, (refl, low.readahead, (refl, low.flags, tt)))))),
           ),
         ),
       ),
     )
 
-pub old_for : TreesAreInOrder → (tree : State) (answers : List Answer) (c : Content) → Tree tree → DescribesFirst (rowed tree) answers c → IsOld c
-old_for ordered tree answers c good told = record {
+-- a plain tree has so many nodes at most
+few_plain : (s : State) → Tree s → s.capacity ≡ None → length s.nodes ≤ 65536
+few_plain s tree plain = subst (λ (o : Option ℕ). length s.nodes ≤ (terms (profile_for o)).node_limit) plain tree.shape.limits.nodes
+
+pub old_for : TreesAreInOrder → (tree : State) (answers : List Answer) (c : Content) → Tree tree → tree.capacity ≡ None → DescribesFirst (rowed tree) answers c
+    → IsOld c
+old_for ordered tree answers c good plain told = record {
   version = ap (λ cs. value_at 1 (record c { counters = cs })) told.counters;
-  meta = subst (IsMetaFrom 1 10) (sym told.counters) (meta_old tree good told.settings);
+  meta = subst (IsMetaFrom Plain 1 10) (sym told.counters) (meta_old tree good (few_plain tree good plain) told.settings);
+  above = above_for ordered tree c good (record {
+    next_node = ap (λ cs. value_at 2 (record c { counters = cs })) told.counters;
+    next_fh = ap (λ cs. value_at 3 (record c { counters = cs })) told.counters;
+    next_cookie = ap (λ cs. value_at 4 (record c { counters = cs })) told.counters;
+    nodes = told.nodes;
+    handles = told.handles;
+    entries = told.entries;
+  });
   errnos = subst (AllByRecursion (λ (a : Answer). a.said.errno < 2 ^ 32)) (sym told.answers)
       (all_less (λ a. KeepsRecord (under 0 a)) (λ (a : Answer). a.said.errno < 2 ^ 32) answers (λ a keeps. keeps.errno) told.keeps);
-  few = subst (λ n. n ≤ 65536) (sym (ap length told.nodes ∙ nodes_length ordered tree good)) good.limits.nodes;
+  few = subst (λ n. n ≤ 65536) (sym (ap length told.nodes ∙ nodes_length ordered tree good)) (few_plain tree good plain);
   no_lots = told.lots;
   no_kept = told.kept;
 }
@@ -50,10 +65,12 @@ kept_under [] all = tt
 kept_under (a ∷ answers) all = (all.0, kept_under answers all.1)
 
 -- the records are under lot 0, and the rest is as it was
-pub describes_migrated : (tree : State) (answers : List Answer) (c : Content) → DescribesFirst (rowed tree) answers c
+pub describes_migrated : (tree : State) (answers : List Answer) (c : Content) → tree.capacity ≡ None → DescribesFirst (rowed tree) answers c
     → Describes (store_of (opened_for (First tree answers))) (migrated c)
-describes_migrated tree answers c told = record {
-  counters = ap (λ cs. (marked (record c { counters = cs })).counters) told.counters;
+unfolding rowed
+describes_migrated tree answers c plain told = record {
+  counters = ap (λ cs. (marked (record c { counters = cs })).counters) told.counters
+      ∙ ap (λ o. counters_with o tree 1) (sym plain);
   nodes = told.nodes;
   entries = told.entries;
   handles = told.handles;

@@ -1,17 +1,20 @@
 -- The tables of a tree are within the bounds of a store.
-use Rattle.std.proofs.Common.{◌≡◌, ◌≤◌, ◌<◌, ◌^◌, ℕ, suc, List, [], ◌∷◌, map, filter, length, Bool, true, false, cond, Some, None, Option}
+use Rattle.std.proofs.Common.{◌≡◌, ◌≤◌, ◌<◌, ◌^◌, ℕ, suc, List, [], ◌∷◌, map, filter, length, Bool, true, false, cond, Some, None, Option, option_map}
 use Rattle.std.proofs.Common.{refl, sym, ap, subst, arith, ◌∙◌}
+use Rattle.std.specs.Prelude.{IfSome}
 use Rattle.std.specs.List.{AllByRecursion}
 use Rattle.sqlite.specs.Effect.{Database}
+use Rattle.fuse_init.specs.declared.profile.Profile.TheVariants.{Plain, Everyday}
+use Rattle.fuse_init.specs.Profile.{Terms, terms}
 use Rattle.fuse_init.specs.declared.settings.Settings.{Settings}
-use Rattle.fuse_tree.specs.State.{State, Node, Tree}
+use Rattle.fuse_tree.specs.State.{State, Node, Tree, IsNode, IsEntry, IsHandle, FitsCapacity, profile_for, profile_of, terms_of, used_of}
 use Rattle.fuse_tree.specs.Rows.{rowed, full_of}
-use Rattle.fuse_store_tables.specs.Content.{Content, Kept, value_at, node_key}
-use Rattle.fuse_store_tables.specs.Opening.{IsMetaFrom, IsFit, IsSecond}
+use Rattle.fuse_store_tables.specs.Content.{Content, Counter, Kept, value_at, node_key, fh_of, cookie_of}
+use Rattle.fuse_store_tables.specs.Opening.{IsMetaFrom, MetaOf, profile_in, AllBelow, AreAbove, LotsAreBelow, IsFit, IsSecond}
 use Rattle.fuse_store_tree.specs.Fits.{KeepsRecord}
 use Rattle.fuse_store_tree.specs.Store.{FitsSettings, counters_of, in_order, is_there, minor_of, readahead_of, flags_of}
 use Rattle.fuse_store_tree.specs.inner.Reading.{Describes}
-use Rattle.fuse_store_tree.specs.Holding.{Holding, HeldFor, TreesAreInOrder, store_of}
+use Rattle.fuse_store_tree.specs.Holding.{Holding, HeldFor, AreBelow, TreesAreInOrder, store_of}
 
 -- ---- lists
 
@@ -73,12 +76,16 @@ settings_low s fits = record {
   flags = flags_low (flags_of s.settings) fits.flags;
 }
 
-meta_fits : (s : State) → Tree s → FitsSettings (rowed s).settings → (next : ℕ) → next ≤ 2 ^ 62
-    → IsMetaFrom 1 11 (counters_of (rowed s).counters (rowed s).settings next)
+-- its counters, where the state has this capacity
+abbrev pub counters_with : Option ℕ → State → ℕ → List Counter
+counters_with o s next = counters_of (record (rowed s).counters { room = option_map (λ c. record { capacity = c; used = used_of s }) o }) (rowed s).settings next
+
+meta_plain : (s : State) → Tree s → length s.nodes ≤ 65536 → FitsSettings (rowed s).settings → (next : ℕ) → next ≤ 2 ^ 62
+    → IsMetaFrom Plain 1 11 (counters_with None s next)
 unfolding rowed
-meta_fits s tree fits next below =
+meta_plain s tree few fits next below =
     let low = settings_low s fits in
-    let limits = tree.limits in (
+    let limits = tree.shape.limits in (
       refl,
       omega arith,
       (
@@ -92,7 +99,7 @@ meta_fits s tree fits next below =
             limits.next_cookie,
             (
               refl,
-              limits.nodes,
+              few,
               (refl, limits.handles, (refl, low.there, (refl, low.minor, (refl, low.readahead, (refl, low.flags, (refl, below, tt)))))),
             ),
           ),
@@ -100,18 +107,143 @@ meta_fits s tree fits next below =
       ),
     )
 
+block_low : (n : ℕ) → n < 2 ^ 51 → n ≤ 2251799813685247
+block_low n low = omega (arith, low)
+
+used_low : (used capacity : ℕ) → used ≤ capacity → capacity < 2 ^ 51 → used ≤ 2251799813685247
+used_low used capacity less low = omega (arith, less, low)
+
+meta_everyday : (s : State) → Tree s → length s.nodes ≤ 1048576 → (k : ℕ) → FitsCapacity s k → FitsSettings (rowed s).settings → (next : ℕ) → next ≤ 2 ^ 62
+    → IsMetaFrom Everyday 1 14 (counters_with (Some k) s next)
+unfolding rowed
+meta_everyday s tree few k room fits next below =
+    let low = settings_low s fits in
+    let limits = tree.shape.limits in (
+      refl,
+      omega arith,
+      (
+        refl,
+        limits.next_node,
+        (
+          refl,
+          limits.next_fh,
+          (
+            refl,
+            limits.next_cookie,
+            (
+              refl,
+              few,
+              (
+                refl,
+                limits.handles,
+                (
+                  refl,
+                  low.there,
+                  (
+                    refl,
+                    low.minor,
+                    (
+                      refl,
+                      low.readahead,
+                      (
+                        refl,
+                        low.flags,
+                        (refl, below, (refl, omega arith, (refl, block_low k room.bounded, (refl, used_low (used_of s) k room.used room.bounded, tt)))),
+                      ),
+                    ),
+                  ),
+                ),
+              ),
+            ),
+          ),
+        ),
+      ),
+    )
+
+meta_of : (s : State) → Tree s → FitsSettings (rowed s).settings → (c : Content) (next : ℕ) → next ≤ 2 ^ 62 → (o : Option ℕ) → s.capacity ≡ o
+    → MetaOf (profile_for o) (record c { counters = counters_with o s next })
+meta_of s tree fits c next below None is =
+    (meta_plain s tree (subst (λ (o : Option ℕ). length s.nodes ≤ (terms (profile_for o)).node_limit) is tree.shape.limits.nodes) fits next below, tt)
+meta_of s tree fits c next below (Some k) is =
+    let room : FitsCapacity s k = subst (λ (o : Option ℕ). IfSome o (FitsCapacity s)) is tree.shape.space in (
+      meta_everyday s tree (subst (λ (o : Option ℕ). length s.nodes ≤ (terms (profile_for o)).node_limit) is tree.shape.limits.nodes) k room fits next below,
+      (refl, room.used),
+    )
+
+-- the profile that the rows of `meta` say
+profile_with : (o : Option ℕ) (s : State) (c : Content) (next : ℕ) → profile_in (record c { counters = counters_with o s next }) ≡ profile_for o
+profile_with None s c next = refl
+profile_with (Some k) s c next = refl
+
+-- ---- the numbers of a tree are below its counters
+
+nodes_below : (t : Terms) (s : State) (next : ℕ) (ns : List Node) → AllByRecursion (IsNode t next) ns → AllBelow node_key next (map (λ f. f.row) (map (full_of s) ns))
+nodes_below t s next [] all = tt
+nodes_below t s next (n ∷ ns) all = (all.0.below, nodes_below t s next ns all.1)
+
+-- the same of its rows in the tables
+pub record HasRowsOf (s : State) (c : Content) : Type 0 where
+  pub next_node : value_at 2 c ≡ (rowed s).counters.next_node
+  pub next_fh : value_at 3 c ≡ (rowed s).counters.next_fh
+  pub next_cookie : value_at 4 c ≡ (rowed s).counters.next_cookie
+  pub nodes : c.nodes ≡ in_order node_key (map (λ f. f.row) (rowed s).nodes)
+  pub handles : c.handles ≡ in_order fh_of (rowed s).handles
+  pub entries : c.entries ≡ in_order cookie_of (rowed s).entries
+
+pub above_for : TreesAreInOrder → (s : State) (c : Content) → Tree s → HasRowsOf s c → AreAbove c
+unfolding rowed
+above_for ordered s c tree has =
+    let rising = ordered s tree in
+    record {
+      nodes = subst (λ xs. AllBelow node_key (value_at 2 c) xs) (sym (has.nodes ∙ rising.nodes))
+          (subst (λ n. AllBelow node_key n (map (λ f. f.row) (map (full_of s) s.nodes))) (sym has.next_node) (nodes_below (terms_of s) s s.next_node s.nodes tree.shape.nodes));
+      handles = subst (λ xs. AllBelow fh_of (value_at 3 c) xs) (sym (has.handles ∙ rising.handles))
+          (subst (λ n. AllBelow fh_of n s.handles) (sym has.next_fh)
+          (all_less (IsHandle s.nodes s.next_fh) (λ h. h.fh < s.next_fh) s.handles (λ h is. is.below) tree.shape.handles));
+      entries = subst (λ xs. AllBelow cookie_of (value_at 4 c) xs) (sym (has.entries ∙ rising.entries))
+          (subst (λ n. AllBelow cookie_of n s.entries) (sym has.next_cookie)
+          (all_less (IsEntry s.nodes s.entries s.next_cookie) (λ e. e.cookie < s.next_cookie) s.entries (λ e is. is.below) tree.shape.entries));
+    }
+
 -- ---- what is held is a store of version 2
 
 errnos_fit : (ks : List Kept) → AllByRecursion KeepsRecord ks → AllByRecursion (λ (k : Kept). k.said.errno < 2 ^ 32) ks
 errnos_fit ks all = all_less KeepsRecord (λ (k : Kept). k.said.errno < 2 ^ 32) ks (λ k keeps. keeps.errno) all
 
-pub fit_for : TreesAreInOrder → (y : Holding) (c : Content) → Tree y.tree → y.next_lot ≤ 2 ^ 62 → Describes (store_of y) c → IsFit c
-fit_for ordered y c tree next told = record {
+lots_for : (y : Holding) (c : Content) → AreBelow y.next_lot y.lots → Describes (store_of y) c → LotsAreBelow c
+lots_for y c below told =
+    subst (λ xs. AllBelow (λ lot. lot) (value_at 11 c) xs) (sym told.lots)
+    (subst (λ n. AllBelow (λ lot. lot) n y.lots) (sym (ap (λ cs. value_at 11 (record c { counters = cs })) told.counters)) below)
+
+pub profile_is : (y : Holding) (c : Content) → Describes (store_of y) c → profile_in c ≡ profile_of y.tree
+unfolding rowed
+profile_is y c told = ap (λ cs. profile_in (record c { counters = cs })) told.counters ∙ profile_with y.tree.capacity y.tree c y.next_lot
+
+meta_for : (y : Holding) (c : Content) → Tree y.tree → y.next_lot ≤ 2 ^ 62 → Describes (store_of y) c → MetaOf (profile_in c) c
+unfolding rowed
+meta_for y c tree next told =
+    subst (λ p. MetaOf p c) (sym (profile_is y c told))
+    (subst (λ cs. MetaOf (profile_of y.tree) (record c { counters = cs })) (sym told.counters)
+    (meta_of y.tree tree told.settings c y.next_lot next y.tree.capacity refl))
+
+pub fit_for : TreesAreInOrder → (y : Holding) (c : Content) → Tree y.tree → AreBelow y.next_lot y.lots → y.next_lot ≤ 2 ^ 62 → Describes (store_of y) c
+    → IsFit c
+fit_for ordered y c tree below next told = record {
   version = ap (λ cs. value_at 1 (record c { counters = cs })) told.counters;
-  meta = subst (IsMetaFrom 1 11) (sym told.counters) (meta_fits y.tree tree told.settings y.next_lot next);
+  meta = meta_for y c tree next told;
+  above = above_for ordered y.tree c tree (record {
+    next_node = ap (λ cs. value_at 2 (record c { counters = cs })) told.counters;
+    next_fh = ap (λ cs. value_at 3 (record c { counters = cs })) told.counters;
+    next_cookie = ap (λ cs. value_at 4 (record c { counters = cs })) told.counters;
+    nodes = told.nodes;
+    handles = told.handles;
+    entries = told.entries;
+  });
+  lots = lots_for y c below told;
   errnos = errnos_fit c.kept told.fits.kept;
-  few = subst (λ n. n ≤ 65536) (sym (ap length told.nodes ∙ nodes_length ordered y.tree tree)) tree.limits.nodes;
+  few = subst (λ p. length c.nodes ≤ (terms p).node_limit) (sym (profile_is y c told))
+      (subst (λ n. n ≤ (terms (profile_of y.tree)).node_limit) (sym (ap length told.nodes ∙ nodes_length ordered y.tree tree)) tree.shape.limits.nodes);
 }
 
 pub second_for : TreesAreInOrder → (y : Holding) (d : Database) (at : HeldFor y d) → IsSecond at.held.0 d
-second_for ordered y d at = record { holds = at.held.1; fit = fit_for ordered y at.held.0 at.tree at.next at.held.2 }
+second_for ordered y d at = record { holds = at.held.1; fit = fit_for ordered y at.held.0 at.tree at.below at.next at.held.2 }

@@ -2,7 +2,7 @@ pub mod Retelling
 pub mod Fitting
 pub mod Clearing
 pub mod Mounted
-pub mod NewStore
+pub mod MadeNew
 pub mod FirstVersion
 pub mod Reopening
 pub mod Serving

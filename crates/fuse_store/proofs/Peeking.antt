@@ -5,6 +5,7 @@ use Rattle.std.proofs.Common.{subst, IsTrue}
 use Rattle.std.specs.Prelude.{◌||◌}
 use Rattle.sqlite.specs.Tree.{Trees}
 use Rattle.sqlite.specs.State.{State, HasCleanDisk}
+use Rattle.fuse_init.specs.declared.profile.Profile.{Profile}
 use Rattle.fuse_tree.specs.Rows.{Rows}
 use Rattle.fuse_keeper.specs.Stands.{Records}
 use Rattle.fuse_keeper.specs.KeeperState.{Called, Looked, AnswersNoMore}
@@ -87,32 +88,32 @@ lotted_may taken lot a b NotAStore may = absurd may
 lotted_may taken lot a b (Version n) may = absurd may
 lotted_may taken lot a b Damaged may = absurd (let none = may.none in cc)
 
-pub took_may : (taken : ℕ) (lot : Option ℕ) (a b : State) (was is : Bool) → AnswersNoMore (table_told ⊥ a lot was) (table_told ⊥ b (Some taken) is)
-took_may taken lot a b was is clean f may = lotted_may taken lot a b f may
+pub took_may : (p : Profile) (taken : ℕ) (lot : Option ℕ) (a b : State) (was is : Bool) → AnswersNoMore (table_told p ⊥ a lot was) (table_told p ⊥ b (Some taken) is)
+took_may p taken lot a b was is clean f may = lotted_may taken lot a b f may
 
-pub failed_may : {X : Type 0} (f : Holding → Holding) (a b : State) (e : StoreFault) → ServesAs {X = X} HeldFor (λ y. HeldFor (f y)) a b (Err e)
-    → StaysOpen {X = X} a b (Err e) → (lot : Option ℕ) (was is : Bool) → AnswersNoMore (table_told ⊥ a lot was) (table_told ⊥ b lot is)
-failed_may f a b e serves connection lot was is clean fault may =
+pub failed_may : {X : Type 0} (p : Profile) (f : Holding → Holding) (a b : State) (e : StoreFault) → ServesAs {X = X} HeldFor (λ y. HeldFor (f y)) a b (Err e)
+    → StaysOpen {X = X} a b (Err e) → (lot : Option ℕ) (was is : Bool) → AnswersNoMore (table_told p ⊥ a lot was) (table_told p ⊥ b lot is)
+failed_may p f a b e serves connection lot was is clean fault may =
     still_may lot a b (λ is_open. connection.was clean is_open) (λ is_open y at. serves.kept clean is_open y at) fault may
 
 -- a mount that began has no lot, and where none was taken before, no more is answered
-pub begun_may : {X : Type 0} (f : Holding → Holding) (a b : State) (x : X) → ((y : Holding) → (f y).next_lot ≡ y.next_lot)
+pub begun_may : {X : Type 0} (p : Profile) (f : Holding → Holding) (a b : State) (x : X) → ((y : Holding) → (f y).next_lot ≡ y.next_lot)
     → ServesAs {E = StoreFault} HeldFor (λ y. HeldFor (f y)) a b (Ok x) → StaysOpen {E = StoreFault} a b (Ok x) → (lot now : Option ℕ) (was is : Bool)
-    → lot ≡ None → AnswersNoMore (table_told ⊥ a lot was) (table_told ⊥ b now is)
-begun_may f a b x same serves connection lot now was is none clean Memory may = tt
-begun_may f a b x same serves connection lot now was is none clean (Sql e) may = tt
-begun_may f a b x same serves connection lot now was is none clean NotAStore may = absurd may
-begun_may f a b x same serves connection lot now was is none clean (Version n) may = absurd may
-begun_may f a b x same serves connection lot now was is none clean Damaged may = record {
+    → lot ≡ None → AnswersNoMore (table_told p ⊥ a lot was) (table_told p ⊥ b now is)
+begun_may p f a b x same serves connection lot now was is none clean Memory may = tt
+begun_may p f a b x same serves connection lot now was is none clean (Sql e) may = tt
+begun_may p f a b x same serves connection lot now was is none clean NotAStore may = absurd may
+begun_may p f a b x same serves connection lot now was is none clean (Version n) may = absurd may
+begun_may p f a b x same serves connection lot now was is none clean Damaged may = record {
   is_open = connection.was clean may.is_open;
   none = none;
   used_up = λ y at. subst (λ n. 2 ^ 62 ≤ n) (same y) (may.used_up (f y) (serves.done clean y at));
 }
 
-pub went_well : {memory : Type 0} {A X : Type 0} → (f : Holding → Holding) (a b : State) (x : X) (y : A) → ServesAs {E = StoreFault} HeldFor (λ y. HeldFor (f y)) a b (Ok x)
+pub went_well : {memory : Type 0} {A X : Type 0} → (p : Profile) (f : Holding → Holding) (a b : State) (x : X) (y : A) → ServesAs {E = StoreFault} HeldFor (λ y. HeldFor (f y)) a b (Ok x)
     → StaysOpen {E = StoreFault} a b (Ok x) → (lot now : Option ℕ) (failed : Bool)
-    → Called {A = A} (table_told memory a lot failed) (table_told memory b now failed) (Ok y)
-went_well f a b x y serves connection lot now failed = record {
+    → Called {A = A} (table_told p memory a lot failed) (table_told p memory b now failed) (Ok y)
+went_well p f a b x y serves connection lot now failed = record {
   failed = sym (or_false failed);
   honest = λ clean. earlier a b _ serves.survives clean;
   medium = λ memory. memory;
@@ -122,10 +123,10 @@ went_well f a b x y serves connection lot now failed = record {
   fault = λ clean s h t so. tt;
 }
 
-pub went_wrong : {memory : Type 0} {A X : Type 0} → OneHolding → LotsAreSame → (f : Holding → Holding) (a b : State) (e : StoreFault)
+pub went_wrong : {memory : Type 0} {A X : Type 0} → (p : Profile) → OneHolding → LotsAreSame → (f : Holding → Holding) (a b : State) (e : StoreFault)
     → ServesAs {X = X} HeldFor (λ y. HeldFor (f y)) a b (Err e) → (lot : Option ℕ) → MayWhere lot a b e → (failed : Bool)
-    → Called {A = A} (table_told memory a lot failed) (table_told memory b lot true) (Err e)
-went_wrong one told f a b e serves lot may failed = record {
+    → Called {A = A} (table_told p memory a lot failed) (table_told p memory b lot true) (Err e)
+went_wrong p one told f a b e serves lot may failed = record {
   failed = sym (or_true failed);
   honest = λ clean. earlier a b _ serves.survives clean;
   medium = λ memory. memory;
@@ -176,11 +177,11 @@ module _ (one : OneHolding) (a b : State) (settled : Settled a) (stays : IsTrue 
       let well : ServesAs {E = StoreFault} HeldFor HeldFor a b (Ok f) = subst (λ q. ServesAs HeldFor HeldFor a b q) is serves in
       holds_at one b at.holding rows records (well.done clean at.holding at.rests) at.is_of
 
-module _ (one : OneHolding) (told : LotsAreSame) (a b : State) (settled : Settled a) (stays : IsTrue a.is_open → a.may_leave a.committed.trees) where
+module _ (p : Profile) (one : OneHolding) (told : LotsAreSame) (a b : State) (settled : Settled a) (stays : IsTrue a.is_open → a.may_leave a.committed.trees) where
   pub looked_well : {memory : Type 0} {X : Type 0} → (x : X) → ServesAs {E = StoreFault} HeldFor HeldFor a b (Ok x) → StaysOpen {E = StoreFault} a b (Ok x)
-      → (lot : Option ℕ) (failed : Bool) → Looked {A = X} (table_told memory a lot failed) (table_told memory b lot failed) (Ok x)
+      → (lot : Option ℕ) (failed : Bool) → Looked {A = X} (table_told p memory a lot failed) (table_told p memory b lot failed) (Ok x)
   looked_well x serves connection lot failed = record {
-    called = went_well (λ z. z) a b x x serves connection lot lot failed;
+    called = went_well p (λ z. z) a b x x serves connection lot lot failed;
     may = λ clean f is. still_may lot a b (λ is_open. connection.was clean is_open) (λ is_open y at. serves.done clean y at) f is;
     same = λ clean rows records at. still_held one a b settled stays (Ok x) serves x refl clean rows records at;
     lots = λ clean rows records at.
@@ -193,10 +194,10 @@ module _ (one : OneHolding) (told : LotsAreSame) (a b : State) (settled : Settle
 
   pub looked_wrong : {memory : Type 0} {X : Type 0} → (e : StoreFault) → ServesAs {X = X} HeldFor HeldFor a b (Err e) → StaysOpen {X = X} a b (Err e)
       → (HasCleanDisk b → (y : Holding) → RestsAs (HeldFor y) a → IsOutside e) → (lot : Option ℕ) (failed : Bool)
-      → Looked {A = X} (table_told memory a lot failed) (table_told memory b lot true) (Err e)
+      → Looked {A = X} (table_told p memory a lot failed) (table_told p memory b lot true) (Err e)
   looked_wrong e serves connection safe lot failed = record {
-    called = went_wrong one told (λ z. z) a b e serves lot (may_where lot a b e safe) failed;
-    may = failed_may (λ z. z) a b e serves connection lot failed true;
+    called = went_wrong p one told (λ z. z) a b e serves lot (may_where lot a b e safe) failed;
+    may = failed_may p (λ z. z) a b e serves connection lot failed true;
     same = tt;
     lots = tt;
     whole = λ rows records at was. whole_still one a b settled stays (Err e) serves rows records at;

@@ -1,6 +1,7 @@
 -- A store that was opened again, in the words of a keeper.
 use Rattle.std.proofs.Common.{◌≡◌, ℕ, Bool, false, Option, None, sym, ap, ◌∙◌, IsTrue}
 use Rattle.sqlite.specs.State.{State, HasCleanDisk}
+use Rattle.fuse_init.specs.declared.profile.Profile.{Profile}
 use Rattle.fuse_tree.specs.Rows.{Rows, rowed}
 use Rattle.fuse_keeper.specs.Stands.{Records}
 use Rattle.fuse_keeper.specs.KeeperState.{Reopened}
@@ -35,19 +36,19 @@ pub record Opened (a b : State) (taken : Option ℕ) : Type 0 where
   pub honest : HasCleanDisk b → HasCleanDisk a
   pub lots : HasCleanDisk b → (z : Stored) → WasFor z a → SameLots (lots_of None (opened_for z)) (lots_in taken b.now)
 
-module _ (one : OneHolding) (told : LotsAreSame) (a b : State) (settled : Settled b) (stays : IsTrue a.is_open
+module _ (p : Profile) (one : OneHolding) (told : LotsAreSame) (a b : State) (settled : Settled b) (stays : IsTrue a.is_open
     → a.may_leave a.committed.trees) (lot taken : Option ℕ)
     (failed now : Bool) (o : Opened a b taken) (is_going : now ≡ false) where
-  some_left : HasCleanDisk b → (table_told ⊥ a lot failed).leaves_whole → LeavesSome a.committed.trees
+  some_left : HasCleanDisk b → (table_told p ⊥ a lot failed).leaves_whole → LeavesSome a.committed.trees
   some_left clean whole = whole (o.honest clean) a.committed.trees (stays (o.was clean).0)
 
-  opens : (clean : HasCleanDisk b) (whole : (table_told ⊥ a lot failed).leaves_whole) → HoldsIn b (rowed (some_left clean whole).holding.tree)
+  opens : (clean : HasCleanDisk b) (whole : (table_told p ⊥ a lot failed).leaves_whole) → HoldsIn b (rowed (some_left clean whole).holding.tree)
       (records_of (some_left clean whole).holding.kept)
   opens clean whole =
       let some = some_left clean whole in
       o.holds clean (Second some.holding) ((o.was clean).0, (o.was clean).1, some.left)
 
-  pub reopened : {memory : Type 0} → Reopened (table_told memory a lot failed) (table_told memory b taken now)
+  pub reopened : {memory : Type 0} → Reopened (table_told p memory a lot failed) (table_told p memory b taken now)
   reopened = record {
     same = λ clean rows records at. retold b at.holding rows records (o.holds clean (Second at.holding) (was_for a at.holding at.rests)) at.is_of;
     held = λ clean whole. (rowed (some_left clean whole).holding.tree, records_of (some_left clean whole).holding.kept, opens clean whole);
@@ -59,7 +60,7 @@ module _ (one : OneHolding) (told : LotsAreSame) (a b : State) (settled : Settle
           may = stays (o.was clean).0;
           these = record { some = some_left clean whole; is_of = record { rows_are = same.0; records_are = same.1 } };
         };
-    firm = λ clean. firm one b taken now settled;
+    firm = λ clean. firm p one b taken now settled;
     lots = λ clean rows records at.
         let y = at.holding in
         let new = o.lots clean (Second y) (was_for a y at.rests) in

@@ -1,5 +1,5 @@
 -- A whole transaction on a store, in other words.
-use Rattle.std.proofs.Common.{Ok, Err, Result, OnOk, OnErr, IfErr, IsTrue}
+use Rattle.std.proofs.Common.{◌≡◌, false, Ok, Err, Result, OnOk, OnErr, IfErr, IsTrue, sym, subst, ◌∙◌}
 use Rattle.sqlite.specs.Effect.{Database}
 use Rattle.sqlite.specs.State.{State, HasCleanDisk, Survives}
 use Rattle.sqlite.proofs.StateLemmas.{survives_weaker}
@@ -47,7 +47,52 @@ module _ {C D : Type 0} (P Q : C → Database → Type 0) (P' Q' : D → Databas
   safe_so a b (Ok x) p clean = tt
   safe_so a b (Err e) p clean = λ z at. p clean (told z a.now at.holds).content (as_told z a at)
 
--- where what is known before the call says that the store is so
+-- ---- where a call that fails leaves what was committed
+
+pub record Reread {C D : Type 0} (P Q : C → Database → Type 0) (P' Q' : D → Database → Type 0) (z : D) (d : Database) : Type 0 where
+  pub content : C
+  pub holds : P content d
+  pub made : (e : Database) → Q content e → Q' z e
+
+module _ {C D : Type 0} (P Q : C → Database → Type 0) (P' Q' : D → Database → Type 0) (read : (z : D) (d : Database) → P' z d → Reread P Q P' Q' z d) where
+  as_read : (z : D) (s : State) (at : RestsAs (P' z) s) → RestsAs (P (read z s.now at.holds).content) s
+  as_read z s at = record { is_open = at.is_open; autocommit = at.autocommit; holds = (read z s.now at.holds).holds; committed = at.committed }
+
+  survive : (a b : State) → Survives a b (λ db. (c : C) → RestsAs (P c) a → LeftAs (Q c) db) → Survives a b (λ db. (z : D) → RestsAs (P' z) a → LeftAs (Q' z) db)
+  survive a b s = survives_weaker a b _ _ (λ _ db left z at.
+      let w = read z a.now at.holds in
+      let it = left w.content (as_read z a at) in
+      (it.0, w.made it.0 it.1, it.2)) s
+
+  pub served_undone : {X E : Type 0} (a b : State) (r : Result X E) → ServesAs P Q a b r → (HasCleanDisk b → b.in_transaction ≡ false)
+      → OnErr r (HasCleanDisk b → IsTrue b.is_open → (b.now ≡ a.committed) × (b.committed ≡ a.committed)) → ServesAs P' Q' a b r
+  served_undone a b (Ok x) p ended undone = record {
+    survives = survive a b p.survives;
+    kept = tt;
+    done = λ clean z at.
+        let w = read z a.now at.holds in
+        let now = p.done clean w.content (as_read z a at) in
+        record { is_open = now.is_open; autocommit = now.autocommit; holds = w.made b.now now.holds; committed = now.committed };
+  }
+  served_undone a b (Err e) p ended undone = record {
+    survives = survive a b p.survives;
+    kept = λ clean is_open z at.
+        let back = undone clean is_open in
+        record {
+          is_open = is_open;
+          autocommit = ended clean;
+          holds = subst (P' z) (sym (back.0 ∙ at.committed)) at.holds;
+          committed = back.1 ∙ sym back.0;
+        };
+    done = tt;
+  }
+
+  pub safe_undone : {X : Type 0} (a b : State) (r : Result X StoreFault) → IsSafe P a b r → IsSafe P' a b r
+  safe_undone a b (Ok x) p clean = tt
+  safe_undone a b (Err e) p clean = λ z at. p clean (read z a.now at.holds).content (as_read z a at)
+
+-- ---- where what is known before the call says that the store is so
+
 module _ {C : Type 0} (P Q : C → Database → Type 0) (W : C → Type 0) (a b : State) (so : (c : C) → W c → RestsAs (P c) a) where
   pub done_so : {X E : Type 0} (r : Result X E) → ServesAs P Q a b r → HasCleanDisk b → OnOk r ((c : C) → W c → RestsAs (Q c) b)
   done_so (Ok x) p clean = λ c w. p.done clean c (so c w)

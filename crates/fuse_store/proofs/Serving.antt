@@ -9,12 +9,13 @@ use Rattle.fuse_keeper.specs.History.{History}
 use Rattle.fuse_keeper.specs.Stands.{Records, Stands, StandsForEither}
 use Rattle.fuse_keeper.specs.KeeperState.{IsFirm, Leaves}
 use Rattle.fuse_keeper.specs.Lots.{Lots, SameLots}
-use Rattle.fuse_tree.specs.TheTree.{the_tree}
+use Rattle.fuse_init.specs.declared.profile.Profile.{Profile}
 use Rattle.fuse_store_tables.specs.Content.{LeftAs}
 use Rattle.fuse_store_tables.specs.Moves.{RestsAs, ServesAs}
 use Rattle.fuse_store_tree.specs.Store.{records_of}
 use Rattle.fuse_store_tree.specs.Holding.{Holding, HeldFor}
 use Rattle.fuse_store_tree.specs.Performing.{OneHolding, HoldingStands}
+use Rattle.fuse_tree.specs.TheTree.{tree_of}
 use Rattle.fuse_store.specs.TableState.{IsOf, HoldsIn, LeavesSome, table_told}
 
 -- while the connection is open, a crash leaves what was committed
@@ -35,9 +36,9 @@ holds_at one s y rows records rests is = record { holding = y; rests = rests; al
 
 -- ---- what stands for a history
 
-pub moved : (rows x : Rows) (records r : Records) (s : TreeState) (h : History) (t : List ℕ) → x ≡ rows → ((i : ℕ) → r i ≡ records i)
-    → Stands the_tree rows records s h t → Stands the_tree x r s h t
-moved rows x records r s h t is are so = record {
+pub moved : (p : Profile) (rows x : Rows) (records r : Records) (s : TreeState) (h : History) (t : List ℕ) → x ≡ rows → ((i : ℕ) → r i ≡ records i)
+    → Stands (tree_of p) rows records s h t → Stands (tree_of p) x r s h t
+moved p rows x records r s h t is are so = record {
   tree = so.tree;
   distinct = so.distinct;
   rows_are = is ∙ so.rows_are;
@@ -45,14 +46,14 @@ moved rows x records r s h t is are so = record {
   kept = λ i off. are i ∙ so.kept i off;
 }
 
-pub stands_on : (y : Holding) (rows : Rows) (records : Records) (s : TreeState) (h : History) (t : List ℕ) → IsOf y rows records
-    → Stands the_tree rows records s h t
-    → HoldingStands y s h t
-stands_on y rows records s h t is so = moved rows (rowed y.tree) records (records_of y.kept) s h t (sym is.rows_are) (λ i. sym (is.records_are i)) so
+pub stands_on : (p : Profile) (y : Holding) (rows : Rows) (records : Records) (s : TreeState) (h : History) (t : List ℕ) → IsOf y rows records
+    → Stands (tree_of p) rows records s h t
+    → HoldingStands p y s h t
+stands_on p y rows records s h t is so = moved p rows (rowed y.tree) records (records_of y.kept) s h t (sym is.rows_are) (λ i. sym (is.records_are i)) so
 
-pub stands_of : (y : Holding) (rows : Rows) (records : Records) (s : TreeState) (h : History) (t : List ℕ) → IsOf y rows records → HoldingStands y s h t
-    → Stands the_tree rows records s h t
-stands_of y rows records s h t is so = moved (rowed y.tree) rows (records_of y.kept) records s h t is.rows_are is.records_are so
+pub stands_of : (p : Profile) (y : Holding) (rows : Rows) (records : Records) (s : TreeState) (h : History) (t : List ℕ) → IsOf y rows records → HoldingStands p y s h t
+    → Stands (tree_of p) rows records s h t
+stands_of p y rows records s h t is so = moved p (rowed y.tree) rows (records_of y.kept) records s h t is.rows_are is.records_are so
 
 -- ---- what a crash leaves
 
@@ -60,8 +61,8 @@ stands_of y rows records s h t is so = moved (rowed y.tree) rows (records_of y.k
 pub left_now : (s : State) (y : Holding) (db : Trees) → Settled s → RestsAs (HeldFor y) s → s.may_leave db → LeftAs (HeldFor y) db
 left_now s y db settled rests may = (s.now, rests.holds, sym (settled db rests.is_open may ∙ ap (λ d. d.trees) rests.committed))
 
-pub firm : OneHolding → (s : State) (lot : Option ℕ) (failed : Bool) → Settled s → IsFirm (table_told ⊥ s lot failed)
-firm one s lot failed settled rows records at = (
+pub firm : (p : Profile) → OneHolding → (s : State) (lot : Option ℕ) (failed : Bool) → Settled s → IsFirm (table_told p ⊥ s lot failed)
+firm p one s lot failed settled rows records at = (
   λ clean db may. record { holding = at.holding; left = left_now s at.holding db settled at.rests may },
   λ x r left.
       let z = left.these.some.holding in
@@ -88,9 +89,9 @@ module _ (one : OneHolding) (f : Holding → Holding) (a b : State) (settled : S
   ]
 
   -- what is so of both is so of whatever it leaves
-  pub leaves_both : (lot : Option ℕ) (failed : Bool) (P : Rows → Records → Type 0) → ((x : Rows) (r : Records) → IsOf y x r → P x r)
-      → ((x : Rows) (r : Records) → IsOf (f y) x r → P x r) → Leaves (table_told ⊥ b lot failed) P
-  leaves_both lot failed P before after = (
+  pub leaves_both : (p : Profile) (lot : Option ℕ) (failed : Bool) (P : Rows → Records → Type 0) → ((x : Rows) (r : Records) → IsOf y x r → P x r)
+      → ((x : Rows) (r : Records) → IsOf (f y) x r → P x r) → Leaves (table_told p ⊥ b lot failed) P
+  leaves_both p lot failed P before after = (
     whole,
     λ x r left.
         let z = left.these.some.holding in
@@ -100,13 +101,13 @@ module _ (one : OneHolding) (f : Holding → Holding) (a b : State) (settled : S
         ],
   )
 
-  pub leaves_either : (lot : Option ℕ) (failed : Bool) (s s' : TreeState) (h h' : History) (t t' : List ℕ) → HoldingStands y s h t
-      → HoldingStands (f y) s' h' t'
-      → Leaves (table_told ⊥ b lot failed) (StandsForEither the_tree (record { state = s; history = h; settled = t })
+  pub leaves_either : (p : Profile) (lot : Option ℕ) (failed : Bool) (s s' : TreeState) (h h' : History) (t t' : List ℕ) → HoldingStands p y s h t
+      → HoldingStands p (f y) s' h' t'
+      → Leaves (table_told p ⊥ b lot failed) (StandsForEither (tree_of p) (record { state = s; history = h; settled = t })
       (record { state = s'; history = h'; settled = t' }))
-  leaves_either lot failed s s' h h' t t' before after =
-      leaves_both lot failed (StandsForEither the_tree (record { state = s; history = h; settled = t }) (record { state = s'; history = h'; settled = t' }))
-      (λ x r is. inl (stands_of y x r s h t is before)) (λ x r is. inr (stands_of (f y) x r s' h' t' is after))
+  leaves_either p lot failed s s' h h' t t' before after =
+      leaves_both p lot failed (StandsForEither (tree_of p) (record { state = s; history = h; settled = t }) (record { state = s'; history = h'; settled = t' }))
+      (λ x r is. inl (stands_of p y x r s h t is before)) (λ x r is. inr (stands_of p (f y) x r s' h' t' is after))
 
 -- ---- what is held after a call
 

@@ -3,6 +3,7 @@ pub mod Mounting
 pub mod Opening
 pub mod TableState
 pub mod TableKeeper
+pub mod StoreKeeper
 pub mod Starting
 pub mod Storing
 pub mod inner

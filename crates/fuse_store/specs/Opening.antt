@@ -1,5 +1,5 @@
 -- A store of either version, and the store after its opening (own profile).
-use Rattle.std.specs.Prelude.{◌≡◌, ℕ, false, IsTrue, List, [], ◌∷◌, map, Option}
+use Rattle.std.specs.Prelude.{◌≡◌, ◌≤◌, ◌^◌, ℕ, false, IsTrue, List, [], ◌∷◌, map, Option, None}
 use Rattle.std.specs.List.{AllByRecursion}
 use Rattle.sqlite.specs.Effect.{Database}
 use Rattle.sqlite.specs.State.{State, HasCleanDisk, Survives}
@@ -12,11 +12,12 @@ use Rattle.fuse_store_tables.specs.Content.{Content, Counter, Answer, HoldsAs, L
 use Rattle.fuse_keeper.specs.declared.fault.StoreFault.{StoreFault}
 use Rattle.fuse_store_tables.specs.Faults.{IsOutside}
 use Rattle.fuse_store_tables.specs.Moves.{RestsAs, LeavesAlone}
-use Rattle.fuse_store_tables.specs.Opening.{IsStored, IsOpened, under}
+use Rattle.fuse_store_tables.specs.Opening.{HoldsUnindexed, IsStored, IsOpened, under}
 use Rattle.fuse_store_tables.specs.Saying.{Says, IsRefusal, IsToMigrate}
 use Rattle.fuse_store_tree.specs.Fits.{Fits, KeepsRecord}
 use Rattle.fuse_store_tree.specs.Store.{FitsSettings, in_order, counter, is_there, minor_of, readahead_of, flags_of, byte_in, rows_bytes, rows_ends, AreWithin}
-use Rattle.fuse_store_tree.specs.Holding.{Holding, HeldFor}
+use Rattle.fuse_store_tree.specs.Store.{DescribesAs, bodies_of}
+use Rattle.fuse_store_tree.specs.Holding.{Holding, HeldFor, AreBelow, store_of}
 
 -- ---- version 1
 
@@ -42,26 +43,44 @@ pub record DescribesFirst (rows : Rows) (records : List Answer) (c : Content) : 
   pub fits : Fits c
   pub keeps : AllByRecursion (λ a. KeepsRecord (under 0 a)) records
 
--- a database of version 1 that holds this
+-- a database of version 1 that holds this, which is plain
 pub record FirstFor (s : TreeState) (records : List Answer) (d : Database) : Type 0 where
   pub tree : Tree s
+  pub plain : s.capacity ≡ None
   pub held : (c : Content) × HoldsAs with_answers (stored c) d × DescribesFirst (rowed s) records c
+
+-- ---- version 2
+
+-- a database of version 2 without the index that holds this
+pub record UnindexedFor (y : Holding) (d : Database) : Type 0 where
+  pub tree : Tree y.tree
+  pub below : AreBelow y.next_lot y.lots
+  pub next : y.next_lot ≤ 2 ^ 62
+  pub held : (c : Content) × HoldsUnindexed c d × DescribesAs (store_of y) (bodies_of (rowed y.tree)) c
 
 -- ---- either version
 
--- a tree and its records in version 1, or a holding of version 2
+-- a tree and its records in version 1, or a holding of version 2, with the index or without it
 pub data Stored : Type 0 where
   First : TreeState → List Answer → Stored
   Second : Holding → Stored
+  Unindexed : Holding → Stored
 
 abbrev pub StoredFor : Stored → Database → Type 0
 StoredFor (First s records) d = FirstFor s records d
 StoredFor (Second y) d = HeldFor y d
+StoredFor (Unindexed y) d = UnindexedFor y d
 
 -- the records of version 1 are under lot 0, and the next lot is 1
 abbrev pub opened_for : Stored → Holding
 opened_for (First s records) = record { tree = s; kept = map (under 0) records; lots = 0 ∷ []; next_lot = 1 }
 opened_for (Second y) = y
+opened_for (Unindexed y) = y
+
+-- the version in its `meta`
+abbrev pub version_for : Stored → ℕ
+version_for (First s records) = 1
+version_for _ = 2
 
 abbrev pub OpenedFor : Stored → Database → Type 0
 OpenedFor z = HeldFor (opened_for z)
@@ -88,7 +107,7 @@ OpenRefused = FailsToOpen opened_for IsToMigrate
 
 -- an opening that succeeded keeps all rows, those too that no tree has
 pub record KeepsRows (old new : State) : Type 0 where
-  -- only a store of version 1 is changed
+  -- only a store that is to be migrated or lacks the index is changed
   pub alone : (IsToMigrate old.now → ⊥) → LeavesAlone old new
   pub opened : HasCleanDisk new → (c : Content) → RestsAs (IsStored c) old → RestsAs (IsOpened c) new
   pub ended : HasCleanDisk new → new.in_transaction ≡ false

@@ -3,12 +3,11 @@ use Rattle.std.specs.Prelude.{◌≡◌, ℕ, List, [], IsTrue, false}
 use Rattle.sqlite.specs.Tree.{Trees}
 use Rattle.sqlite.specs.Effect.{Database}
 use Rattle.sqlite.specs.State.{State, HasCleanDisk}
-use Rattle.fuse_wire.specs.declared.moment.Moment.{Moment}
+use Rattle.fuse_init.specs.declared.profile.Profile.{Profile}
 use Rattle.fuse_tree.specs.Rows.{rowed}
 use Rattle.fuse_keeper.specs.History.{History, after}
 use Rattle.fuse_keeper.specs.Stands.{Stands}
 use Rattle.fuse_keeper.specs.KeeperState.{KeeperState, StandsFor}
-use Rattle.fuse_tree.specs.TheTree.{the_tree}
 use Rattle.fuse_keeper.specs.declared.fault.StoreFault.{StoreFault}
 use Rattle.fuse_store_tables.specs.Clearing.{IsBegun}
 use Rattle.fuse_store_tables.specs.Content.{Content, LeftAs}
@@ -17,13 +16,19 @@ use Rattle.fuse_store_tables.specs.Opening.{IsStored}
 use Rattle.fuse_store_tables.specs.Saying.{IsTabled}
 use Rattle.fuse_store_tree.specs.Store.{records_of}
 use Rattle.fuse_store_tree.specs.Holding.{Holding, HeldFor}
+use Rattle.fuse_tree.specs.TheTree.{tree_of}
+use Rattle.fuse_store.specs.declared.new_store.NewStore.{NewStore}
 use Rattle.fuse_store.specs.Creating.{IsBlank, new_holding}
 use Rattle.fuse_store.specs.Mounting.{cleared_for}
 use Rattle.fuse_store.specs.Opening.{Stored, OpenedFor, WasFor, FailsToOpen, opened_for}
 
+-- what a new store holds
+abbrev pub holding_for : NewStore → Holding
+holding_for new = new_holding new.kind.profile new.kind.capacity new.now
+
 -- these trees are those of a new store, where the database was blank, and those of the opened store, where it had one
-pub record LeavesStarted (now : Moment) (s : State) (db : Trees) : Type 0 where
-  pub made : IsBlank s → IsTrue s.is_open → LeftAs (HeldFor (new_holding now)) db
+pub record LeavesStarted (new : NewStore) (s : State) (db : Trees) : Type 0 where
+  pub made : IsBlank s → IsTrue s.is_open → LeftAs (HeldFor (holding_for new)) db
   pub opened : (z : Stored) → WasFor z s → LeftAs (OpenedFor z) db
 
 -- ---- with a mount that begins
@@ -45,12 +50,12 @@ pub record KeepsNamed (old new : State) : Type 0 where
   pub ended : HasCleanDisk new → new.in_transaction ≡ false
 
 -- these trees are those of a new store, where the database was blank, and those of the store after the begin of a mount, where it had one
-pub record LeavesFresh (now : Moment) (s : State) (db : Trees) : Type 0 where
-  pub made : IsBlank s → IsTrue s.is_open → LeftAs (HeldFor (new_holding now)) db
+pub record LeavesFresh (new : NewStore) (s : State) (db : Trees) : Type 0 where
+  pub made : IsBlank s → IsTrue s.is_open → LeftAs (HeldFor (holding_for new)) db
   pub begun : (z : Stored) → WasFor z s → LeftAs (BegunFor z) db
 
 -- a mount began of the opened store, whatever history that stood for
-abbrev pub BeginsAfter : Stored → KeeperState the_tree → Type 0
-BeginsAfter z k = (s : the_tree.State) (h : History) (t : List ℕ)
-    → Stands the_tree (rowed (opened_for z).tree) (records_of (opened_for z).kept) s h t
-    → StandsFor k (the_tree.cleared (after the_tree s h)) [] []
+abbrev pub BeginsAfter : (p : Profile) → Stored → KeeperState (tree_of p) → Type 0
+BeginsAfter p z k = (s : (tree_of p).State) (h : History) (t : List ℕ)
+    → Stands (tree_of p) (rowed (opened_for z).tree) (records_of (opened_for z).kept) s h t
+    → StandsFor k ((tree_of p).cleared (after (tree_of p) s h)) [] []

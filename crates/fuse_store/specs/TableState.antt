@@ -2,17 +2,18 @@
 use Rattle.std.specs.Prelude.{◌≡◌, ◌≤◌, ◌^◌, ℕ, ⊤, Bool, IsTrue, Option, None}
 use Rattle.sqlite.specs.Tree.{Trees}
 use Rattle.sqlite.specs.State.{State, HasCleanDisk}
+use Rattle.fuse_init.specs.declared.profile.Profile.{Profile}
 use Rattle.fuse_tree.specs.Rows.{Rows, rowed}
 use Rattle.fuse_keeper.specs.Stands.{Records}
 use Rattle.fuse_keeper.specs.KeeperState.{KeeperState}
 use Rattle.fuse_keeper.specs.declared.fault.StoreFault.{StoreFault}
 use Rattle.fuse_keeper.specs.declared.fault.StoreFault.TheVariants.{Memory, Sql, Damaged}
-use Rattle.fuse_tree.specs.TheTree.{the_tree}
 use Rattle.fuse_store_tables.specs.Content.{LeftAs}
 use Rattle.fuse_store_tables.specs.Moves.{RestsAs}
 use Rattle.fuse_store_tree.specs.Store.{records_of}
 use Rattle.fuse_store_tree.specs.Holding.{Holding, HeldFor}
 use Rattle.fuse_store_tree.specs.Lots.{lots_in}
+use Rattle.fuse_tree.specs.TheTree.{tree_of}
 
 -- these are the rows and the records of this holding
 pub record IsOf (y : Holding) (rows : Rows) (records : Records) : Type 0 where
@@ -57,8 +58,8 @@ MayAnswer lot s Damaged = IsOutOfLots lot s
 MayAnswer lot s _ = ⊥
 
 -- the store lies where its connection's does, and is honest and clean as that is
-abbrev pub table_told : Type 0 → State → Option ℕ → Bool → KeeperState the_tree
-table_told memory s lot failed = record {
+abbrev pub table_told : (p : Profile) → Type 0 → State → Option ℕ → Bool → KeeperState (tree_of p)
+table_told p memory s lot failed = record {
   holds = HoldsIn s;
   is_honest = HasCleanDisk s;
   is_clean = HasCleanDisk s × IsTrue s.is_open;

@@ -1,16 +1,19 @@
 // A new store.
-ghost use Rattle.std.specs.Prelude.{◌≡◌, ◌<◌, ◌^◌, ◌↔◌, true, false, IsTrue, IfErr, IsErrAnd, OnOk};
+ghost use Rattle.std.specs.Prelude.{◌≡◌, ◌<◌, ◌^◌, ◌↔◌, true, false, IsTrue, IfErr, IfSome, IsErrAnd, OnOk};
 ghost use Rattle.sqlite.specs.State.{HasCleanDisk, Survives};
 ghost use Rattle.sqlite.specs.Held.{state};
+ghost use Rattle.fuse_tree.specs.State.{capacity_for};
 ghost use Rattle.fuse_store_tables.specs.Faults.{IsOutside};
 ghost use Rattle.fuse_store_tables.specs.Layout.{no_schema};
 ghost use Rattle.fuse_store_tables.specs.Making.{IsBare};
-ghost use Rattle.fuse_store_tables.specs.Moves.{RestsAs, ServesAs};
+ghost use Rattle.fuse_store_tables.specs.Moves.{RestsAs, ServesAs, LeavesAlone};
+ghost use Rattle.fuse_store_tables.specs.Refusing.{HasMetaTable};
 ghost use Rattle.fuse_store_tree.specs.Holding.{HeldFor};
-ghost use Rattle.fuse_store.specs.Creating.{new_holding, IsBlank, LeavesNew};
+ghost use Rattle.fuse_store.specs.Creating.{new_holding, IsBlank, LeavesNew, IsTakenFault};
 
+use fuse_init::Profile;
 use fuse_keeper::StoreFault;
-use fuse_store_tables::make_store;
+use fuse_store_tables::{make_store, try_store};
 use fuse_tree::new_store_is_tree;
 use fuse_wire::Moment;
 use sqlite::{Alter, Connection, Error};
@@ -22,6 +25,18 @@ pub(crate) fn is_empty(schema: &Schema) -> bool
     schema.tables.is_empty() && schema.indexes.is_empty() && schema.views.is_empty()
 }
 
+// The blocks that a store of this profile has room for, where it has a bound.
+fn room_for(profile: Profile, capacity: u64) -> Option<u64>
+    requires { capacity < 2 ^ 51 }
+    ensures is { result ≡ capacity_for profile capacity }
+    ensures low { IfSome result (λ c. c < 2 ^ 51) }
+{
+    match profile {
+        Profile::Plain => None,
+        Profile::Everyday => Some(capacity),
+    }
+}
+
 // A number of 64 bits.
 fn wide(number: u64)
     ensures { number < 2 ^ 64 }
@@ -29,19 +44,40 @@ fn wide(number: u64)
     let _ = number;
 }
 
+// The fault of a new store in a database that has tables: the error of the statement that SQLite
+// refuses. Where it refuses none, the tables have other names, and nothing is made beside them.
+fn refuse_store<S: Alter>(conn: &mut Connection<S>, now: Moment) -> StoreFault
+    ensures alone { LeavesAlone (state S.Store conn.old) (state S.Store conn.new) }
+    ensures outside { IsOutside result }
+    ensures taken { HasCleanDisk (state S.Store conn.new)
+        → (state S.Store conn.old).in_transaction ≡ false
+        → HasMetaTable (state S.Store conn.old).now.schema → IsTakenFault result }
+{
+    match try_store(conn, now) {
+        Ok(()) => StoreFault::Sql(Error::InvalidQuery),
+        Err(error) => StoreFault::from(error),
+    }
+}
+
 /// Makes a new store in a blank database, with all times at this moment. The commit is its last
 /// call of the database.
-pub(crate) fn make_for<S: Alter>(conn: &mut Connection<S>, now: Moment) -> Result<(), StoreFault>
-    ensures serves { ServesAs (IsBare no_schema) (λ _. HeldFor (new_holding now))
+pub(crate) fn make_for<S: Alter>(
+    conn: &mut Connection<S>,
+    profile: Profile,
+    capacity: u64,
+    now: Moment,
+) -> Result<(), StoreFault>
+    requires { capacity < 2 ^ 51 }
+    ensures serves { ServesAs (IsBare no_schema) (λ _. HeldFor (new_holding profile capacity now))
         (state S.Store conn.old) (state S.Store conn.new) result }
     ensures blank { OnOk result (IsBlank (state S.Store conn.old)) }
     ensures was { HasCleanDisk (state S.Store conn.new)
         → OnOk result (IsTrue (state S.Store conn.old).is_open) }
     ensures done { HasCleanDisk (state S.Store conn.new) → OnOk result
         (IsTrue (state S.Store conn.old).is_open
-        → RestsAs (HeldFor (new_holding now)) (state S.Store conn.new)) }
+        → RestsAs (HeldFor (new_holding profile capacity now)) (state S.Store conn.new)) }
     ensures crash { Survives (state S.Store conn.old) (state S.Store conn.new)
-        (LeavesNew now (state S.Store conn.old)) }
+        (LeavesNew profile capacity now (state S.Store conn.old)) }
     // The fault is out of memory or of SQL.
     ensures outside { IfErr result IsOutside }
     ensures ended { HasCleanDisk (state S.Store conn.new)
@@ -49,13 +85,22 @@ pub(crate) fn make_for<S: Alter>(conn: &mut Connection<S>, now: Moment) -> Resul
         → (state S.Store conn.new).in_transaction ≡ false }
     ensures busy { (state S.Store conn.old).in_transaction ≡ true
         → IsErrAnd result (λ f. conn.new ≡ conn.old) }
-    // A database that is not blank is left untouched.
-    ensures untouched { (IsBlank (state S.Store conn.old) → ⊥) → conn.new ≡ conn.old }
+    // A database that is not blank is left as it was.
+    ensures untouched { (state S.Store conn.old).in_transaction ≡ false
+        → (IsBlank (state S.Store conn.old) → ⊥)
+        → LeavesAlone (state S.Store conn.old) (state S.Store conn.new) }
+    // Where there is a table `meta`, the fault is the error that SQLite gave.
+    ensures taken { HasCleanDisk (state S.Store conn.new)
+        → (state S.Store conn.old).in_transaction ≡ false
+        → HasMetaTable (state S.Store conn.old).now.schema → IsErrAnd result IsTakenFault }
 {
     new_store_is_tree();
     wide(now.secs);
-    if !conn.is_autocommit() || !is_empty(conn.schema()) {
+    if !conn.is_autocommit() {
         return Err(StoreFault::Sql(Error::InvalidQuery));
     }
-    make_store(conn, now)
+    if !is_empty(conn.schema()) {
+        return Err(refuse_store(conn, now));
+    }
+    make_store(conn, room_for(profile, capacity), now)
 }

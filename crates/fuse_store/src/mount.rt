@@ -1,9 +1,10 @@
 // The begin of a mount.
-ghost use Rattle.std.specs.Prelude.{◌≡◌, true, false, None, codes, IsTrue, IfErr, IsErrAnd, OnOk, OnErr};
+ghost use Rattle.std.specs.Prelude.{◌≡◌, true, false, None, codes, IsTrue, IfOk, IfErr, IsErrAnd, OnOk, OnErr};
 ghost use Rattle.sqlite.specs.State.{HasCleanDisk, Survives};
 ghost use Rattle.sqlite.specs.Held.{state};
 ghost use Rattle.sqlite_schema.specs.Names.{table_named};
 ghost use Rattle.fuse_keeper.specs.declared.fault.StoreFault.TheVariants.{NotAStore};
+ghost use Rattle.fuse_tree.specs.State.{profile_of};
 ghost use Rattle.fuse_store_tables.specs.Content.{Content, LeftAs};
 ghost use Rattle.fuse_store_tables.specs.Faults.{IsOutside, IsPlain};
 ghost use Rattle.fuse_store_tables.specs.Moves.{RestsAs, ServesAs, StaysOpen, IsSafe};
@@ -13,9 +14,10 @@ ghost use Rattle.fuse_store_tables.specs.Opening.{IsStored, IsLaid, HasMeta};
 ghost use Rattle.fuse_store_tables.specs.Saying.{Says, IsTabled, IsRefusal};
 ghost use Rattle.fuse_store_tree.specs.Holding.{HeldFor};
 ghost use Rattle.fuse_store.specs.Mounting.{cleared_for};
-ghost use Rattle.fuse_store.specs.Opening.{Stored, StoredFor, WasFor};
+ghost use Rattle.fuse_store.specs.Opening.{Stored, StoredFor, WasFor, opened_for};
 ghost use Rattle.fuse_store.specs.Starting.{BegunFor};
 
+use fuse_init::Profile;
 use fuse_keeper::StoreFault;
 use fuse_store_tables::set_up_fresh;
 use fuse_store_tree::rows_in_order;
@@ -44,7 +46,7 @@ pub(crate) fn begin_mount<S: Alter>(conn: &mut Connection<S>) -> Result<(), Stor
 
 /// Opens a store and begins a mount of it, in one transaction. The commit is its last call of the
 /// database.
-pub(crate) fn set_up_begun<S: Alter>(conn: &mut Connection<S>) -> Result<(), StoreFault>
+pub(crate) fn set_up_begun<S: Alter>(conn: &mut Connection<S>) -> Result<Profile, StoreFault>
     ensures serves { ServesAs StoredFor BegunFor (state S.Store conn.old) (state S.Store conn.new)
         result }
     ensures safe { IsSafe StoredFor (state S.Store conn.old) (state S.Store conn.new) result }
@@ -53,6 +55,9 @@ pub(crate) fn set_up_begun<S: Alter>(conn: &mut Connection<S>) -> Result<(), Sto
         × ((state S.Store conn.old).in_transaction ≡ false)) }
     ensures says { HasCleanDisk (state S.Store conn.new)
         → IfErr result (Says (state S.Store conn.old).now) }
+    // The profile is that of the store.
+    ensures profile { HasCleanDisk (state S.Store conn.new) → IfOk result (λ p. (z : Stored)
+        → WasFor z (state S.Store conn.old) → p ≡ profile_of (opened_for z).tree) }
     ensures whole { HasCleanDisk (state S.Store conn.new) → OnOk result ((c : Content)
         → IsLaid c (state S.Store conn.old).now → HasMeta c) }
     ensures tabled { HasCleanDisk (state S.Store conn.new)

@@ -1,24 +1,28 @@
 // The opening of a store.
-ghost use Rattle.std.specs.Prelude.{◌≡◌, true, false, None, codes, IsTrue, IfErr, IsErrAnd, OnOk, OnErr};
+ghost use Rattle.std.specs.Prelude.{◌≡◌, true, false, None, codes, IsTrue, IfOk, IfErr, IsErrAnd, OnOk, OnErr};
 ghost use Rattle.sqlite.specs.State.{HasCleanDisk, Survives};
 ghost use Rattle.sqlite.specs.Held.{state};
 ghost use Rattle.sqlite_schema.specs.Names.{table_named};
 ghost use Rattle.fuse_keeper.specs.declared.fault.StoreFault.TheVariants.{NotAStore};
+ghost use Rattle.fuse_tree.specs.State.{profile_of};
 ghost use Rattle.fuse_store_tables.specs.Content.{Content, LeftAs};
 ghost use Rattle.fuse_store_tables.specs.Faults.{IsOutside};
 ghost use Rattle.fuse_store_tables.specs.Moves.{RestsAs, ServesAs, IsSafe, LeavesAlone};
 ghost use Rattle.fuse_store_tables.specs.Opening.{IsStored, IsOpened, IsLaid, HasMeta};
 ghost use Rattle.fuse_store_tables.specs.Saying.{Says, IsTabled, IsRefusal, IsToMigrate};
 ghost use Rattle.fuse_store.specs.Opening.{Stored, StoredFor, OpenedFor, WasFor};
+ghost use Rattle.fuse_store.specs.Opening.{opened_for};
 
+use fuse_init::Profile;
 use fuse_keeper::StoreFault;
 use fuse_store_tables::set_up;
 use fuse_store_tree::rows_in_order;
 use sqlite::{Alter, Connection, Error};
 
-/// Opens a store: tests it, and migrates a store of version 1 to version 2. The commit is its last
-/// call of the database.
-pub(crate) fn set_up_for<S: Alter>(conn: &mut Connection<S>) -> Result<(), StoreFault>
+/// Opens a store: tests it, migrates a store of version 1 to version 2, and makes the index of
+/// version 2 where it is missing. The profile is the store's. The commit is its last call of the
+/// database.
+pub(crate) fn set_up_for<S: Alter>(conn: &mut Connection<S>) -> Result<Profile, StoreFault>
     ensures serves { ServesAs StoredFor OpenedFor (state S.Store conn.old) (state S.Store conn.new)
         result }
     ensures fault { IsSafe StoredFor (state S.Store conn.old) (state S.Store conn.new) result }
@@ -29,6 +33,9 @@ pub(crate) fn set_up_for<S: Alter>(conn: &mut Connection<S>) -> Result<(), Store
         → IfErr result (Says (state S.Store conn.old).now) }
     // A store with a damaged `meta` or without a table of its version is never opened. No missing
     // table is made.
+    // The profile is that of the store.
+    ensures profile { HasCleanDisk (state S.Store conn.new) → IfOk result (λ p. (z : Stored)
+        → WasFor z (state S.Store conn.old) → p ≡ profile_of (opened_for z).tree) }
     ensures whole { HasCleanDisk (state S.Store conn.new) → OnOk result ((c : Content)
         → IsLaid c (state S.Store conn.old).now → HasMeta c) }
     ensures tabled { HasCleanDisk (state S.Store conn.new)
@@ -49,7 +56,8 @@ pub(crate) fn set_up_for<S: Alter>(conn: &mut Connection<S>) -> Result<(), Store
     // All rows are kept, those too that no tree has.
     ensures rows { ServesAs IsStored IsOpened (state S.Store conn.old) (state S.Store conn.new)
         result }
-    // Only a store of version 1 is changed, and no database that is refused.
+    // Only a store that is to be migrated or lacks the index is changed, and no database that is
+    // refused.
     ensures alone { (state S.Store conn.old).in_transaction ≡ false
         → (IsToMigrate (state S.Store conn.old).now → ⊥)
         → LeavesAlone (state S.Store conn.old) (state S.Store conn.new) }

@@ -4,7 +4,6 @@ ghost use Rattle.std.specs.Prelude.{IsErrAnd};
 ghost use Rattle.sqlite.specs.State.{HasCleanDisk, Survives};
 ghost use Rattle.sqlite.specs.Held.{state};
 ghost use Rattle.sqlite_schema.specs.Names.{table_named};
-ghost use Rattle.fuse_tree.specs.State.{new_store};
 ghost use Rattle.fuse_tree.specs.Rows.{rowed};
 ghost use Rattle.fuse_keeper.specs.declared.fault.StoreFault.TheVariants.{NotAStore};
 ghost use Rattle.fuse_keeper.specs.KeeperState.{IsFirm, StandsFor};
@@ -18,17 +17,19 @@ ghost use Rattle.fuse_store_tables.specs.Opening.{IsLaid, HasMeta};
 ghost use Rattle.fuse_store_tables.specs.Saying.{Says, IsTabled, IsRefusal, IsToMigrate};
 ghost use Rattle.fuse_store_tree.specs.Store.{records_of};
 ghost use Rattle.fuse_store_tree.specs.Holding.{lots_of};
-ghost use Rattle.fuse_store.specs.Creating.{IsBlank, new_holding};
+ghost use Rattle.fuse_tree.specs.State.{profile_of};
+ghost use Rattle.fuse_store.specs.Creating.{IsBlank};
 ghost use Rattle.fuse_store.specs.Opening.{Stored, StoredFor, WasFor, KeepsRows, opened_for};
 ghost use Rattle.fuse_store.specs.Starting.{LeavesStarted, BeginsAfter, KeepsNamed};
-ghost use Rattle.fuse_store.specs.Starting.{LeavesFresh, begun_for};
+ghost use Rattle.fuse_store.specs.Starting.{LeavesFresh, begun_for, holding_for};
 ghost use Rattle.fuse_store.specs.Storing.{opening_fault};
-ghost use Rattle.fuse_store.specs.TableKeeper.{keeper_told, conn_of, SharesMedium};
+ghost use Rattle.fuse_store.specs.TableKeeper.{SharesMedium};
+ghost use Rattle.fuse_store.specs.StoreKeeper.{own_profile, own_conn, store_told};
 
 use crate::creation::is_empty;
-use crate::table_keeper::TableKeeper;
+use crate::new_store::NewStore;
+use crate::store_keeper::StoreKeeper;
 use fuse_keeper::StoreFault;
-use fuse_wire::Moment;
 use sqlite::{Alter, Connection, Error, ErrorCode};
 use std::alloc::Global;
 
@@ -40,35 +41,39 @@ fn is_blank<S: Alter>(conn: &Connection<S>) -> bool
     conn.is_autocommit() && is_empty(conn.schema())
 }
 
-/// The keeper over a database. A blank database gets a new store, made at this moment; any other is
+/// The keeper over a database. A blank database gets this new store; any other is
 /// opened. A fault gives the connection back.
 pub fn open_or_create<S: Alter>(
     alloc: Global,
     conn: Connection<S>,
-    now: Moment,
-) -> Result<TableKeeper<S>, (StoreFault, Connection<S>)>
-    ensures stands { IfOk result (λ k. (keeper_told S.Store k).is_honest
+    new: NewStore,
+) -> Result<StoreKeeper<S>, (StoreFault, Connection<S>)>
+    ensures stands { IfOk result (λ k. (store_told k).is_honest
         → IsBlank (state S.Store conn) → IsTrue (state S.Store conn).is_open
-        → StandsFor (keeper_told S.Store k) (new_store now) [] []) }
-    ensures holds { IfOk result (λ k. (keeper_told S.Store k).is_honest → (z : Stored)
-        → WasFor z (state S.Store conn) → (keeper_told S.Store k).holds
+        → StandsFor (store_told k) (holding_for new).tree [] []) }
+    ensures holds { IfOk result (λ k. (store_told k).is_honest → (z : Stored)
+        → WasFor z (state S.Store conn) → (store_told k).holds
         (rowed (opened_for z).tree) (records_of (opened_for z).kept)) }
-    ensures lots { IfOk result (λ k. (keeper_told S.Store k).is_honest → (z : Stored)
+    ensures profile { IfOk result (λ k. (store_told k).is_honest → (z : Stored)
+        → WasFor z (state S.Store conn) → profile_of (opened_for z).tree ≡ own_profile k) }
+    ensures new_profile { IfOk result (λ k. IsBlank (state S.Store conn)
+        → own_profile k ≡ new.kind.profile) }
+    ensures lots { IfOk result (λ k. (store_told k).is_honest → (z : Stored)
         → WasFor z (state S.Store conn)
-        → SameLots (lots_of None (opened_for z)) (keeper_told S.Store k).lots) }
-    ensures new_lots { IfOk result (λ k. (keeper_told S.Store k).is_honest
+        → SameLots (lots_of None (opened_for z)) (store_told k).lots) }
+    ensures new_lots { IfOk result (λ k. (store_told k).is_honest
         → IsBlank (state S.Store conn) → IsTrue (state S.Store conn).is_open
-        → SameLots (lots_of None (new_holding now)) (keeper_told S.Store k).lots) }
-    ensures was { IfOk result (λ k. (keeper_told S.Store k).is_honest
+        → SameLots (lots_of None (holding_for new)) (store_told k).lots) }
+    ensures was { IfOk result (λ k. (store_told k).is_honest
         → IsTrue (state S.Store conn).is_open × ((state S.Store conn).in_transaction ≡ false)) }
-    ensures honest { IfOk result (λ k. (keeper_told S.Store k).is_honest
+    ensures honest { IfOk result (λ k. (store_told k).is_honest
         → HasCleanDisk (state S.Store conn)) }
-    ensures medium { IfOk result (SharesMedium S.Store) }
-    ensures going { IfOk result (λ k. (keeper_told S.Store k).has_failed ≡ false) }
-    ensures firm { IfOk result (λ k. (keeper_told S.Store k).is_honest
-        → IsFirm (keeper_told S.Store k)) }
+    ensures medium { IfOk result (λ k. SharesMedium S.Store (own_conn k) (store_told k)) }
+    ensures going { IfOk result (λ k. (store_told k).has_failed ≡ false) }
+    ensures firm { IfOk result (λ k. (store_told k).is_honest
+        → IsFirm (store_told k)) }
     ensures crash { IfErr result (λ r. Survives (state S.Store conn) (state S.Store r.1)
-        (LeavesStarted now (state S.Store conn))) }
+        (LeavesStarted new (state S.Store conn))) }
 
     // A fault leaves the database as it was, and says nothing of a sound store.
     ensures bare { IfErr result (λ r. HasCleanDisk (state S.Store r.1)
@@ -88,10 +93,10 @@ pub fn open_or_create<S: Alter>(
         → (IsBlank (state S.Store conn) → ⊥)
         → table_named (state S.Store conn).now.schema (codes "meta") ≡ None
         → IsErrAnd result (λ r. r.0 ≡ NotAStore) }
-    ensures whole { IfOk result (λ k. (keeper_told S.Store k).is_honest
+    ensures whole { IfOk result (λ k. (store_told k).is_honest
         → (IsBlank (state S.Store conn) → ⊥) → (c : Content)
         → IsLaid c (state S.Store conn).now → HasMeta c) }
-    ensures tabled { IfOk result (λ k. (keeper_told S.Store k).is_honest
+    ensures tabled { IfOk result (λ k. (store_told k).is_honest
         → (IsBlank (state S.Store conn) → ⊥) → IsTabled (state S.Store conn).now) }
     // A refusal leaves everything as it was, and no transaction is left open.
     ensures refused { IfErr result (λ r. IsRefusal r.0
@@ -106,46 +111,50 @@ pub fn open_or_create<S: Alter>(
         → IsErrAnd result (λ r. r.1 ≡ conn) }
     // All rows of a store are kept, those too that no tree has.
     ensures rows { IfOk result (λ k. (IsBlank (state S.Store conn) → ⊥)
-        → KeepsRows (state S.Store conn) (state S.Store (conn_of S.Store k))) }
+        → KeepsRows (state S.Store conn) (state S.Store (own_conn k))) }
 {
     if is_blank(&conn) {
-        TableKeeper::create(alloc, conn, now)
+        StoreKeeper::create(alloc, conn, new)
     } else {
-        TableKeeper::open(alloc, conn)
+        StoreKeeper::open(alloc, conn)
     }
 }
 
-/// The keeper over a database, for a mount that begins. A blank database gets a new store, made at
-/// this moment; any other is opened, and a mount of it begins. A fault gives the connection back.
+/// The keeper over a database, for a mount that begins. A blank database gets this new
+/// store; any other is opened, and a mount of it begins. A fault gives the connection back.
 pub fn open_fresh<S: Alter>(
     alloc: Global,
     conn: Connection<S>,
-    now: Moment,
-) -> Result<TableKeeper<S>, (StoreFault, Connection<S>)>
-    ensures stands { IfOk result (λ k. (keeper_told S.Store k).is_honest
+    new: NewStore,
+) -> Result<StoreKeeper<S>, (StoreFault, Connection<S>)>
+    ensures stands { IfOk result (λ k. (store_told k).is_honest
         → IsBlank (state S.Store conn) → IsTrue (state S.Store conn).is_open
-        → StandsFor (keeper_told S.Store k) (new_store now) [] []) }
-    ensures holds { IfOk result (λ k. (keeper_told S.Store k).is_honest → (z : Stored)
-        → WasFor z (state S.Store conn) → (keeper_told S.Store k).holds
+        → StandsFor (store_told k) (holding_for new).tree [] []) }
+    ensures holds { IfOk result (λ k. (store_told k).is_honest → (z : Stored)
+        → WasFor z (state S.Store conn) → (store_told k).holds
         (rowed (begun_for z).tree) (records_of (begun_for z).kept)) }
-    ensures begins { IfOk result (λ k. (keeper_told S.Store k).is_honest → (z : Stored)
-        → WasFor z (state S.Store conn) → BeginsAfter z (keeper_told S.Store k)) }
-    ensures lots { IfOk result (λ k. (keeper_told S.Store k).is_honest → (z : Stored)
+    ensures begins { IfOk result (λ k. (store_told k).is_honest → (z : Stored)
+        → WasFor z (state S.Store conn) → BeginsAfter (own_profile k) z (store_told k)) }
+    ensures profile { IfOk result (λ k. (store_told k).is_honest → (z : Stored)
+        → WasFor z (state S.Store conn) → profile_of (opened_for z).tree ≡ own_profile k) }
+    ensures new_profile { IfOk result (λ k. IsBlank (state S.Store conn)
+        → own_profile k ≡ new.kind.profile) }
+    ensures lots { IfOk result (λ k. (store_told k).is_honest → (z : Stored)
         → WasFor z (state S.Store conn)
-        → SameLots (lots_of None (begun_for z)) (keeper_told S.Store k).lots) }
-    ensures new_lots { IfOk result (λ k. (keeper_told S.Store k).is_honest
+        → SameLots (lots_of None (begun_for z)) (store_told k).lots) }
+    ensures new_lots { IfOk result (λ k. (store_told k).is_honest
         → IsBlank (state S.Store conn) → IsTrue (state S.Store conn).is_open
-        → SameLots (lots_of None (new_holding now)) (keeper_told S.Store k).lots) }
-    ensures was { IfOk result (λ k. (keeper_told S.Store k).is_honest
+        → SameLots (lots_of None (holding_for new)) (store_told k).lots) }
+    ensures was { IfOk result (λ k. (store_told k).is_honest
         → IsTrue (state S.Store conn).is_open × ((state S.Store conn).in_transaction ≡ false)) }
-    ensures honest { IfOk result (λ k. (keeper_told S.Store k).is_honest
+    ensures honest { IfOk result (λ k. (store_told k).is_honest
         → HasCleanDisk (state S.Store conn)) }
-    ensures firm { IfOk result (λ k. (keeper_told S.Store k).is_honest
-        → IsFirm (keeper_told S.Store k)) }
-    ensures medium { IfOk result (SharesMedium S.Store) }
-    ensures going { IfOk result (λ k. (keeper_told S.Store k).has_failed ≡ false) }
+    ensures firm { IfOk result (λ k. (store_told k).is_honest
+        → IsFirm (store_told k)) }
+    ensures medium { IfOk result (λ k. SharesMedium S.Store (own_conn k) (store_told k)) }
+    ensures going { IfOk result (λ k. (store_told k).has_failed ≡ false) }
     ensures crash { IfErr result (λ r. Survives (state S.Store conn) (state S.Store r.1)
-        (LeavesFresh now (state S.Store conn))) }
+        (LeavesFresh new (state S.Store conn))) }
 
     // A fault leaves the database as it was, and says nothing of a sound store.
     ensures bare { IfErr result (λ r. HasCleanDisk (state S.Store r.1)
@@ -165,10 +174,10 @@ pub fn open_fresh<S: Alter>(
         → (IsBlank (state S.Store conn) → ⊥)
         → table_named (state S.Store conn).now.schema (codes "meta") ≡ None
         → IsErrAnd result (λ r. r.0 ≡ NotAStore) }
-    ensures whole { IfOk result (λ k. (keeper_told S.Store k).is_honest
+    ensures whole { IfOk result (λ k. (store_told k).is_honest
         → (IsBlank (state S.Store conn) → ⊥) → (c : Content)
         → IsLaid c (state S.Store conn).now → HasMeta c) }
-    ensures tabled { IfOk result (λ k. (keeper_told S.Store k).is_honest
+    ensures tabled { IfOk result (λ k. (store_told k).is_honest
         → (IsBlank (state S.Store conn) → ⊥) → IsTabled (state S.Store conn).now) }
     // A refusal leaves everything as it was, and no transaction is left open.
     ensures refused { IfErr result (λ r. IsRefusal r.0
@@ -183,13 +192,13 @@ pub fn open_fresh<S: Alter>(
         → IsErrAnd result (λ r. r.1 ≡ conn) }
     // All rows of a store are kept but those that the begin of a mount deletes.
     ensures rows { IfOk result (λ k. (IsBlank (state S.Store conn) → ⊥)
-        → KeepsNamed (state S.Store conn) (state S.Store (conn_of S.Store k))) }
+        → KeepsNamed (state S.Store conn) (state S.Store (own_conn k))) }
 {
     let blank = is_blank(&conn);
     if blank {
-        return TableKeeper::create(alloc, conn, now);
+        return StoreKeeper::create(alloc, conn, new);
     }
-    TableKeeper::open_begun(alloc, conn)
+    StoreKeeper::open_begun(alloc, conn)
 }
 
 /// The fault of a store whose file is not opened: a file that is no database is no store.

@@ -22,6 +22,7 @@ use Rattle.fuse_store.specs.Opening.{Stored, WasFor, opened_for}
 use Rattle.fuse_store.specs.Opening.Stored.{Second}
 use Rattle.fuse_store.specs.TableState.{IsOf, HoldsIn, LeavesSome, table_told}
 use Rattle.fuse_store.specs.inner.Laws.{one_held}
+use Rattle.fuse_init.specs.declared.profile.Profile.{Profile}
 use Rattle.fuse_store_files.specs.Files.{HoldSome}
 use Rattle.fuse_store_files.specs.Crashing.{Crashes}
 
@@ -48,7 +49,7 @@ module _ {D : Type 0} {g : Ghosts D} (crashed : D → D → Type 0) (conn again 
       let live = opened clean in
       (live.0.is_open, live.0.autocommit, subst (LeftAs (HeldFor y)) (sym (found_left clean).1) held)
 
-  module _ (stays : SeenMayStay g) (b : State) (lot taken : Option ℕ) (failed now : Bool) (honest : HasCleanDisk b → HasCleanDisk (file_state again))
+  module _ (stays : SeenMayStay g) (p : Profile) (b : State) (lot taken : Option ℕ) (failed now : Bool) (honest : HasCleanDisk b → HasCleanDisk (file_state again))
       (holds : HasCleanDisk b → (z : Stored) → WasFor z (file_state again) → HoldsIn b (rowed (opened_for z).tree) (records_of (opened_for z).kept))
       (lots : HasCleanDisk b → (z : Stored) → WasFor z (file_state again) → SameLots (lots_of None (opened_for z)) (lots_in taken b.now)) where
     back : HasCleanDisk b → HasCleanDisk (file_state conn)
@@ -61,11 +62,11 @@ module _ {D : Type 0} {g : Ghosts D} (crashed : D → D → Type 0) (conn again 
         let h = (found_left (honest clean)).0 in
         ((file_state conn).now, at.rests.holds, ap (λ d. d.trees) (sym at.rests.committed) ∙ sym (settled_at conn.store stays h.trees at.rests.is_open h.so))
 
-    some_left : (clean : HasCleanDisk b) → (table_told ⊥ (file_state conn) lot failed).leaves_whole → LeavesSome (found_left (honest clean)).0.trees
+    some_left : (clean : HasCleanDisk b) → (table_told p ⊥ (file_state conn) lot failed).leaves_whole → LeavesSome (found_left (honest clean)).0.trees
     some_left clean whole = let h = (found_left (honest clean)).0 in whole (back clean) h.trees h.so
 
-    pub reopened : {memory : Type 0} → LotsAreSame → (HasCleanDisk b → IsFirm (table_told ⊥ b taken now)) → (now ≡ false)
-        → Reopened (table_told memory (file_state conn) lot failed) (table_told memory b taken now)
+    pub reopened : {memory : Type 0} → LotsAreSame → (HasCleanDisk b → IsFirm (table_told p ⊥ b taken now)) → (now ≡ false)
+        → Reopened (table_told p memory (file_state conn) lot failed) (table_told p memory b taken now)
     reopened told firm going = record {
       same = λ clean rows records at.
           retold b at.holding rows records (holds clean (Second at.holding) (was (honest clean) at.holding (left_same clean rows records at))) at.is_of;

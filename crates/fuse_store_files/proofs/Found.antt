@@ -1,6 +1,6 @@
 -- What an open finds in the files of a store, and what it makes of it.
 use Rattle.std.proofs.Common.{◌≡◌, ◌≤◌, inl, inr, sym, ap, ap₂, subst, arith, ◌∙◌}
-use Rattle.std.proofs.Math.Logic.{∥∥₁_elim}
+use Rattle.std.proofs.Math.Logic.{∥∥₁_elim, ∥∥₁_map}
 use Rattle.sqlite_disk.specs.declared.Disk.{Ghosts}
 use Rattle.sqlite_disk.specs.declared.Files.{Files}
 use Rattle.sqlite_wal.proofs.LogLemmas.{SeenMayStay}
@@ -19,9 +19,9 @@ use Rattle.sqlite_store.specs.Laws.{settled_at}
 use Rattle.sqlite.specs.Tree.{Trees}
 use Rattle.sqlite.specs.Effect.{Database, IsDatabase}
 use Rattle.sqlite.specs.Schema.{Schema}
-use Rattle.sqlite_catalog.specs.Listing.{Lists}
+use Rattle.sqlite_catalog.specs.Listing.{Lists, IsSound}
 use Rattle.sqlite.specs.State.{State, HasCleanDisk, IsLive, Opens, Survives, store_error}
-use Rattle.sqlite.specs.Held.{Held}
+use Rattle.sqlite.specs.Held.{Held, AreDatabases}
 use Rattle.sqlite.specs.Files.{file_state, IsOpened, IsEmpty, IsCleanLeft, AreFoundIn, FailsToOpenFiles, HoldsDatabase, image_of}
 use Rattle.sqlite.specs.Start.{FindsIn}
 use Rattle.sqlite.specs.declared.error.Error.{Error}
@@ -29,7 +29,7 @@ use Rattle.sqlite.specs.declared.file.Leftover.{Leftover}
 use Rattle.sqlite.specs.declared.file.Leftover.TheVariants as left
 use Rattle.sqlite.proofs.ListingLemmas.{empty_is_sound}
 use Rattle.fuse_tree.specs.Rows.{Rows, rowed}
-use Rattle.fuse_tree.specs.TheTree.{the_tree}
+use Rattle.fuse_init.specs.declared.profile.Profile.{Profile}
 use Rattle.fuse_keeper.specs.Stands.{Records}
 use Rattle.fuse_keeper.specs.KeeperState.{KeeperState}
 use Rattle.fuse_store_tables.specs.Content.{Content, LeftAs}
@@ -38,6 +38,8 @@ use Rattle.fuse_store_tables.specs.Opening.{IsStored}
 use Rattle.fuse_store_tables.specs.Faults.{IsOutside}
 use Rattle.fuse_store_tables.specs.Layout.{no_schema}
 use Rattle.fuse_store_tree.specs.Store.{records_of}
+use Rattle.fuse_tree.specs.TheTree.{tree_of}
+use Rattle.fuse_tree.specs.State.{profile_of}
 use Rattle.fuse_store.specs.Creating.{IsBlank}
 use Rattle.fuse_store.specs.Opening.{Stored, StoredFor, WasFor, opened_for}
 use Rattle.fuse_store.specs.Storing.{opening_fault}
@@ -45,8 +47,9 @@ use Rattle.fuse_store_files.specs.declared.files.Opening.{Opening}
 use Rattle.fuse_store_files.specs.declared.files.Opening.TheVariants.{Existing, Any, Fresh}
 use Rattle.fuse_store_files.specs.Files.{HoldSome, FilesHold, HoldNothing, TreesTell, AreTheirs}
 use Rattle.fuse_store_files.specs.Starting.{OpensAs, KeepsStore, FilesHoldRows}
-use Rattle.fuse_store_files.specs.Left.{LeavesAsFound, LeavesOpening, IsMadeBy}
+use Rattle.fuse_store_files.specs.Left.{LeavesAsFound, LeavesOpening, LeavesStore, LeavesUnclosed, IsMadeBy}
 use Rattle.fuse_store_files.specs.inner.Opened.{OpensOver, LeavesOver, IsNotOpened}
+use Rattle.fuse_store_files.proofs.Finding.{holds_one, holds_more}
 use Rattle.fuse_store_files.proofs.Nothing.{found_nothing}
 
 -- ---- of a database that an open found
@@ -74,23 +77,23 @@ module _ (image : Image) (s : State) (opens : Opens s) (live : IsLive s) (finds 
   stored : (P : Rows → Records → Type 0) (held : HoldSome (TreesTell P) image) → FilesHold image held.so.store
   stored P held = record { trees = held.trees; held = held.held; so = held.so.left }
 
-  pub keeps : (how : Opening) (k : KeeperState the_tree) → OpensOver how s k → (z : Stored) → FilesHold image z → KeepsStore how z k
-  keeps how k over z held = over.keeps z (was_for z held)
+  pub keeps : (p : Profile) (how : Opening) (k : KeeperState (tree_of p)) → OpensOver p how s k → (z : Stored) → FilesHold image z → KeepsStore p how z k
+  keeps p how k over z held = over.keeps z (was_for z held)
 
-  pub opens_as : (how : Opening) (k : KeeperState the_tree) → OpensOver how s k → OpensAs how image k
-  opens_as Existing k over = (
+  pub opens_as : (p : Profile) (how : Opening) (k : KeeperState (tree_of p)) → OpensOver p how s k → OpensAs p how image k
+  opens_as p Existing k over = (
     λ at held.
         let z = held.so.store in
-        record { rows = rowed (opened_for z).tree; records = records_of (opened_for z).kept; held = (keeps Existing k over z (stored _ held)).held; stands = held.so.so },
+        record { rows = rowed (opened_for z).tree; records = records_of (opened_for z).kept; held = (keeps p Existing k over z (stored _ held)).held; stands = held.so.so },
     λ nothing. over.makes (blank nothing) opens.is_open,
   )
-  opens_as (Any now) k over = (
+  opens_as p (Any new) k over = (
     λ at held.
         let z = held.so.store in
-        record { rows = rowed (opened_for z).tree; records = records_of (opened_for z).kept; held = (keeps (Any now) k over z (stored _ held)).held; stands = held.so.so },
+        record { rows = rowed (opened_for z).tree; records = records_of (opened_for z).kept; held = (keeps p (Any new) k over z (stored _ held)).held; stands = held.so.so },
     λ nothing. over.makes (blank nothing) opens.is_open,
   )
-  opens_as (Fresh now) k over = (
+  opens_as p (Fresh new) k over = (
     λ at held. over.begins held.so.store (was_for held.so.store (stored _ held)) at.state at.history at.settled held.so.so,
     λ nothing. over.makes (blank nothing) opens.is_open,
   )
@@ -100,7 +103,10 @@ module _ (image : Image) (s : State) (opens : Opens s) (live : IsLive s) (finds 
   rests c held =
       let (d, at, same) = held.so in
       let found = same_trees _ held in
-      let sound : IsDatabase d = elim at [ inl first ↦ first.holds.sound | inr second ↦ second.holds.sound ] in
+      let sound : IsDatabase d = elim at [
+        | inl whole ↦ elim whole [ inl first ↦ first.holds.sound | inr second ↦ second.holds.sound ]
+        | inr unindexed ↦ unindexed.holds.sound
+      ] in
       let listed = lists_once (d.trees catalog_tree) d.schema s.committed.schema sound.lists
       (subst (λ (t : Trees). Lists (t catalog_tree) s.committed.schema) (found ∙ sym same) (live opens.is_open).1.lists) in
       let whole : d ≡ s.committed = ap₂ (λ (x : Schema) (t : Trees). let e : Database = record { schema = x; trees = t } in e) listed (same ∙ sym found) in
@@ -113,17 +119,34 @@ module _ (image : Image) (s : State) (opens : Opens s) (live : IsLive s) (finds 
 
   pub made_by : (how : Opening) (db : Trees) → LeavesOver how s db → IsMadeBy how image db
   made_by Existing db made = λ z held. made z (was_for z held)
-  made_by (Any now) db made = (λ z held. made.opened z (was_for z held), λ nothing. made.made (blank nothing) opens.is_open)
-  made_by (Fresh now) db made = (λ z held. made.begun z (was_for z held), λ nothing. made.made (blank nothing) opens.is_open)
+  made_by (Any new) db made = (λ z held. made.opened z (was_for z held), λ nothing. made.made (blank nothing) opens.is_open)
+  made_by (Fresh new) db made = (λ z held. made.begun z (was_for z held), λ nothing. made.made (blank nothing) opens.is_open)
 
 -- ---- of an opening that failed
+
+-- such trees, and those of another kind too
+leaves_more : {D : Type 0} {g : Ghosts D} (P Q : Trees → Type 0) (image : Image) (it : FileStore D g) → ((db : Trees) → P db → Q db) → LeavesStore P image it
+    → LeavesStore Q image it
+leaves_more P Q image it more all = record {
+  each = λ db may. more db (all.each db may);
+  holds = λ numbered some left may. holds_more P Q left more (all.holds numbered some left may);
+}
+
+-- what is known of each database that the store recovers to is known of the one that a crash leaves
+leaves_each : {D : Type 0} {g : Ghosts D} (P : Trees → Type 0) (image : Image) (it : FileStore D g)
+    → (IsClean (view it) → HoldSome (λ db. Unit {0}) image → ∥ AreDatabases (recovers it) ∥₁) → LeavesUnclosed P it → LeavesStore P image it
+leaves_each P image it sound each = record {
+  each = each;
+  holds = λ numbered some left may.
+      holds_more (recovers it) P left each (holds_one it left may numbered (sound (no_doubt _ (clean_if_left it.pool left may)) some));
+}
 
 module _ {D : Type 0} {g : Ghosts D} (image : Image) (how : Opening) where
   pub left_open : (conn : Held (FileStore D g)) → SeenMayStay g → (HasCleanDisk (file_state conn) → IsOpened conn)
       → (HasCleanDisk (file_state conn) → FindsIn image (file_state conn)) → (new : State) (it : FileStore D g)
       → Survives (file_state conn) new (LeavesOver how (file_state conn)) → doubt new.is_clean ≤ doubt (view it).is_clean
-      → ((db : Trees) → recovers it db → new.may_leave db) → LeavesOpening how image (left.Store it)
-  left_open conn stays opened found new it survives later outcomes db may =
+      → ((db : Trees) → recovers it db → new.may_leave db) → (IsClean (view it) → AreDatabases (recovers it)) → LeavesOpening how image (left.Store it)
+  left_open conn stays opened found new it survives later outcomes sound = leaves_each _ image it (λ clean some. ∣ sound clean ∣₁) (λ db may.
       let last : IsClean (view it) = no_doubt _ (clean_if_left it.pool may.0 may.2) in
       let clean_new : HasCleanDisk new = omega (arith, last, later) in
       let clean : HasCleanDisk (file_state conn) = omega (arith, clean_new, survives.clean) in
@@ -134,13 +157,13 @@ module _ {D : Type 0} {g : Ghosts D} (image : Image) (how : Opening) where
             let same = settled_at conn.store stays db live.0.is_open old in
             inl (subst (AreTheirs image) (sym same) (record { holds = finds.holds; reads = finds.reads }))
         | inr made ↦ inr (made_by image (file_state conn) live.0 live.1 finds how db made)
-      ]
+      ])
 
   pub left_alone : (conn : Held (FileStore D g)) → SeenMayStay g → (HasCleanDisk (file_state conn) → IsOpened conn)
       → (HasCleanDisk (file_state conn) → FindsIn image (file_state conn)) → (new : State) (it : FileStore D g)
       → LeavesAlone (file_state conn) new → doubt new.is_clean ≤ doubt (view it).is_clean
-      → ((db : Trees) → recovers it db → new.may_leave db) → LeavesAsFound image (left.Store it)
-  left_alone conn stays opened found new it same later outcomes db may =
+      → ((db : Trees) → recovers it db → new.may_leave db) → (IsClean (view it) → AreDatabases (recovers it)) → LeavesAsFound image (left.Store it)
+  left_alone conn stays opened found new it same later outcomes sound = leaves_each _ image it (λ clean some. ∣ sound clean ∣₁) (λ db may.
       let last : IsClean (view it) = no_doubt _ (clean_if_left it.pool may.0 may.2) in
       let clean_new : HasCleanDisk new = omega (arith, last, later) in
       let clean : HasCleanDisk (file_state conn) = omega (arith, clean_new, same.survives.clean) in
@@ -151,22 +174,29 @@ module _ {D : Type 0} {g : Ghosts D} (image : Image) (how : Opening) where
             let committed = settled_at conn.store stays db live.0.is_open old in
             subst (AreTheirs image) (sym committed) (record { holds = finds.holds; reads = finds.reads })
         | inr none ↦ absurd none
-      ]
+      ])
 
   pub stays_found : (it : Leftover D g) (e : Error) → IsNotOpened image it e → LeavesAsFound image it
   stays_found (left.Files files) e not = not.left
   stays_found (left.Unopened files) e not = not.left
-  stays_found (left.Store it) e not = λ db may.
-      let found = not.left.kept (clean_if_left it.pool may.0 may.2) db may in
+  stays_found (left.Store it) e not =
+      let found : (db : Trees) → recovers it db → AreTheirs image db = λ db may.
+      let one = not.left.kept (clean_if_left it.pool may.0 may.2) db may in
       record {
-        holds = λ d held. found.1 d (subst (λ (i : Image). HoldsDatabase i d) (sym not.left.held) held);
-        reads = subst (λ (i : Image). AreFoundIn i db) not.left.held found.0;
-      }
+        holds = λ d held. one.1 d (subst (λ (i : Image). HoldsDatabase i d) (sym not.left.held) held);
+        reads = subst (λ (i : Image). AreFoundIn i db) not.left.held one.0;
+      } in
+      leaves_each _ image it
+      (λ clean some.
+      ∥∥₁_map some.held (λ h.
+      let sound : AreDatabases (recovers it) = λ db may. (h.2.schema, subst (IsSound h.2.schema) (sym ((found db may).holds some.trees h)) h.2.sound) in
+      sound))
+      found
 
   pub not_opened : (it : Leftover D g) (e : Error) → IsNotOpened image it e → LeavesOpening how image it
   not_opened (left.Files files) e not = not.left
   not_opened (left.Unopened files) e not = not.left
-  not_opened (left.Store it) e not = λ db may. inl (stays_found (left.Store it) e not db may)
+  not_opened (left.Store it) e not = leaves_more _ _ image it (λ db theirs. inl theirs) (stays_found (left.Store it) e not)
 
 store_outside : (kind : StoreError) → IsOutside (opening_fault (store_error kind))
 store_outside OutOfMemory = tt

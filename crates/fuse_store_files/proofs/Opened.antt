@@ -6,10 +6,8 @@ use Rattle.sqlite_schema.specs.Names.{table_named}
 use Rattle.sqlite.specs.Schema.{Schema}
 use Rattle.sqlite.specs.Effect.{Database}
 use Rattle.sqlite.specs.State.{State}
-use Rattle.fuse_wire.specs.declared.moment.Moment.{Moment}
-use Rattle.fuse_tree.specs.State.{new_store}
+use Rattle.fuse_init.specs.declared.profile.Profile.{Profile}
 use Rattle.fuse_tree.specs.Rows.{rowed}
-use Rattle.fuse_tree.specs.TheTree.{the_tree}
 use Rattle.fuse_keeper.specs.KeeperState.{KeeperState, StandsFor}
 use Rattle.fuse_keeper.specs.Lots.{SameLots}
 use Rattle.fuse_store_tables.specs.Content.{Content}
@@ -19,9 +17,12 @@ use Rattle.fuse_store_tables.specs.Opening.{IsStored}
 use Rattle.fuse_store_tables.specs.Saying.{IsTabled, has_tables, first_names, second_names}
 use Rattle.fuse_store_tree.specs.Store.{records_of}
 use Rattle.fuse_store_tree.specs.Holding.{lots_of}
-use Rattle.fuse_store.specs.Creating.{IsBlank, new_holding}
+use Rattle.fuse_tree.specs.TheTree.{tree_of}
+use Rattle.fuse_tree.specs.State.{profile_of}
+use Rattle.fuse_store.specs.declared.new_store.NewStore.{NewStore}
+use Rattle.fuse_store.specs.Creating.{IsBlank}
 use Rattle.fuse_store.specs.Opening.{Stored, WasFor, opened_for}
-use Rattle.fuse_store.specs.Starting.{BeginsAfter, begun_for}
+use Rattle.fuse_store.specs.Starting.{BeginsAfter, begun_for, holding_for}
 use Rattle.fuse_store_files.specs.declared.files.Opening.TheVariants.{Existing, Any, Fresh}
 use Rattle.fuse_store_files.specs.inner.Opened.{OpensOver}
 
@@ -35,49 +36,58 @@ tabled_is_not_blank d none (inr it) = let e : false ≡ true = subst (λ (s : Sc
 pub stored_is_not_blank : (s : State) (c : Content) → RestsAs (IsStored c) s → IsBlank s → ⊥
 unfolding everything
 stored_is_not_blank s c at blank = elim at.holds [
-  | inl first ↦
-      let e : false ≡ true = ap (λ (x : Schema). is_some (table_named x (codes "meta"))) (sym blank.1 ∙ first.holds.schema) in
-      absurd (cc)
-  | inr second ↦
-      let e : false ≡ true = ap (λ (x : Schema). is_some (table_named x (codes "meta"))) (sym blank.1 ∙ second.holds.schema) in
+  | inl whole ↦ elim whole [
+    | inl first ↦
+        let e : false ≡ true = ap (λ (x : Schema). is_some (table_named x (codes "meta"))) (sym blank.1 ∙ first.holds.schema) in
+        absurd (cc)
+    | inr second ↦
+        let e : false ≡ true = ap (λ (x : Schema). is_some (table_named x (codes "meta"))) (sym blank.1 ∙ second.holds.schema) in
+        absurd (cc)
+  ]
+  | inr unindexed ↦
+      let e : false ≡ true = ap (λ (x : Schema). is_some (table_named x (codes "meta"))) (sym blank.1 ∙ unindexed.holds.schema) in
       absurd (cc)
 ]
 
-module _ (s : State) (k : KeeperState the_tree) where
+module _ (s : State) (p : Profile) (k : KeeperState (tree_of p)) (profile : (z : Stored) → WasFor z s → profile_of (opened_for z).tree ≡ p) where
   pub over_existing : ((z : Stored) → WasFor z s → k.holds (rowed (opened_for z).tree) (records_of (opened_for z).kept))
-      → ((z : Stored) → WasFor z s → SameLots (lots_of None (opened_for z)) k.lots) → IsTabled s.now → OpensOver Existing s k
+      → ((z : Stored) → WasFor z s → SameLots (lots_of None (opened_for z)) k.lots) → IsTabled s.now → OpensOver p Existing s k
   over_existing holds lots tabled = record {
+    profile = profile;
     keeps = λ z was. record { held = holds z was; lots = lots z was };
     begins = λ z was. tt;
     makes = λ blank is_open. tabled_is_not_blank s.now blank.1 tabled;
   }
 
-  pub over_any : (now : Moment) → ((z : Stored) → WasFor z s → k.holds (rowed (opened_for z).tree) (records_of (opened_for z).kept))
-      → ((z : Stored) → WasFor z s → SameLots (lots_of None (opened_for z)) k.lots) → (IsBlank s → IsTrue s.is_open → StandsFor k (new_store now) [] [])
-      → (IsBlank s → IsTrue s.is_open → SameLots (lots_of None (new_holding now)) k.lots) → OpensOver (Any now) s k
-  over_any now holds lots stands new_lots = record {
+  pub over_any : (new : NewStore) → ((z : Stored) → WasFor z s → k.holds (rowed (opened_for z).tree) (records_of (opened_for z).kept))
+      → ((z : Stored) → WasFor z s → SameLots (lots_of None (opened_for z)) k.lots) → (IsBlank s → IsTrue s.is_open → StandsFor k (holding_for new).tree [] [])
+      → (IsBlank s → IsTrue s.is_open → SameLots (lots_of None (holding_for new)) k.lots) → (IsBlank s → p ≡ new.kind.profile) → OpensOver p (Any new) s k
+  over_any new holds lots stands new_lots made = record {
+    profile = profile;
     keeps = λ z was. record { held = holds z was; lots = lots z was };
     begins = λ z was. tt;
-    makes = λ blank is_open. record { stands = stands blank is_open; lots = new_lots blank is_open };
+    makes = λ blank is_open. record { profile = made blank; stands = stands blank is_open; lots = new_lots blank is_open };
   }
 
-  pub over_fresh : (now : Moment) → ((z : Stored) → WasFor z s → k.holds (rowed (begun_for z).tree) (records_of (begun_for z).kept))
-      → ((z : Stored) → WasFor z s → SameLots (lots_of None (begun_for z)) k.lots) → ((z : Stored) → WasFor z s → BeginsAfter z k)
-      → (IsBlank s → IsTrue s.is_open → StandsFor k (new_store now) [] [])
-      → (IsBlank s → IsTrue s.is_open → SameLots (lots_of None (new_holding now)) k.lots) → OpensOver (Fresh now) s k
-  over_fresh now holds lots begins stands new_lots = record {
+  pub over_fresh : (new : NewStore) → ((z : Stored) → WasFor z s → k.holds (rowed (begun_for z).tree) (records_of (begun_for z).kept))
+      → ((z : Stored) → WasFor z s → SameLots (lots_of None (begun_for z)) k.lots) → ((z : Stored) → WasFor z s → BeginsAfter p z k)
+      → (IsBlank s → IsTrue s.is_open → StandsFor k (holding_for new).tree [] [])
+      → (IsBlank s → IsTrue s.is_open → SameLots (lots_of None (holding_for new)) k.lots) → (IsBlank s → p ≡ new.kind.profile) → OpensOver p (Fresh new) s k
+  over_fresh new holds lots begins stands new_lots made = record {
+    profile = profile;
     keeps = λ z was. record { held = holds z was; lots = lots z was };
     begins = begins;
-    makes = λ blank is_open. record { stands = stands blank is_open; lots = new_lots blank is_open };
+    makes = λ blank is_open. record { profile = made blank; stands = stands blank is_open; lots = new_lots blank is_open };
   }
 
 -- ---- several claims of one result
 
-pub ok_of_3 : {X E : Type 0} (r : Result X E) (A B C Z : X → Type 0) → ((x : X) → A x → B x → C x → Z x) → IfOk r A → IfOk r B → IfOk r C → IfOk r Z
-ok_of_3 (Ok x) A B C Z f a b c = f x a b c
-ok_of_3 (Err e) A B C Z f a b c = tt
+pub ok_of_4 : {X E : Type 0} (r : Result X E) (A B C D Z : X → Type 0) → ((x : X) → A x → B x → C x → D x → Z x) → IfOk r A → IfOk r B → IfOk r C → IfOk r D
+    → IfOk r Z
+ok_of_4 (Ok x) A B C D Z f a b c d = f x a b c d
+ok_of_4 (Err e) A B C D Z f a b c d = tt
 
-pub ok_of_5 : {X E : Type 0} (r : Result X E) (A B C D F Z : X → Type 0) → ((x : X) → A x → B x → C x → D x → F x → Z x)
-    → IfOk r A → IfOk r B → IfOk r C → IfOk r D → IfOk r F → IfOk r Z
-ok_of_5 (Ok x) A B C D F Z f a b c d e = f x a b c d e
-ok_of_5 (Err e) A B C D F Z f a b c d e' = tt
+pub ok_of_7 : {X E : Type 0} (r : Result X E) (A B C D F G H Z : X → Type 0) → ((x : X) → A x → B x → C x → D x → F x → G x → H x → Z x)
+    → IfOk r A → IfOk r B → IfOk r C → IfOk r D → IfOk r F → IfOk r G → IfOk r H → IfOk r Z
+ok_of_7 (Ok x) A B C D F G H Z f a b c d e i j = f x a b c d e i j
+ok_of_7 (Err e) A B C D F G H Z f a b c d e' i j = tt

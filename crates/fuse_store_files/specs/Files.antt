@@ -3,11 +3,12 @@ use Rattle.std.specs.Prelude.{◌≡◌, ◌⊎◌}
 use Rattle.sqlite_wal.specs.Recovery.{Image}
 use Rattle.sqlite.specs.Tree.{Trees}
 use Rattle.sqlite.specs.Files.{HoldsDatabase, IsNothing, IsEmpty, AreFoundIn}
+use Rattle.fuse_init.specs.declared.profile.Profile.{Profile}
 use Rattle.fuse_tree.specs.Rows.{Rows, rowed}
-use Rattle.fuse_tree.specs.TheTree.{the_tree}
 use Rattle.fuse_keeper.specs.Stands.{Records, Standing, StandsAt}
 use Rattle.fuse_store_tables.specs.Content.{LeftAs}
 use Rattle.fuse_store_tree.specs.Store.{records_of}
+use Rattle.fuse_tree.specs.TheTree.{tree_of}
 use Rattle.fuse_store.specs.Opening.{Stored, StoredFor, opened_for}
 
 -- the files hold a database, and its trees are so
@@ -27,8 +28,8 @@ pub record TreesTell (P : Rows → Records → Type 0) (db : Trees) : Type 0 whe
   pub so : P (rowed (opened_for store).tree) (records_of (opened_for store).kept)
 
 -- the files hold a store that stands for this history, with these ids settled, from this start
-abbrev pub FilesStand : Image → Standing the_tree → Type 0
-FilesStand image at = HoldSome (TreesTell (λ x r. StandsAt the_tree (record { rows = x; records = r }) at)) image
+abbrev pub FilesStand : (p : Profile) → Image → Standing (tree_of p) → Type 0
+FilesStand p image at = HoldSome (TreesTell (λ x r. StandsAt (tree_of p) (record { rows = x; records = r }) at)) image
 
 -- there is no database yet, or an empty one
 abbrev pub HoldNothing : Image → Type 0

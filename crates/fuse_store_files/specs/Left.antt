@@ -1,5 +1,5 @@
 -- What is left of the files of a store (own profile).
-use Rattle.std.specs.Prelude.{◌≡◌, ◌⊎◌, Result, IfOk, IfErr}
+use Rattle.std.specs.Prelude.{◌≡◌, ◌⊎◌, Result, IfOk, IfErr, IsTrue}
 use Rattle.sqlite_disk.specs.declared.Disk.{Ghosts}
 use Rattle.sqlite_disk.specs.declared.Files.{Files}
 use Rattle.sqlite_wal.specs.Recovery.{Image}
@@ -11,14 +11,14 @@ use Rattle.sqlite_store.specs.FileStore.{state, view, recovers}
 use Rattle.sqlite_trees.specs.View.{IsClean}
 use Rattle.sqlite.specs.declared.file.Leftover.{Leftover}
 use Rattle.sqlite.specs.declared.file.Leftover.TheVariants as left
-use Rattle.sqlite.specs.Files.{image_of, IsCleanLeft, LeavesFiles}
-use Rattle.fuse_keeper.specs.KeeperState.{KeeperState}
-use Rattle.fuse_tree.specs.TheTree.{the_tree}
+use Rattle.sqlite.specs.Files.{image_of, over_files, IsCleanLeft, LeavesFiles}
+use Rattle.fuse_init.specs.declared.profile.Profile.{Profile}
 use Rattle.fuse_store_tables.specs.Content.{LeftAs}
 use Rattle.fuse_store_tree.specs.Holding.{HeldFor}
-use Rattle.fuse_store.specs.Creating.{new_holding}
 use Rattle.fuse_store.specs.Opening.{Stored, OpenedFor}
-use Rattle.fuse_store.specs.Starting.{BegunFor}
+use Rattle.fuse_store.specs.Starting.{BegunFor, holding_for}
+use Rattle.fuse_store.specs.declared.table_keeper.TableKeeper.{TableKeeper}
+use Rattle.fuse_store.specs.TableKeeper.{conn_of, keeper_told}
 use Rattle.fuse_store_files.specs.declared.files.Opening.{Opening}
 use Rattle.fuse_store_files.specs.declared.files.Opening.TheVariants.{Existing, Any, Fresh}
 use Rattle.fuse_store_files.specs.Files.{HoldSome, FilesHold, HoldNothing, TreesTell, AreTheirs}
@@ -37,24 +37,40 @@ LeavesClosed g P files = AreClean g files.log files.db → (image : Image) → o
 abbrev pub LeavesUnclosed : {D : Type 0} {g : Ghosts D} → (Trees → Type 0) → FileStore D g → Type 0
 LeavesUnclosed P it = (db : Trees) → recovers it db → P db
 
--- A keeper ended as this store, before its log was copied into the database file; then its files were closed, or that failed. What is
--- left holds what a crash of the keeper could leave, and is honest no longer than the keeper was.
-pub record Closes {D : Type 0} {g : Ghosts D} (k : KeeperState the_tree) (left : Result (Files D) (FileStore D g)) : Type 0 where
+-- the store of a keeper's connection
+abbrev pub own_store : {P D : Type 0} {g : Ghosts D} → TableKeeper P (FileStore D g) over_files → FileStore D g
+own_store keeper = (conn_of over_files keeper).store
+
+-- where a crash of the keeper leaves a store, these trees are one that it could leave
+abbrev pub TellsOf : {P D : Type 0} {g : Ghosts D} → Profile → TableKeeper P (FileStore D g) over_files → Trees → Type 0
+TellsOf p keeper = TreesTell (keeper_told p over_files keeper).may_leave
+
+abbrev pub LeavesWhole : {P D : Type 0} {g : Ghosts D} → Profile → TableKeeper P (FileStore D g) over_files → Type 0
+LeavesWhole p keeper = (keeper_told p over_files keeper).leaves_whole
+
+-- A keeper was closed. Its store ended as this one, before the log was copied into the database file; then its files were closed, or that
+-- failed. What a crash leaves is what a crash of the keeper could leave: of the store as the keeper had it, if the disk returned what was
+-- written until the log was to be copied, of the store that it ended as, and of what is left. Of a store that could not be closed, so it
+-- is where its trees have their numbers; in any case each database that it recovers to is one. It is honest no longer than the keeper was.
+pub record Closes {P D : Type 0} {g : Ghosts D} (p : Profile) (keeper : TableKeeper P (FileStore D g) over_files) (left : Result (Files D) (FileStore D g)) : Type 0 where
   pub ended : FileStore D g
-  pub at_end : k.leaves_whole → LeavesOf (TreesTell k.may_leave) ended
-  pub closed : k.leaves_whole → IfOk left (LeavesClosed g (TreesTell k.may_leave))
-  pub unclosed : k.leaves_whole → IfErr left (LeavesUnclosed (TreesTell k.may_leave))
-  pub honest_end : IsClean (view ended) → k.is_honest
-  pub honest_closed : IfOk left (λ files. AreClean g files.log files.db → k.is_honest)
-  pub honest_unclosed : IfErr left (λ it. IsClean (view it) → k.is_honest)
+  pub its_own : (db : Trees) → recovers ended db → recovers (own_store keeper) db
+  pub before : LeavesWhole p keeper → IsClean (view ended) → LeavesOf (TellsOf p keeper) (own_store keeper)
+  pub at_end : LeavesWhole p keeper → LeavesOf (TellsOf p keeper) ended
+  pub closed : LeavesWhole p keeper → IfOk left (LeavesClosed g (TellsOf p keeper))
+  pub unclosed : LeavesWhole p keeper → IfErr left (LeavesUnclosed (TellsOf p keeper))
+  pub uncopied : LeavesWhole p keeper → IfErr left (λ it. IsTrue (view it).is_numbered → LeavesOf (TellsOf p keeper) it)
+  pub honest_end : IsClean (view ended) → (keeper_told p over_files keeper).is_honest
+  pub honest_closed : IfOk left (λ files. AreClean g files.log files.db → (keeper_told p over_files keeper).is_honest)
+  pub honest_unclosed : IfErr left (λ it. IsClean (view it) → (keeper_told p over_files keeper).is_honest)
 
 -- ---- after an opening that failed
 
 -- these trees are those of the store that the opening makes of what the files hold
 abbrev pub IsMadeBy : Opening → Image → Trees → Type 0
 IsMadeBy Existing image db = (z : Stored) → FilesHold image z → LeftAs (OpenedFor z) db
-IsMadeBy (Any now) image db = ((z : Stored) → FilesHold image z → LeftAs (OpenedFor z) db) × (HoldNothing image → LeftAs (HeldFor (new_holding now)) db)
-IsMadeBy (Fresh now) image db = ((z : Stored) → FilesHold image z → LeftAs (BegunFor z) db) × (HoldNothing image → LeftAs (HeldFor (new_holding now)) db)
+IsMadeBy (Any new) image db = ((z : Stored) → FilesHold image z → LeftAs (OpenedFor z) db) × (HoldNothing image → LeftAs (HeldFor (holding_for new)) db)
+IsMadeBy (Fresh new) image db = ((z : Stored) → FilesHold image z → LeftAs (BegunFor z) db) × (HoldNothing image → LeftAs (HeldFor (holding_for new)) db)
 
 module _ {D : Type 0} {g : Ghosts D} where
   -- the files held just this, were not opened, and what is left of them recovers to what they recover to
@@ -64,14 +80,20 @@ module _ {D : Type 0} {g : Ghosts D} where
     pub alone : (i : Image) → outcomes g files.log files.db i → i ≡ image
     pub kept : IsCleanLeft it → LeavesFiles files it
 
+  -- Each database that the store recovers to is of this kind. Where the files held a database, and the store's trees have their numbers,
+  -- what a crash leaves of it holds one.
+  pub record LeavesStore (P : Trees → Type 0) (image : Image) (it : FileStore D g) : Type 0 where
+    pub each : LeavesUnclosed P it
+    pub holds : IsTrue (view it).is_numbered → HoldSome (λ db. Unit {0}) image → LeavesOf P it
+
   -- so it is, or a crash of the store leaves what an open of the files finds
   abbrev pub LeavesAsFound : Image → Leftover D g → Type 0
   LeavesAsFound image (left.Files it) = StaysAsFound image (left.Files it)
   LeavesAsFound image (left.Unopened it) = StaysAsFound image (left.Unopened it)
-  LeavesAsFound image (left.Store it) = (db : Trees) → recovers it db → AreTheirs image db
+  LeavesAsFound image (left.Store it) = LeavesStore (AreTheirs image) image it
 
   -- the same, or what the opening makes
   abbrev pub LeavesOpening : Opening → Image → Leftover D g → Type 0
   LeavesOpening how image (left.Files it) = StaysAsFound image (left.Files it)
   LeavesOpening how image (left.Unopened it) = StaysAsFound image (left.Unopened it)
-  LeavesOpening how image (left.Store it) = (db : Trees) → recovers it db → AreTheirs image db ⊎ IsMadeBy how image db
+  LeavesOpening how image (left.Store it) = LeavesStore (λ db. AreTheirs image db ⊎ IsMadeBy how image db) image it

@@ -10,30 +10,31 @@ use Rattle.fuse_keeper.specs.declared.fault.StoreFault.{StoreFault}
 use Rattle.fuse_keeper.specs.KeeperState.{KeeperState}
 use Rattle.fuse_store_tables.specs.Faults.{IsOutside}
 use Rattle.fuse_store.specs.declared.table_keeper.TableKeeper.{TableKeeper}
+use Rattle.fuse_tree.specs.TheTree.{tree_of}
 use Rattle.fuse_store.specs.Opening.{Stored}
 use Rattle.fuse_store.specs.TableKeeper.{conn_of, keeper_told}
-use Rattle.fuse_tree.specs.TheTree.{the_tree}
+use Rattle.fuse_init.specs.declared.profile.Profile.{Profile}
 use Rattle.fuse_store_files.specs.declared.crash_keeper.CrashKeeper.{CrashKeeper}
 use Rattle.fuse_store_files.specs.declared.files.Opening.TheVariants.{Existing}
 use Rattle.fuse_store_files.specs.Files.{FilesHold}
 use Rattle.fuse_store_files.specs.Starting.{KeepsStore}
 use Rattle.fuse_store_files.specs.Crashing.{Crashes}
 
-abbrev pub inner_of : {S : Type 0} {g : Ghosts S} → CrashKeeper S g → TableKeeper S g
+abbrev pub inner_of : {P S : Type 0} {g : Ghosts S} → CrashKeeper P S g → TableKeeper P S g
 inner_of k = k.inner
 
-abbrev pub crash_told : {S : Type 0} (g : Ghosts S) → CrashKeeper S g → KeeperState the_tree
-crash_told g k = keeper_told g (inner_of k)
+abbrev pub crash_told : {P S : Type 0} (p : Profile) (g : Ghosts S) → CrashKeeper P S g → KeeperState (tree_of p)
+crash_told p g k = keeper_told p g (inner_of k)
 
-module _ {D : Type 0} {g : disk.Ghosts D} (crashed : D → D → Type 0) where
+module _ {P D : Type 0} {g : disk.Ghosts D} (p : Profile) (crashed : D → D → Type 0) where
   -- its files crashed, and the new keeper holds what was left in them
-  pub record ReopensCrashed (old new : CrashKeeper (FileStore D g) over_files) : Type 0 where
+  pub record ReopensCrashed (old new : CrashKeeper P (FileStore D g) over_files) : Type 0 where
     pub left : Files D
     pub files : Crashes crashed (conn_of over_files (inner_of old)) left
-    pub keeps : (crash_told over_files new).is_honest → (z : Stored) → FilesHold (image_of g left) z → KeepsStore Existing z (crash_told over_files new)
+    pub keeps : (crash_told p over_files new).is_honest → (z : Stored) → FilesHold (image_of g left) z → KeepsStore p Existing z (crash_told p over_files new)
 
   -- It is not opened again, after its files crashed. Where a crash of it leaves a store, the fault says nothing of that.
-  pub record CrashRefuses (k : CrashKeeper (FileStore D g) over_files) (f : StoreFault) (rest : Leftover D g) : Type 0 where
+  pub record CrashRefuses (k : CrashKeeper P (FileStore D g) over_files) (f : StoreFault) (rest : Leftover D g) : Type 0 where
     pub left : Files D
     pub files : Crashes crashed (conn_of over_files (inner_of k)) left
-    pub fault : AreClean g left.log left.db → (crash_told over_files k).leaves_whole → IsCleanLeft rest → IsOutside f
+    pub fault : AreClean g left.log left.db → (crash_told p over_files k).leaves_whole → IsCleanLeft rest → IsOutside f

@@ -3,10 +3,11 @@ ghost use Rattle.std.specs.Prelude.{IfOk, IfErr};
 ghost use Rattle.sqlite_wal.specs.Reads.{AreClean};
 ghost use Rattle.sqlite.specs.Files.{over_files};
 ghost use Rattle.sqlite.specs.Closing.{IsCopied};
-ghost use Rattle.fuse_store.specs.TableKeeper.{keeper_told, conn_of};
+ghost use Rattle.fuse_store.specs.TableKeeper.{conn_of};
 ghost use Rattle.fuse_store_files.specs.Left.{Closes};
 ghost use Rattle.fuse_store_files.specs.inner.Connections.{Ends, IsClosedAs, IsCopiedTo, IsUncopied};
 
+use fuse_init::Profiled;
 use fuse_store::TableKeeper;
 use sqlite::{Connection, FileStore, Files};
 use sqlite_disk::Disk;
@@ -32,10 +33,10 @@ pub(crate) fn close_connection<D: Disk + Drop>(
 
 /// Closes the files of a keeper: rolls back, copies the log into the database file, and gives both
 /// back. Where the copying fails, the store is given back; the log then holds what is committed.
-pub fn close_store<D: Disk + Drop>(
-    keeper: TableKeeper<FileStore<D>>,
+pub fn close_store<P: Profiled, D: Disk + Drop>(
+    keeper: TableKeeper<P, FileStore<D>>,
 ) -> Result<Files<D>, FileStore<D>>
-    ensures closes { Closes (keeper_told over_files keeper) result }
+    ensures closes { Closes P.PROFILE keeper result }
     // What was committed last is in the database file alone.
     ensures copied { IfOk result (λ files. AreClean D.Disk files.log files.db
         → IsCopied (conn_of over_files keeper) files) }

@@ -4,7 +4,7 @@ ghost use Rattle.fuse_store_files.specs.Restarting.{inner_of};
 
 use crate::crashing::{Crashing, crash_files};
 use fuse_answer::Answer;
-use fuse_init::Settings;
+use fuse_init::{Profiled, Settings};
 use fuse_keeper::{Done, Keeper, Restart, StoreCounts, StoreFault};
 use fuse_request::Request;
 use fuse_store::{TableKeeper, opening_fault};
@@ -15,15 +15,15 @@ use std::alloc::Global;
 
 /// A keeper over tables. Over files of disks that crash, its restart lets both crash.
 #[derive(Drop)]
-pub struct CrashKeeper<S: Alter> {
+pub struct CrashKeeper<P, S: Alter> {
     alloc: Global,
-    inner: TableKeeper<S>,
+    inner: TableKeeper<P, S>,
     options: Options,
 }
 
-impl<S: Alter> CrashKeeper<S> {
+impl<P: Profiled, S: Alter> CrashKeeper<P, S> {
     /// Over this keeper. Its files are opened again with these options.
-    pub fn new(alloc: Global, inner: TableKeeper<S>, options: Options) -> CrashKeeper<S>
+    pub fn new(alloc: Global, inner: TableKeeper<P, S>, options: Options) -> CrashKeeper<P, S>
         ensures { inner_of result ≡ inner }
     {
         CrashKeeper {
@@ -34,29 +34,28 @@ impl<S: Alter> CrashKeeper<S> {
     }
 
     /// The keeper that it stands on.
-    pub fn into_inner(self) -> TableKeeper<S>
+    pub fn into_inner(self) -> TableKeeper<P, S>
         ensures { result ≡ inner_of self }
     {
         self.inner
     }
 }
 
-impl<S: Alter + Drop> Keeper for CrashKeeper<S> {
-    ghost use Rattle.fuse_tree.specs.TheTree.{the_tree};
+impl<P: Profiled, S: Alter + Drop> Keeper for CrashKeeper<P, S> {
+    ghost use Rattle.fuse_tree.specs.TheTree.{tree_of};
     ghost use Rattle.fuse_store.specs.inner.Laws.{one_held};
     ghost use Rattle.fuse_store_files.specs.Restarting.{crash_told};
 
-    ghost model = { the_tree };
+    ghost model = { tree_of P.PROFILE };
 
-    ghost told = { crash_told S.Store };
+    ghost told = { crash_told P.PROFILE S.Store };
 
     ghost became = { λ a b n. Unit {0} };
 
     ghost performed = { λ a b list. Unit {0} };
 
-    /// The tree serves the opcodes of the profile alone.
-    fn serves(_opcode: u32) -> bool {
-        false
+    fn serves(opcode: u32) -> bool {
+        TableKeeper::<P, S>::serves(opcode)
     }
 
     fn perform(
@@ -88,7 +87,7 @@ impl<S: Alter + Drop> Keeper for CrashKeeper<S> {
     }
 
     fn model_is_sound() {
-        TableKeeper::<S>::model_is_sound();
+        TableKeeper::<P, S>::model_is_sound();
     }
 
     ghost sound = { λ k. record {
@@ -103,7 +102,7 @@ impl<S: Alter + Drop> Keeper for CrashKeeper<S> {
     ghost log = { record { none = λ k. tt; onward = λ a b c before after one two. tt } };
 }
 
-impl<D: Crashing + Drop> Restart for CrashKeeper<FileStore<D>> {
+impl<P: Profiled, D: Crashing + Drop> Restart for CrashKeeper<P, FileStore<D>> {
     ghost use Rattle.std.specs.Prelude.{IfOk, IfErr};
     ghost use Rattle.fuse_keeper.specs.KeeperState.{Reopened};
     ghost use Rattle.sqlite.specs.Files.{over_files};
@@ -111,16 +110,16 @@ impl<D: Crashing + Drop> Restart for CrashKeeper<FileStore<D>> {
 
     type Rest = Leftover<D>;
 
-    ghost refuses = { CrashRefuses D.Crashing.crashed };
+    ghost refuses = { CrashRefuses P.PROFILE D.Crashing.crashed };
 
     /// Lets both files crash, and opens what is left of them.
-    fn restart(self) -> Result<CrashKeeper<FileStore<D>>, (StoreFault, Leftover<D>)>
-        ensures reopened { IfOk result (λ k. Reopened (crash_told over_files self) (crash_told over_files k)) }
-        ensures refused { IfErr result (λ e. CrashRefuses D.Crashing.crashed self e.0 e.1) }
+    fn restart(self) -> Result<CrashKeeper<P, FileStore<D>>, (StoreFault, Leftover<D>)>
+        ensures reopened { IfOk result (λ k. Reopened (crash_told P.PROFILE over_files self) (crash_told P.PROFILE over_files k)) }
+        ensures refused { IfErr result (λ e. CrashRefuses P.PROFILE D.Crashing.crashed self e.0 e.1) }
         ensures once { IfOk result (λ k. Unit {0}) }
         ensures unasked { IfOk result (λ k. Unit {0}) }
         // Nothing but a crash of each file shows this.
-        ensures crashed { IfOk result (ReopensCrashed D.Crashing.crashed self) }
+        ensures crashed { IfOk result (ReopensCrashed P.PROFILE D.Crashing.crashed self) }
     {
         lots_are_read();
         let CrashKeeper {

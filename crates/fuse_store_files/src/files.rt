@@ -7,21 +7,23 @@ ghost use Rattle.sqlite.specs.Files.{file_state, over_files, IsOpened, IsCleanLe
 ghost use Rattle.sqlite.specs.Start.{FindsIn};
 ghost use Rattle.sqlite_wal.specs.Files.{image_at};
 ghost use Rattle.fuse_keeper.specs.KeeperState.{IsFirm};
-ghost use Rattle.fuse_keeper.specs.declared.fault.StoreFault.TheVariants.{NotAStore};
+ghost use Rattle.fuse_keeper.specs.declared.fault.StoreFault.TheVariants.{NotAStore, Sql};
 ghost use Rattle.fuse_store_tables.specs.Content.{Content};
 ghost use Rattle.fuse_store_tables.specs.Faults.{IsOutside};
 ghost use Rattle.fuse_store_tables.specs.Moves.{RestsAs};
 ghost use Rattle.fuse_store_tables.specs.Saying.{IsRefusal};
-ghost use Rattle.fuse_store.specs.Opening.{Stored};
-ghost use Rattle.fuse_store.specs.TableKeeper.{keeper_told, conn_of, SharesMedium};
+ghost use Rattle.fuse_tree.specs.State.{profile_of};
+ghost use Rattle.fuse_store.specs.Opening.{Stored, opened_for};
+ghost use Rattle.fuse_store.specs.TableKeeper.{SharesMedium};
+ghost use Rattle.fuse_store.specs.StoreKeeper.{own_profile, own_conn, store_told};
+ghost use Rattle.fuse_store_files.specs.declared.files.Opening.TheVariants.{Existing};
 ghost use Rattle.fuse_store_files.specs.Files.{FilesHold};
 ghost use Rattle.fuse_store_files.specs.Starting.{path_of, OpensAs, KeepsStore, FilesHoldRows, RowsKept};
 ghost use Rattle.fuse_store_files.specs.Left.{LeavesAsFound, LeavesOpening};
 ghost use Rattle.fuse_store_files.specs.inner.Opened.{IsNotOpened};
 
 use crate::opening::open_as;
-use fuse_store::{StoreFault, TableKeeper, opening_fault};
-use fuse_wire::Moment;
+use fuse_store::{NewStore, StoreFault, StoreKeeper, opening_fault};
 use sqlite::{Connection, Error, FileFrom, FileStore, Leftover, Start};
 use std::fs;
 
@@ -30,10 +32,10 @@ use std::fs;
 pub enum Opening {
     /// A store that is there.
     Existing,
-    /// One that is there or, where nothing is, a new one, made at this moment.
-    Any(Moment),
+    /// One that is there or, where nothing is, this new one.
+    Any(NewStore),
     /// The same, and a mount of one that is there begins.
-    Fresh(Moment),
+    Fresh(NewStore),
 }
 
 /// The files at a path: a database file and its log. What takes this value opens them.
@@ -84,17 +86,21 @@ impl<'r, 'p, S: Start> StoreFiles<'r, 'p, S> {
 pub fn open_store<S: Start>(
     files: StoreFiles<'_, '_, S>,
     how: Opening,
-) -> Result<TableKeeper<FileStore<FileFrom<S>>>, (StoreFault, Option<Leftover<FileFrom<S>>>)>
-    ensures memory { path_of files.entry ≡ codes ":memory:" → IsErrAnd result (λ e. Unit {0}) }
+) -> Result<StoreKeeper<FileStore<FileFrom<S>>>, (StoreFault, Option<Leftover<FileFrom<S>>>)>
+    ensures memory { path_of files.entry ≡ codes ":memory:" → IsErrAnd result
+        (λ e. (e.0 ≡ Sql (SqliteFailure CannotOpen)) ⊎ ((how ≡ Existing) × (e.0 ≡ NotAStore))) }
     // What the files held is what the keeper stands for.
-    ensures opened { IfOk result (λ k. (keeper_told over_files k).is_honest
-        → OpensAs how (image_at S.Start) (keeper_told over_files k)) }
-    ensures holds { IfOk result (λ k. (keeper_told over_files k).is_honest → (z : Stored)
-        → FilesHold (image_at S.Start) z → KeepsStore how z (keeper_told over_files k)) }
-    ensures firm { IfOk result (λ k. (keeper_told over_files k).is_honest
-        → IsFirm (keeper_told over_files k)) }
-    ensures going { IfOk result (λ k. (keeper_told over_files k).has_failed ≡ false) }
-    ensures medium { IfOk result (SharesMedium over_files) }
+    ensures opened { IfOk result (λ k. (store_told k).is_honest
+        → OpensAs (own_profile k) how (image_at S.Start) (store_told k)) }
+    // It is of the profile of the store.
+    ensures profile { IfOk result (λ k. (store_told k).is_honest → (z : Stored)
+        → FilesHold (image_at S.Start) z → profile_of (opened_for z).tree ≡ own_profile k) }
+    ensures holds { IfOk result (λ k. (store_told k).is_honest → (z : Stored)
+        → FilesHold (image_at S.Start) z → KeepsStore (own_profile k) how z (store_told k)) }
+    ensures firm { IfOk result (λ k. (store_told k).is_honest
+        → IsFirm (store_told k)) }
+    ensures going { IfOk result (λ k. (store_told k).has_failed ≡ false) }
+    ensures medium { IfOk result (λ k. SharesMedium over_files (own_conn k) (store_told k)) }
     // A crash leaves what was found, or what the opening makes of it.
     ensures crash { IfErr result (λ e. IfSome e.1 (LeavesOpening how (image_at S.Start))) }
     // The fault says nothing of a sound store.
@@ -103,11 +109,12 @@ pub fn open_store<S: Start>(
     // A store that is refused stays as it is.
     ensures untouched { IfErr result (λ e. IsRefusal e.0
         → IfSome e.1 (LeavesAsFound (image_at S.Start))) }
-    ensures unopened { IfErr result (λ e. e.1 ≡ None → IsOutside e.0 ⊎ (e.0 ≡ NotAStore)) }
+    ensures unopened { IfErr result (λ e. e.1 ≡ None
+        → IsOutside e.0 ⊎ ((how ≡ Existing) × (e.0 ≡ NotAStore))) }
     // All rows are kept, those too that no tree has; the begin of a mount deletes its own.
-    ensures rows { IfOk result (λ k. (keeper_told over_files k).is_honest → (c : Content)
+    ensures rows { IfOk result (λ k. (store_told k).is_honest → (c : Content)
         → FilesHoldRows (image_at S.Start) c
-        → RestsAs (RowsKept how c) (file_state (conn_of over_files k))) }
+        → RestsAs (RowsKept how c) (file_state (own_conn k))) }
 {
     if matches!(how, Opening::Existing) && files.are_missing() {
         return Err((StoreFault::NotAStore, None));

@@ -9,12 +9,13 @@ ghost use Rattle.fuse_store_tables.specs.Moves.{RestsAs, LeavesAlone};
 ghost use Rattle.fuse_store_tables.specs.Opening.{IsStored};
 ghost use Rattle.fuse_store_tables.specs.Saying.{IsRefusal};
 ghost use Rattle.fuse_store.specs.Opening.{Stored, WasFor};
-ghost use Rattle.fuse_store.specs.TableKeeper.{keeper_told, conn_of, SharesMedium};
+ghost use Rattle.fuse_store.specs.TableKeeper.{SharesMedium};
+ghost use Rattle.fuse_store.specs.StoreKeeper.{own_profile, own_conn, store_told};
 ghost use Rattle.fuse_store_files.specs.Starting.{RowsKept};
 ghost use Rattle.fuse_store_files.specs.inner.Opened.{OpensOver, LeavesOver};
 
 use crate::files::Opening;
-use fuse_store::{StoreFault, TableKeeper, open_fresh, open_or_create};
+use fuse_store::{StoreFault, StoreKeeper, open_fresh, open_or_create};
 use sqlite::{Alter, Connection};
 use std::alloc::Global;
 
@@ -23,28 +24,28 @@ pub(crate) fn open_as<S: Alter>(
     alloc: Global,
     conn: Connection<S>,
     how: Opening,
-) -> Result<TableKeeper<S>, (StoreFault, Connection<S>)>
-    ensures opens { IfOk result (λ k. (keeper_told S.Store k).is_honest
-        → OpensOver how (state S.Store conn) (keeper_told S.Store k)) }
-    ensures honest { IfOk result (λ k. (keeper_told S.Store k).is_honest
+) -> Result<StoreKeeper<S>, (StoreFault, Connection<S>)>
+    ensures opens { IfOk result (λ k. (store_told k).is_honest
+        → OpensOver (own_profile k) how (state S.Store conn) (store_told k)) }
+    ensures honest { IfOk result (λ k. (store_told k).is_honest
         → HasCleanDisk (state S.Store conn)) }
-    ensures firm { IfOk result (λ k. (keeper_told S.Store k).is_honest
-        → IsFirm (keeper_told S.Store k)) }
-    ensures going { IfOk result (λ k. (keeper_told S.Store k).has_failed ≡ false) }
-    ensures medium { IfOk result (SharesMedium S.Store) }
+    ensures firm { IfOk result (λ k. (store_told k).is_honest
+        → IsFirm (store_told k)) }
+    ensures going { IfOk result (λ k. (store_told k).has_failed ≡ false) }
+    ensures medium { IfOk result (λ k. SharesMedium S.Store (own_conn k) (store_told k)) }
     ensures crash { IfErr result (λ r. Survives (state S.Store conn) (state S.Store r.1)
         (LeavesOver how (state S.Store conn))) }
     ensures fault { IfErr result (λ r. HasCleanDisk (state S.Store r.1) → (z : Stored)
         → WasFor z (state S.Store conn) → IsOutside r.0) }
     ensures refused { IfErr result (λ r. IsRefusal r.0
         → LeavesAlone (state S.Store conn) (state S.Store r.1)) }
-    ensures rows { IfOk result (λ k. (keeper_told S.Store k).is_honest → (c : Content)
+    ensures rows { IfOk result (λ k. (store_told k).is_honest → (c : Content)
         → RestsAs (IsStored c) (state S.Store conn)
-        → RestsAs (RowsKept how c) (state S.Store (conn_of S.Store k))) }
+        → RestsAs (RowsKept how c) (state S.Store (own_conn k))) }
 {
     match how {
-        Opening::Existing => TableKeeper::open(alloc, conn),
-        Opening::Any(now) => open_or_create(alloc, conn, now),
-        Opening::Fresh(now) => open_fresh(alloc, conn, now),
+        Opening::Existing => StoreKeeper::open(alloc, conn),
+        Opening::Any(new) => open_or_create(alloc, conn, new),
+        Opening::Fresh(new) => open_fresh(alloc, conn, new),
     }
 }

@@ -2,7 +2,7 @@
 use Rattle.std.proofs.Common.{◌≡◌, Ok, Err, Result, IfErr, IsErrAnd, IsTrue, Bool, true, false, cond, sym, ap, subst, ◌∙◌, inl, inr}
 use Rattle.std.specs.Result.{IsErr}
 use Rattle.sqlite.specs.Tree.{Trees}
-use Rattle.sqlite.specs.State.{State, HasCleanDisk, Survives}
+use Rattle.sqlite.specs.State.{State, HasCleanDisk, Survives, KeepsCommit}
 use Rattle.sqlite.proofs.StateLemmas.{survives_weaker, survives_then}
 use Rattle.sqlite.proofs.InsideLemmas.{keeps_then}
 use Rattle.sqlite.specs.declared.error.Error.{Error}
@@ -119,6 +119,14 @@ undone_alone a b d p u = record {
       (kept.was_open back.0, back.2 ∙ kept.committed back.0, back.1 ∙ sym back.2);
 }
 
+-- what was committed is seen again
+pub undone_kept : (a b d : State) → (HasCleanDisk b → KeepsCommit a b) → Undoes b d → HasCleanDisk d → IsTrue d.is_open
+    → (d.now ≡ a.committed) × (d.committed ≡ a.committed)
+undone_kept a b d keeps u clean is_open =
+    let back = u.undone clean is_open in
+    let kept = (keeps (earlier b d _ u.survives clean)).committed back.0 in
+    (back.1 ∙ kept, back.2 ∙ kept)
+
 -- ---- faults that refuse nothing
 
 unrefusing : (e : Error) → ¬ IsRefusal (fault_of e)
@@ -145,3 +153,9 @@ outside_err R e (Err f) same = λ c at. subst IsOutside (sym same) (outside e)
 pub on_refusal : {X : Type 0} (a b : State) (r : Result X StoreFault) → CommitsNothing a b → IfErr r (λ f. IsRefusal f → CommitsNothing a b)
 on_refusal a b (Ok x) p = tt
 on_refusal a b (Err f) p = λ refused. p
+
+-- after a call that committed nothing
+pub refused_then : {X : Type 0} (a b d : State) (r : Result X StoreFault) → CommitsNothing a b → IfErr r (λ f. IsRefusal f → CommitsNothing b d)
+    → IfErr r (λ f. IsRefusal f → CommitsNothing a d)
+refused_then a b d (Ok x) p q = tt
+refused_then a b d (Err f) p q = λ refused. commits_then a b d p (q refused)

@@ -13,6 +13,7 @@ use Rattle.sqlite.specs.Listing.{understood}
 use Rattle.sqlite.specs.State.{State, HasCleanDisk, Survives, KeepsCommit, Executes, ExecutesIn, CommitsBy, IsUnchanged, IsRolledBack, Fails, IsNotRun}
 use Rattle.sqlite.specs.State.{RunsCommand, shows_rows, MayCommit, MayWrite, MayChange, IsMisplaced, IsNoStatement, text_of}
 use Rattle.sqlite.specs.Clock.{timed}
+use Rattle.sqlite.specs.Calls.{IsWrite}
 use Rattle.sqlite_resolve.specs.declared.compiled.Compiled.{Compiled}
 use Rattle.sqlite_resolve.specs.declared.error.CompileError.{CompileError}
 use Rattle.sqlite_schema.specs.declared.command.Returning.{Returning}
@@ -27,11 +28,11 @@ begin_text = codes "BEGIN"
 abbrev pub commit_text : List ℕ
 commit_text = codes "COMMIT"
 
-begin_is : (s : Schema) → command_of (understood s begin_text) ≡ Begin
+pub begin_is : (s : Schema) → command_of (understood s begin_text) ≡ Begin
 unfolding understood everything
 begin_is s = refl
 
-begin_plain : (s : Schema) → IsPlain (understood s begin_text)
+pub begin_plain : (s : Schema) → IsPlain (understood s begin_text)
 unfolding understood everything
 begin_plain s = (refl, refl)
 
@@ -95,7 +96,7 @@ commits_ok old new n h =
     let shown = ran.1 in
     (shown.is_open, shown.mode, shown.now_is, shown.committed_is ∙ sym shown.now_is)
 
-command_from : (sql : List ℕ) (s : State) (c : _) (command : Command) → understood s.now.schema sql ≡ Ok c → command_of (understood s.now.schema sql) ≡ command
+pub command_from : (sql : List ℕ) (s : State) (c : _) (command : Command) → understood s.now.schema sql ≡ Ok c → command_of (understood s.now.schema sql) ≡ command
     → c.command ≡ command
 command_from sql s c command is known = sym (ap command_of is) ∙ known
 
@@ -180,7 +181,7 @@ rollback_plain : (s : Schema) → IsPlain (understood s rollback_text)
 unfolding understood everything
 rollback_plain s = (refl, refl)
 
-abbrev IsWhole : List ℕ → Result Compiled CompileError → Type 0
+abbrev pub IsWhole : List ℕ → Result Compiled CompileError → Type 0
 IsWhole sql (Ok c) = (length sql ≤ c.tail) × (c.names ≡ [])
 IsWhole sql (Err e) = ⊥
 
@@ -194,11 +195,13 @@ rollback_commits_none s db h =
     let is = command_from rollback_text s h.0 Rollback h.1.is (rollback_is _) in
     rollback_none s h.0.returning (text_of rollback_text h.0) (timed [] h.0.formats h.1.now) db (rw is at h.2)
 
-never_unread : (s : State) (e : Error) → ¬ IsNoStatement s rollback_text [] e
-never_unread s e (inl bad) = subst (IsWhole rollback_text) bad.1 (rollback_whole s.now.schema)
-never_unread s e (inr (c, is, inl (more, same))) = more (subst (IsWhole rollback_text) is (rollback_whole s.now.schema)).0
-never_unread s e (inr (c, is, inr (inl (wrong, same)))) = wrong (sym (ap length (subst (IsWhole rollback_text) is (rollback_whole s.now.schema)).1))
-never_unread s e (inr (c, is, inr (inr (late, same)))) = late (subst IsPlain is (rollback_plain s.now.schema)).1
+-- a whole text without parameters is a statement over every schema
+pub never_unread : (sql : List ℕ) → ((s : Schema) → IsWhole sql (understood s sql)) → ((s : Schema) → IsPlain (understood s sql)) → (s : State) (e : Error)
+    → ¬ IsNoStatement s sql [] e
+never_unread sql whole plain s e (inl bad) = subst (IsWhole sql) bad.1 (whole s.now.schema)
+never_unread sql whole plain s e (inr (c, is, inl (more, same))) = more (subst (IsWhole sql) is (whole s.now.schema)).0
+never_unread sql whole plain s e (inr (c, is, inr (inl (wrong, same)))) = wrong (sym (ap length (subst (IsWhole sql) is (whole s.now.schema)).1))
+never_unread sql whole plain s e (inr (c, is, inr (inr (late, same)))) = late (subst IsPlain is (plain s.now.schema)).1
 
 misplaced_never : (s : State) (e : Error) → s.in_transaction ≡ true → IsMisplaced s Rollback e → ⊥
 misplaced_never s e inside (inl (is, inl (same, at))) = absurd cc
@@ -206,20 +209,21 @@ misplaced_never s e inside (inl (is, inr (both, out))) = let no = sym inside ∙
 misplaced_never s e inside (inr (is, name, inl same, at)) = absurd cc
 misplaced_never s e inside (inr (is, name, inr same, at)) = absurd cc
 
-may_change_never : (c : Compiled) → c.command ≡ Rollback → c.returning ≡ None → MayChange c → ⊥
-may_change_never c is none (inl writes) = rw is at writes
-may_change_never c is none (inr some) = let it = rw none at some in absurd cc
+-- a command that is no write changes nothing
+pub changes_never : (command : Command) → (IsWrite command → ⊥) → (c : Compiled) → c.command ≡ command → c.returning ≡ None → MayChange c → ⊥
+changes_never command never c is none (inl writes) = never (subst IsWrite is writes)
+changes_never command never c is none (inr some) = let it = rw none at some in absurd cc
 
 command_back : (old new : State) (e : Error) (c : Compiled) (text : List ℕ) (params : Row) → old.in_transaction ≡ true → c.command ≡ Rollback
     → c.returning ≡ None → RunsCommand old new text c params (Err e) → IsRolledBack old new
 command_back old new e c text params inside is none (inl (inl misplaced, same)) = absurd (misplaced_never old e inside (rw is at misplaced))
-command_back old new e c text params inside is none (inl (inr (may, does), same)) = absurd (may_change_never c is none may)
+command_back old new e c text params inside is none (inl (inr (may, does), same)) = absurd (changes_never Rollback (λ writes. writes) c is none may)
 command_back old new e c text params inside is none (inr fails) = fails.3
 
 rolls_back : (old new : State) (r : Result ℕ Error) → old.in_transaction ≡ true → Executes rollback_text [] old new r → IsRolledBack old new
 unfolding ExecutesIn IsNotRun
 rolls_back old new (Ok n) inside h = (runs_as rollback_text [] old new old.now.schema refl Rollback (rollback_is _) (rollback_plain _) n h).1
-rolls_back old new (Err e) inside (inl (inl bad)) = absurd (never_unread old e bad.0)
+rolls_back old new (Err e) inside (inl (inl bad)) = absurd (never_unread rollback_text rollback_whole rollback_plain old e bad.0)
 rolls_back old new (Err e) inside (inl (inr fails)) = fails.3
 rolls_back old new (Err e) inside (inr (c, it, ran)) =
     let is = command_from rollback_text old c Rollback it.is (rollback_is _) in

@@ -2,6 +2,8 @@
 use Rattle.std.proofs.Common.{negsuc, ◌≡◌, ℕ, pos, List, [], ◌∷◌, map, filter, codes, true, false, ◌&&◌, Some, None, Ok, Err}
 use Rattle.std.proofs.Common.{Result, IfOk, IfErr, refl, ap, subst, ◌∙◌}
 use Rattle.std.specs.List.{list_all}
+use Rattle.std.specs.List.Sorted.{IsPermutation}
+use Rattle.std.specs.Option.{option_to_list}
 use Rattle.std.specs.Ordering.{is_eq}
 use Rattle.sqlite.specs.declared.types.Value.TheVariants.{Null, Int}
 use Rattle.sqlite.specs.Order.{Row}
@@ -20,15 +22,15 @@ use Rattle.sqlite.specs.Listing.{understood, reads_listing}
 use Rattle.sqlite.specs.State.{State, HasCleanDisk, Survives, CommitsBy, Writes, Shown, FailsToQuery, CommitsShowing}
 use Rattle.sqlite.proofs.Callers.{IsPlain, command_of, statement_of}
 use Rattle.fuse_store_tables.specs.Layout.{meta, store_schema}
-use Rattle.fuse_store_tables.specs.Content.{Content, Counter, Holds, stored, has_by, counter_key, counter_row, shown_counter, valued}
+use Rattle.fuse_store_tables.specs.Content.{Content, Counter, Holds, stored, has_by, at_by, counter_key, counter_row, shown_counter, valued}
 use Rattle.fuse_store_tables.specs.Content.{set_counter}
 use Rattle.fuse_store_tables.specs.Moves.{Inside, Rests, Makes, Serves}
 use Rattle.fuse_store_tables.specs.inner.Performing.{Ran}
 use Rattle.fuse_store_tables.proofs.Writing.{makes}
 use Rattle.fuse_store_tables.proofs.Tables.{wrote, only_counters}
-use Rattle.fuse_store_tables.proofs.Keyed.{row_cmp_nat}
+use Rattle.fuse_store_tables.proofs.Keyed.{row_cmp_nat, found_rows}
 use Rattle.fuse_store_tables.proofs.RowLemmas.{cast_int, cast_null}
-use Rattle.fuse_store_tables.proofs.Reading.{looks, read_held, truth_of}
+use Rattle.fuse_store_tables.proofs.Reading.{plain_query, answered, looks, read, read_held, only, truth_of}
 use Rattle.fuse_store_tables.proofs.Resting.{peeks}
 use Rattle.fuse_store_tables.proofs.Updating.{changing, changes}
 use Rattle.fuse_store_tables.proofs.Ordered.{ordered_query, answered_in_order, rises_from}
@@ -91,6 +93,46 @@ pub peek_finds : {X : Type 0} (items : X → List Row) (old new : State) (r : Re
     → HasCleanDisk new → IfOk r (λ x. (c : Content) → Rests c old → items x ≡ map shown_counter c.counters)
 peek_finds items old new (Ok x) ok clean = λ c at. finds c old new (items x) at.holds (ok clean)
 peek_finds items old new (Err e) ok clean = tt
+
+-- ---- one of them
+
+abbrev pub one_text : List ℕ
+one_text = codes "SELECT v FROM meta WHERE k = ?1"
+
+one_is : command_of (understood store_schema one_text) ≡ Select (record { lets = []; body = plain_query 0 key_terms (col 1 2 ∷ []) }) (codes "v" ∷ [])
+unfolding understood everything
+one_is = refl
+
+one_plain : IsPlain (understood store_schema one_text)
+unfolding understood everything
+one_plain = (refl, refl)
+
+one_unlisted : reads_listing store_schema one_text ≡ false
+unfolding understood everything
+one_unlisted = refl
+
+one_found : (k : ℕ) (c : Content) (old new : State) (rows : List Row) → Inside c old → Shown one_text (Int (pos k) ∷ []) old new rows
+    → rows ≡ map shown_counter (option_to_list (at_by counter_key k c.counters))
+one_found k c old new rows at h =
+    let params = Int (pos k) ∷ [] in
+    let was = at.holds.rows.0 in
+    let answer = (read Holds store_schema (λ c d h. h.schema) one_text params _ one_is one_plain one_unlisted c old new rows at h).answer Null in
+    let same = answered counter_row (has_by counter_key k) Null (overlay old.now.trees []) key_terms params (key_tests k []) 0 (col 1 2 ∷ []) c.counters rows
+    was.0 answer in
+    only (at_by counter_key k c.counters) shown_counter rows (subst (λ xs. IsPermutation (map shown_counter xs) rows) (found_rows counter_key counter_row
+    (λ _. refl) k c.counters (subst IsTable was.0 was.1)) same)
+
+pub one_makes : {X : Type 0} (items : X → List Row) (k : ℕ) (old new : State) (r : Result X Error)
+    → (HasCleanDisk new → IfOk r (λ x. Shown one_text (Int (pos k) ∷ []) old new (items x)))
+    → (HasCleanDisk new → IfErr r (FailsToQuery one_text (Int (pos k) ∷ []) old new)) → Survives old new (CommitsShowing one_text (Int (pos k) ∷ []) old)
+    → Makes (λ c. c) old new r
+one_makes items k = looks Holds store_schema (λ c d h. h.schema) one_text (Int (pos k) ∷ []) _ one_is one_plain items
+
+pub one_finds : {X : Type 0} (items : X → List Row) (k : ℕ) (old new : State) (r : Result X Error)
+    → (HasCleanDisk new → IfOk r (λ x. Shown one_text (Int (pos k) ∷ []) old new (items x)))
+    → HasCleanDisk new → IfOk r (λ x. (c : Content) → Inside c old → items x ≡ map shown_counter (option_to_list (at_by counter_key k c.counters)))
+one_finds items k old new (Ok x) ok clean = λ c at. one_found k c old new (items x) at (ok clean)
+one_finds items k old new (Err e) ok clean = tt
 
 -- ---- one changed
 

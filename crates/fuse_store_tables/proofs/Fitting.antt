@@ -1,39 +1,48 @@
 -- What keeps a store of version 2 in order.
-use Rattle.std.proofs.Common.{◌≡◌, ◌≤◌, ℕ, suc, List, [], ◌∷◌, map, filter, length, min, not, Bool, true, false, cond, Ok, Err, Result, refl, sym, ap}
-use Rattle.std.proofs.Common.{subst, arith, ◌∙◌}
+use Rattle.std.proofs.Common.{◌≡◌, ◌≤◌, ◌<◌, ℕ, suc, List, [], ◌∷◌, filter, length, min, not, Bool, true, false, cond, Ok, Err, Result, refl, sym}
+use Rattle.std.proofs.Common.{◌^◌, ◌-◌, ◌++◌, Option, Some, None, subst, arith, ◌∙◌}
+use Rattle.std.specs.Prelude.{IfSome}
 use Rattle.std.specs.Ordering.{is_eq, nat_cmp}
 use Rattle.sqlite.specs.State.{State, Survives}
 use Rattle.sqlite.proofs.StateLemmas.{survives_weaker}
 use Rattle.fuse_keeper.specs.declared.fault.StoreFault.{StoreFault}
 use Rattle.fuse_wire.specs.declared.moment.Moment.{Moment}
-use Rattle.fuse_store_tables.specs.Content.{Content, Counter, Holds, LeftAs, has_by, counter_key, valued, value_at, set_counter, is_unnamed}
-use Rattle.fuse_store_tables.specs.Clearing.{cleared, counted_to, named, without_settings}
-use Rattle.fuse_store_tables.specs.Making.{new_store}
+use Rattle.fuse_init.specs.declared.profile.Profile.{Profile}
+use Rattle.fuse_init.specs.declared.profile.Profile.TheVariants.{Plain, Everyday}
+use Rattle.fuse_init.specs.Profile.{terms}
+use Rattle.fuse_store_tables.specs.Content.{Content, Holds, LeftAs, node_key, value_at, set_counter, is_unnamed}
+use Rattle.fuse_store_tables.specs.Clearing.{cleared, counted_to, lowered, named, unnamed_blocks}
+use Rattle.fuse_store_tables.specs.Making.{new_store, first_counters, room_counters}
 use Rattle.fuse_store_tables.specs.Moves.{RestsAs, Serves, ServesAs, IsSafe}
-use Rattle.fuse_store_tables.specs.Opening.{IsMetaFrom, most, IsFit, IsSecond}
+use Rattle.fuse_store_tables.specs.Opening.{most, profile_in, meta_rows, IsMetaFrom, MetaOf, AreAbove, IsFit, IsSecond}
 use Rattle.fuse_store_tables.proofs.MetaLemmas.{meta_set}
+use Rattle.fuse_store_tables.proofs.Lowering.{lowered_low, room_lowered}
+use Rattle.fuse_store_tables.proofs.Profiles.{AreNoRoom, profile_set, room_same, room_set}
+use Rattle.fuse_store_tables.proofs.CounterValues.{AreOthers, value_set, above_set, lots_set, below_filter}
 
-version_still : (key v : ℕ) → is_eq (nat_cmp 1 key) ≡ false → (c : Content) (n : ℕ) (cs : List Counter) → IsMetaFrom 1 (suc n) cs
-    → value_at 1 (set_counter key v (record c { counters = cs })) ≡ value_at 1 (record c { counters = cs })
-version_still key v other c n [] meta = absurd meta
-version_still key v other c n (x ∷ cs) meta = started x.key x.value meta.0
-  where
-    started : (k value : ℕ) → k ≡ 1 → value_at 1 (set_counter key v (record c { counters = record { key = k; value = value } ∷ cs })) ≡ value_at 1
-        (record c { counters = record { key = k; value = value } ∷ cs })
-    started k value is = subst (λ m. value_at 1 (set_counter key v (record c { counters = record { key = m; value = value } ∷ cs })) ≡ value_at 1
-        (record c { counters = record { key = m; value = value } ∷ cs })) (sym is)
-        (let one : Counter = record { key = 1; value = value } in
-        ap (λ b. value_at 1 (record c { counters = cond b (valued v one) one ∷ map (λ x. cond (has_by counter_key key x) (valued v x) x) cs })) other)
+-- a counter that is neither the version nor above any numbers, and says nothing of the room
+pub record IsFree (key : ℕ) : Type 0 where
+  pub version : is_eq (nat_cmp key 1) ≡ false
+  pub others : AreOthers key
+  pub lot : is_eq (nat_cmp key 11) ≡ false
+  pub room : AreNoRoom key
 
--- another value of a counter that isn't the version
-pub fit_set : (key v : ℕ) → is_eq (nat_cmp 1 key) ≡ false → v ≤ most key → (c : Content) → IsFit c → IsFit (set_counter key v c)
-fit_set key v other low c fit = record {
-  version = version_still key v other c 10 c.counters fit.meta ∙ fit.version;
-  meta = meta_set 1 11 key v c.counters
-      fit.meta low;
-  errnos = fit.errnos;
-  few = fit.few;
-}
+abbrev AreFew : Content → Profile → Type 0
+AreFew c p = length c.nodes ≤ (terms p).node_limit
+
+-- its other value
+pub fit_set : (key v : ℕ) → IsFree key → (c : Content) → v ≤ most (profile_in c) key → IsFit c → IsFit (set_counter key v c)
+fit_set key v free c low fit =
+    let p = profile_in c in
+    record {
+      version = value_set key v 1 free.version c ∙ fit.version;
+      meta = subst (λ q. MetaOf q (set_counter key v c)) (sym (profile_set key v c))
+          (meta_set p 1 (meta_rows p) key v c.counters fit.meta.0 low, room_set p key v free.room c fit.meta.1);
+      above = above_set key v free.others c fit.above;
+      lots = lots_set key v free.lot c fit.lots;
+      errnos = fit.errnos;
+      few = subst (AreFew c) (sym (profile_set key v c)) fit.few;
+    }
 
 -- ---- the begin of a mount
 
@@ -45,27 +54,118 @@ filter_length p (x ∷ xs) = told (filter_length p xs) (p x)
     told less true = omega (arith, less)
     told less false = omega (arith, less)
 
-few_counted : (n m : ℕ) → n ≤ m → m ≤ 65536 → min n 9223372036854775807 ≤ 65536
-few_counted n m less few = omega (arith, less, few)
+few_counted : (n m most : ℕ) → n ≤ m → m ≤ most → min n 9223372036854775807 ≤ most
+few_counted n m most less few = omega (arith, less, few)
+
+few_left : (n m most : ℕ) → n ≤ m → m ≤ most → n ≤ most
+few_left n m most less few = omega (arith, less, few)
+
+-- the key of another row of `meta`, as a number shows it
+abbrev IsOther : ℕ → ℕ → Type 0
+IsOther key k = is_eq (nat_cmp key k) ≡ false
+
+free_by : (key : ℕ) → IsOther key 1 → IsOther key 2 → IsOther key 3 → IsOther key 4 → IsOther key 11 → IsOther key 12 → IsOther key 13 → IsOther key 14
+    → IsFree key
+free_by key one two three four eleven twelve thirteen fourteen = record {
+  version = one;
+  others = record { node = two; fh = three; cookie = four };
+  lot = eleven;
+  room = record { profile = twelve; capacity = thirteen; used = fourteen };
+}
+
+free_five : IsFree 5
+free_five = free_by 5 refl refl refl refl refl refl refl refl
+
+free_six : IsFree 6
+free_six = free_by 6 refl refl refl refl refl refl refl refl
+
+free_seven : IsFree 7
+free_seven = free_by 7 refl refl refl refl refl refl refl refl
+
+free_eight : IsFree 8
+free_eight = free_by 8 refl refl refl refl refl refl refl refl
+
+free_nine : IsFree 9
+free_nine = free_by 9 refl refl refl refl refl refl refl refl
+
+free_ten : IsFree 10
+free_ten = free_by 10 refl refl refl refl refl refl refl refl
+
+fit_lowered : (c : Content) → IsFit c → IsFit (lowered c)
+fit_lowered c fit =
+    let p = profile_in c in
+    let left = value_at 14 c - unnamed_blocks c.nodes in
+    record {
+      version = value_set 14 left 1 refl c ∙ fit.version;
+      meta = subst (λ q. MetaOf q (lowered c)) (sym (profile_set 14 left c))
+          (meta_set p 1 (meta_rows p) 14 left c.counters fit.meta.0 (lowered_low p (meta_rows p) c fit.meta.0), room_lowered p c fit.meta.1);
+      above = above_set 14 left (record { node = refl; fh = refl; cookie = refl }) c fit.above;
+      lots = lots_set 14 left refl c fit.lots;
+      errnos = fit.errnos;
+      few = subst (AreFew c) (sym (profile_set 14 left c)) fit.few;
+    }
 
 pub fit_cleared : (c : Content) → IsFit c → IsFit (cleared c)
 fit_cleared c fit =
     let less = filter_length (λ n. not (is_unnamed n)) c.nodes in
-    let six = fit_set 6 0 refl (omega arith) c fit in
-    let seven = fit_set 7 0 refl (omega arith) (set_counter 6 0 c) six in
-    let eight = fit_set 8 0 refl (omega arith) (set_counter 7 0 (set_counter 6 0 c)) seven in
-    let nine = fit_set 9 0 refl (omega arith) (set_counter 8 0 (set_counter 7 0 (set_counter 6 0 c))) eight in
-    let ten = fit_set 10 0 refl (omega arith) (set_counter 9 0 (set_counter 8 0 (set_counter 7 0 (set_counter 6 0 c)))) nine in
-    let all = fit_set 5 (counted_to (named c.nodes)) refl (few_counted (length (named c.nodes)) (length c.nodes) less fit.few)
-    (without_settings (set_counter 6 0 c)) ten in
-    record { version = all.version; meta = all.meta; errnos = tt; few = omega (arith, less, fit.few) }
+    let c6 = set_counter 6 0 (lowered c) in
+    let c7 = set_counter 7 0 c6 in
+    let c8 = set_counter 8 0 c7 in
+    let c9 = set_counter 9 0 c8 in
+    let c10 = set_counter 10 0 c9 in
+    let six = fit_set 6 0 free_six (lowered c) (omega arith) (fit_lowered c fit) in
+    let seven = fit_set 7 0 free_seven c6 (omega arith) six in
+    let eight = fit_set 8 0 free_eight c7 (omega arith) seven in
+    let nine = fit_set 9 0 free_nine c8 (omega arith) eight in
+    let ten = fit_set 10 0 free_ten c9 (omega arith) nine in
+    let all = fit_set 5 (counted_to (named c.nodes)) free_five c10 (few_counted (length (named c.nodes)) (length c.nodes) _ less ten.few) ten in
+    record {
+      version = all.version;
+      meta = (all.meta.0, room_same (profile_in (cleared c)) (set_counter 5 (counted_to (named c.nodes)) c10) (cleared c) refl all.meta.1);
+      above = record {
+        nodes = below_filter node_key (value_at 2 (cleared c)) (λ n. not (is_unnamed n)) c.nodes all.above.nodes;
+        handles = tt;
+        entries = all.above.entries;
+      };
+      lots = tt;
+      errnos = tt;
+      few = few_left (length (named c.nodes)) (length c.nodes) _ less all.few;
+    }
 
 -- ---- a new store
 
-pub fit_new : (now : Moment) → IsFit (new_store now)
-fit_new now = record {
-  version = refl;
-  meta = (
+one_below_two : 1 < 2
+one_below_two = omega arith
+
+first_meta : IsMetaFrom Plain 1 11 first_counters
+first_meta = (
+  refl,
+  omega arith,
+  (
+    refl,
+    omega arith,
+    (
+      refl,
+      omega arith,
+      (
+        refl,
+        omega arith,
+        (
+          refl,
+          omega arith,
+          (refl, omega arith, (refl, omega arith, (refl, omega arith, (refl, omega arith, (refl, omega arith, (refl, omega arith, tt)))))),
+        ),
+      ),
+    ),
+  ),
+)
+
+-- of an everyday store: the number of its profile, its capacity, and no blocks in use
+room_meta : (capacity : ℕ) → capacity < 2 ^ 51 → IsMetaFrom Everyday 1 14 (first_counters ++ room_counters capacity 0)
+room_meta capacity low = (
+  refl,
+  omega arith,
+  (
     refl,
     omega arith,
     (
@@ -80,14 +180,49 @@ fit_new now = record {
           (
             refl,
             omega arith,
-            (refl, omega arith, (refl, omega arith, (refl, omega arith, (refl, omega arith, (refl, omega arith, (refl, omega arith, tt)))))),
+            (
+              refl,
+              omega arith,
+              (
+                refl,
+                omega arith,
+                (refl, omega arith, (refl, omega arith, (refl, omega arith, (refl, omega arith, (refl, omega (arith, low), (refl, omega arith, tt)))))),
+              ),
+            ),
           ),
         ),
       ),
     ),
-  );
+  ),
+)
+
+from_zero : (n : ℕ) → 0 ≤ n
+from_zero n = omega arith
+
+new_meta : (room : Option ℕ) → IfSome room (λ capacity. capacity < 2 ^ 51) → (now : Moment) → MetaOf (profile_in (new_store room now)) (new_store room now)
+new_meta None low now = (first_meta, tt)
+new_meta (Some capacity) low now = (room_meta capacity low, (refl, from_zero capacity))
+
+new_few : (room : Option ℕ) (now : Moment) → AreFew (new_store room now) (profile_in (new_store room now))
+new_few None now = omega arith
+new_few (Some capacity) now = omega arith
+
+new_version : (room : Option ℕ) (now : Moment) → value_at 1 (new_store room now) ≡ 2
+new_version None now = refl
+new_version (Some capacity) now = refl
+
+new_above : (room : Option ℕ) (now : Moment) → AreAbove (new_store room now)
+new_above None now = record { nodes = (one_below_two, tt); handles = tt; entries = tt }
+new_above (Some capacity) now = record { nodes = (one_below_two, tt); handles = tt; entries = tt }
+
+pub fit_new : (room : Option ℕ) (now : Moment) → IfSome room (λ capacity. capacity < 2 ^ 51) → IsFit (new_store room now)
+fit_new room now low = record {
+  version = new_version room now;
+  meta = new_meta room low now;
+  above = new_above room now;
+  lots = tt;
   errnos = tt;
-  few = omega arith;
+  few = new_few room now;
 }
 
 -- a whole transaction, where the content stays in order

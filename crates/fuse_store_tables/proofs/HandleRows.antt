@@ -1,5 +1,5 @@
 -- The statements on the table of handles.
-use Rattle.std.proofs.Common.{◌≡◌, ℕ, pos, List, [], ◌∷◌, map, codes, true, false, ◌&&◌, Some, None, Ok, Err, Result}
+use Rattle.std.proofs.Common.{◌≡◌, ℕ, pos, List, [], ◌∷◌, map, take, filter, codes, true, false, ◌&&◌, Some, None, Ok, Err, Result}
 use Rattle.std.proofs.Common.{IfOk, IfErr, refl, sym, ap, subst, ◌∙◌}
 use Rattle.std.specs.List.{list_all}
 use Rattle.std.specs.Option.{option_to_list}
@@ -25,7 +25,7 @@ use Rattle.sqlite.specs.State.{State, HasCleanDisk, Survives, CommitsBy, Writes,
 use Rattle.sqlite.proofs.Callers.{IsPlain, command_of, statement_of}
 use Rattle.fuse_store_tables.specs.Layout.{handles, store_schema}
 use Rattle.fuse_store_tables.specs.Content.{Content, Holds, stored, put_by, has_by, at_by, fh_of, access_code, handle_row, shown_handle, with_handle}
-use Rattle.fuse_store_tables.specs.Content.{without_handle}
+use Rattle.fuse_store_tables.specs.Content.{without_handle, shown_open, is_handle_of}
 use Rattle.fuse_store_tables.specs.Moves.{Inside, Makes}
 use Rattle.fuse_store_tables.specs.inner.Performing.{Ran}
 use Rattle.fuse_store_tables.proofs.Writing.{makes}
@@ -34,6 +34,7 @@ use Rattle.fuse_store_tables.proofs.Keyed.{put_rows, row_cmp_nat, found_rows}
 use Rattle.fuse_store_tables.proofs.RowLemmas.{cast_int, cast_null, inserted}
 use Rattle.fuse_store_tables.proofs.Reading.{plain_query, answered, looks, read, only, truth_of}
 use Rattle.fuse_store_tables.proofs.Deletes.{picking, picks}
+use Rattle.fuse_store_tables.proofs.Ordered.{ordered_query, answered_in_order, rises_from}
 use Rattle.fuse_tree.specs.declared.rows.HandleRow.{HandleRow}
 
 -- ---- a new row
@@ -153,3 +154,51 @@ pub look_finds : {X : Type 0} (items : X → List Row) (k : ℕ) (old new : Stat
     → HasCleanDisk new → IfOk r (λ x. (c : Content) → Inside c old → items x ≡ map shown_handle (option_to_list (at_by fh_of k c.handles)))
 look_finds items k old new (Ok x) ok clean = λ c at. finds k c old new (items x) at (ok clean)
 look_finds items k old new (Err e) ok clean = tt
+
+-- ---- those of a node
+
+of_tests : (node limit : ℕ) (h : HandleRow) → list_all (holds ((Int (pos node) ∷ Int (pos limit) ∷ []) ∷ handle_row h ∷ []))
+    (op2 (Compare Eq Binary) (col 1 2) (col 0 0) ∷ []) ≡ is_handle_of node h
+unfolding binary
+of_tests node limit h = ap (λ o. is_true (from_truth (Some (is_eq o))) && true) (row_cmp_nat h.node node) ∙ truth_of (is_handle_of node h)
+
+abbrev pub of_text : List ℕ
+of_text = codes "SELECT fh, access FROM handles WHERE node = ?1 ORDER BY fh LIMIT ?2"
+
+abbrev of_terms : List Term
+of_terms = op2 (Compare Eq Binary) (col 1 2) (col 0 0) ∷ []
+
+of_is : command_of (understood store_schema of_text) ≡ Select (record { lets = []; body = ordered_query 7 of_terms (col 1 0 ∷ col 1 3 ∷ []) (col 0 1) })
+    (codes "fh" ∷ codes "access" ∷ [])
+unfolding understood everything
+of_is = refl
+
+of_plain : IsPlain (understood store_schema of_text)
+unfolding understood everything
+of_plain = (refl, refl)
+
+of_unlisted : reads_listing store_schema of_text ≡ false
+unfolding understood everything
+of_unlisted = refl
+
+of_finds : (node limit : ℕ) (c : Content) (old new : State) (rows : List Row) → Inside c old → Shown of_text (Int (pos node) ∷ Int (pos limit) ∷ []) old new rows
+    → rows ≡ take limit (map shown_open (filter (is_handle_of node) c.handles))
+of_finds node limit c old new rows at h =
+    let was = at.holds.rows.1.1.1.1.0 in
+    let answer = (read Holds store_schema (λ c d h. h.schema) of_text (Int (pos node) ∷ Int (pos limit) ∷ []) _ of_is of_plain of_unlisted c old new rows at
+    h).answer Null in
+    answered_in_order fh_of (λ x. Null ∷ Int (pos x.node) ∷ Int (pos (access_code x.access)) ∷ []) (is_handle_of node) Null (overlay old.now.trees [])
+    of_terms (Int (pos node) ∷ Int (pos limit) ∷ []) (of_tests node limit) (col 1 0 ∷ col 1 3 ∷ []) (col 0 1) 7 c.handles rows was.0
+    (rises_from fh_of handle_row (λ _. refl) c.handles (subst IsTable was.0 was.1)) answer
+
+pub of_makes : {X : Type 0} (items : X → List Row) (node limit : ℕ) (old new : State) (r : Result X Error)
+    → (HasCleanDisk new → IfOk r (λ x. Shown of_text (Int (pos node) ∷ Int (pos limit) ∷ []) old new (items x)))
+    → (HasCleanDisk new → IfErr r (FailsToQuery of_text (Int (pos node) ∷ Int (pos limit) ∷ []) old new))
+    → Survives old new (CommitsShowing of_text (Int (pos node) ∷ Int (pos limit) ∷ []) old) → Makes (λ c. c) old new r
+of_makes items node limit = looks Holds store_schema (λ c d h. h.schema) of_text (Int (pos node) ∷ Int (pos limit) ∷ []) _ of_is of_plain items
+
+pub of_shows : {X : Type 0} (items : X → List Row) (node limit : ℕ) (old new : State) (r : Result X Error)
+    → (HasCleanDisk new → IfOk r (λ x. Shown of_text (Int (pos node) ∷ Int (pos limit) ∷ []) old new (items x)))
+    → HasCleanDisk new → IfOk r (λ x. (c : Content) → Inside c old → items x ≡ take limit (map shown_open (filter (is_handle_of node) c.handles)))
+of_shows items node limit old new (Ok x) ok clean = λ c at. of_finds node limit c old new (items x) at (ok clean)
+of_shows items node limit old new (Err e) ok clean = tt

@@ -1,5 +1,5 @@
 -- Calls one after another.
-use Rattle.std.proofs.Common.{◌≡◌, Bool, true, false, cond, Ok, Err, Result, IfErr, subst}
+use Rattle.std.proofs.Common.{◌≡◌, Bool, true, false, cond, Ok, Err, Result, IfErr, IsErrAnd, sym, subst}
 use Rattle.std.specs.Result.{IsErr}
 use Rattle.sqlite.specs.Effect.{Database}
 use Rattle.sqlite.specs.State.{State, HasCleanDisk, Survives}
@@ -22,6 +22,17 @@ fails_as P Q R a b e d p = record { stays = p.stays; turns = tt }
 
 pub makes_none : {X Y E F : Type 0} (f g : Content → Content) (a b : State) (e : E) (d : F) → Makes {X = X} f a b (Err e) → Makes {X = Y} g a b (Err d)
 makes_none f g a b e d p = record { stays = p.stays; turns = tt }
+
+-- a look that gave a value, and a fault that came of it
+pub fails_looked : {X Y E F : Type 0} (f : Content → Content) (a b : State) (x : X) (r : Result Y F) → Makes {E = E} (λ c. c) a b (Ok x) → IsErr r
+    → Makes f a b r
+fails_looked f a b x (Ok y) p is = absurd cc
+fails_looked f a b x (Err e) p is = record { stays = p.stays; turns = tt }
+
+-- what `?` returns of a fault that says nothing of the tables
+pub outside_back : {Y : Type 0} (e : StoreFault) (r : Result Y StoreFault) → IsErrAnd r (λ f. f ≡ e) → IsOutside e → IfErr r IsOutside
+outside_back e (Ok y) same out = absurd same
+outside_back e (Err f) same out = subst IsOutside (sym same) out
 
 -- a look that gave a value, and a call whose meaning is known by it
 pub makes_as_too : {X Y E F : Type 0} (f g : Content → Content) (a b d : State) (x : X) (r : Result Y F) → Makes {E = E} (λ c. c) a b (Ok x)

@@ -1,5 +1,5 @@
 -- The steps of an open.
-use Rattle.std.proofs.Common.{◌≡◌, ◌<◌, ◌^◌, inl, inr, ℕ, List, [], ◌∷◌, ◌++◌, map, fold, cond, Less, None, Result, refl, sym, ap, subst, arith}
+use Rattle.std.proofs.Common.{◌≡◌, ◌≤◌, ◌<◌, ◌^◌, inl, inr, ℕ, List, [], ◌∷◌, ◌++◌, map, fold, length, cond, Less, None, Result, refl, sym, ap, subst, arith}
 use Rattle.std.proofs.Common.{◌∙◌}
 use Rattle.std.specs.List.{AllByRecursion}
 use Rattle.std.specs.Ordering.{is_eq, nat_cmp, match_ordering}
@@ -11,9 +11,11 @@ use Rattle.sqlite.specs.Listing.{understood}
 use Rattle.sqlite.specs.declared.error.Error.{Error}
 use Rattle.sqlite.specs.State.{State, HasCleanDisk, Survives, CommitsBy, Writes}
 use Rattle.sqlite.proofs.Callers.{statement_of}
+use Rattle.fuse_init.specs.declared.profile.Profile.TheVariants.{Plain}
+use Rattle.fuse_init.specs.Profile.{terms}
 use Rattle.fuse_store_tables.specs.Layout.{with_answers, with_lots, with_kept, lots, kept, entries, entries_in_order}
-use Rattle.fuse_store_tables.specs.Content.{Content, Answer, Kept, Holds, stored, lot_row, kept_row, answer_row, kept_key, value_at, put_by}
-use Rattle.fuse_store_tables.specs.Opening.{IsOld, IsFit, IsFirst, IsSecond, IsStored, IsOpened, under, marked, migrated, opened}
+use Rattle.fuse_store_tables.specs.Content.{Content, Answer, Kept, Holds, stored, lot_row, kept_row, answer_row, kept_key, value_at, put_by, with_counter}
+use Rattle.fuse_store_tables.specs.Opening.{AreAbove, IsOld, IsFit, IsFirst, IsSecond, HoldsUnindexed, IsStored, IsOpened, under, marked, migrated, opened}
 use Rattle.fuse_store_tables.specs.inner.Steps.{HasLots, HasKept, HasTables, moved}
 use Rattle.fuse_store_tables.specs.Moves.{InsideAs, Takes}
 use Rattle.fuse_store_tables.specs.inner.Performing.{Ran}
@@ -22,6 +24,8 @@ use Rattle.fuse_store_tables.proofs.Sorting.{Rises}
 use Rattle.fuse_store_tables.proofs.Ordered.{rises_from}
 use Rattle.fuse_store_tables.proofs.SchemaLemmas.{table_more, index_more, lots_text, lots_made, kept_text, kept_made, entries_in_order_text, entries_in_order_made}
 use Rattle.fuse_store_tables.proofs.MetaLemmas.{marked_meta, marked_version}
+use Rattle.fuse_store_tables.proofs.Profiles.{plain_in, meta_in}
+use Rattle.fuse_store_tables.proofs.CounterValues.{value_set, value_put, above_set, above_put}
 use Rattle.fuse_store_tables.proofs.Either.{sub_from, narrowed_if}
 
 -- ---- the two tables, and the index
@@ -48,18 +52,20 @@ pub adds_kept_table : (old new : State) (r : Result (Unit {0}) Error) → (HasCl
     → Survives old new (CommitsBy kept_text [] old) → Takes HasLots HasKept old new r
 adds_kept_table = makes HasLots with_lots (λ c d h. h.holds.schema) kept_text [] CreateTable kept_made.command kept_made.plain refl HasKept kept_more
 
-index_made : (c : Content) (old new : State) (n : ℕ) → HasKept c old.now
-    → Writes old new None (CreateIndex 2) (statement_of entries_in_order_text (understood with_kept entries_in_order_text)) [] n → HasTables c new.now
-index_made c old new n h w = record {
-  holds = index_more with_kept 2 entries entries_in_order entries_in_order_text entries_in_order_made (stored c) old new n h.holds w;
-  old = h.old;
-}
+index_made : (c : Content) (old new : State) (n : ℕ) → HoldsUnindexed c old.now
+    → Writes old new None (CreateIndex 2) (statement_of entries_in_order_text (understood with_kept entries_in_order_text)) [] n → Holds c new.now
+index_made c old new n h w = index_more with_kept 2 entries entries_in_order entries_in_order_text entries_in_order_made (stored c) old new n h w
 
 pub adds_index : (old new : State) (r : Result (Unit {0}) Error) → (HasCleanDisk new → Ran entries_in_order_text [] old new r)
-    → Survives old new (CommitsBy entries_in_order_text [] old) → Takes HasKept HasTables old new r
+    → Survives old new (CommitsBy entries_in_order_text [] old) → Takes HoldsUnindexed Holds old new r
 adds_index =
-    makes HasKept with_kept (λ c d h. h.holds.schema) entries_in_order_text [] (CreateIndex 2) entries_in_order_made.command entries_in_order_made.plain refl
-    HasTables index_made
+    makes HoldsUnindexed with_kept (λ c d h. h.schema) entries_in_order_text [] (CreateIndex 2) entries_in_order_made.command entries_in_order_made.plain refl
+    Holds index_made
+
+pub indexes_kept : {X E : Type 0} (a b : State) (r : Result X E) → Takes HoldsUnindexed Holds a b r → Takes HasKept HasTables a b r
+indexes_kept a b r p =
+    narrowed_if HasKept Holds HasTables a b r (sub_from HasKept HoldsUnindexed Holds (λ c d h. h.holds) a b r p)
+    (λ clean c at on. record { is_open = on.is_open; in_transaction = on.in_transaction; holds = record { holds = on.holds; old = at.holds.old } })
 
 -- ---- the records in their order
 
@@ -133,8 +139,26 @@ small_under : (xs : List Answer) → AllByRecursion (λ (a : Answer). a.said.err
 small_under [] small = tt
 small_under (a ∷ xs) small = (small.0, small_under xs small.1)
 
+-- the counters of the nodes, handles and entries are as they were, and the next lot is 1
+marked_above : (c : Content) → AreAbove c → AreAbove (marked c)
+marked_above c above =
+    above_set 1 2 (record { node = refl; fh = refl; cookie = refl }) (with_counter 11 1 c)
+    (above_put 11 1 (record { node = refl; fh = refl; cookie = refl }) c above)
+
+marked_lot : (c : Content) → value_at 11 (marked c) ≡ 1
+marked_lot c = value_set 1 2 11 refl (with_counter 11 1 c) ∙ value_put 11 1 c
+
 pub migrated_fit : (c : Content) → IsOld c → IsFit (migrated c)
-migrated_fit c old = record { version = marked_version c old.meta; meta = marked_meta c old.meta; errnos = small_under c.answers old.errnos; few = old.few }
+migrated_fit c old =
+    let above = marked_above c old.above in
+    record {
+      version = marked_version c old.meta;
+      meta = meta_in Plain (migrated c) (marked_meta c old.meta, tt);
+      above = record { nodes = above.nodes; handles = above.handles; entries = above.entries };
+      lots = (let is = marked_lot c in omega (arith, is), tt);
+      errnos = small_under c.answers old.errnos;
+      few = subst (λ p. length c.nodes ≤ (terms p).node_limit) (sym (plain_in 11 (migrated c) (omega arith) (marked_meta c old.meta))) old.few;
+    }
 
 pub first_opened : (c : Content) (d e : Database) → IsFirst c d → Holds (marked (moved c)) e → IsOpened c e
 first_opened c d e h holds =
@@ -143,7 +167,7 @@ first_opened c d e h holds =
 
 -- ---- either version
 
-not_both : {X : Type 0} (v : ℕ) → v ≡ 1 → v ≡ 2 → X
+pub not_both : {X : Type 0} (v : ℕ) → v ≡ 1 → v ≡ 2 → X
 not_both v one two = absurd (omega (arith, one, two))
 
 inside_first : (c : Content) (b : State) → value_at 1 c ≡ 1 → InsideAs (IsStored c) b → InsideAs (IsFirst c) b
@@ -151,41 +175,15 @@ inside_first c b is at = record {
   is_open = at.is_open;
   in_transaction = at.in_transaction;
   holds = elim at.holds [
-    | inl h ↦ h
-    | inr h ↦ not_both (value_at 1 c)
-        is h.fit.version
+    | inl whole ↦ elim whole [
+      | inl h ↦ h
+      | inr h ↦ not_both (value_at 1 c) is h.fit.version
+    ]
+    | inr h ↦ not_both (value_at 1 c) is h.fit.version
   ];
 }
-
-inside_second : (c : Content) (b : State) → value_at 1 c ≡ 2 → InsideAs (IsStored c) b → InsideAs (IsSecond c) b
-inside_second c b is at = record {
-  is_open = at.is_open;
-  in_transaction = at.in_transaction;
-  holds = elim at.holds [
-    | inl h ↦ not_both (value_at 1 c)
-        h.old.version is
-    | inr h ↦ h
-  ];
-}
-
-pub first_looks : {X E : Type 0} (a b : State) (r : Result X E) → Takes IsStored IsStored a b r → Takes IsFirst IsFirst a b r
-first_looks a b r p = narrowed_if IsFirst IsStored IsFirst a b r (sub_from IsFirst IsStored IsStored (λ c d h. inl h) a b r p) (λ clean c at on. inside_first c
-    b at.holds.old.version on)
-
-pub second_looks : {X E : Type 0} (a b : State) (r : Result X E) → Takes IsStored IsStored a b r → Takes IsSecond IsOpened a b r
-second_looks a b r p = narrowed_if IsSecond IsStored IsOpened a b r (sub_from IsSecond IsStored IsStored (λ c d h. inr h) a b r p)
-    (λ clean c at on. let is = inside_second c b at.holds.fit.version on in record {
-      is_open = is.is_open;
-      in_transaction = is.in_transaction;
-      holds =
-          subst (λ k. IsSecond k b.now) (sym (opened_second c at.holds.fit.version)) is.holds;
-    })
 
 -- where the version is known
 pub found_first : (a b : State) (v : ℕ) → v ≡ 1 → ((c : Content) → InsideAs (IsStored c) a → v ≡ value_at 1 c) → (c : Content) → InsideAs (IsStored c) a
     → InsideAs (IsStored c) b → InsideAs (IsFirst c) b
 found_first a b v is value c at on = inside_first c b (sym (value c at) ∙ is) on
-
-pub found_second : (a b : State) (v : ℕ) → v ≡ 2 → ((c : Content) → InsideAs (IsStored c) a → v ≡ value_at 1 c) → (c : Content) → InsideAs (IsStored c) a
-    → InsideAs (IsStored c) b → InsideAs (IsSecond c) b
-found_second a b v is value c at on = inside_second c b (sym (value c at) ∙ is) on

@@ -16,7 +16,7 @@ use Rattle.sqlite_sql.specs.Ops.{binary, is_true, from_truth}
 use Rattle.sqlite.specs.Term.{Term, lit, col, op2, holds}
 use Rattle.sqlite.specs.Program.{overlay}
 use Rattle.sqlite.specs.Source.TheVariants.{Values}
-use Rattle.sqlite.specs.Command.TheVariants.{Insert, Update, Select}
+use Rattle.sqlite.specs.Command.TheVariants.{Insert, Update, Delete, Select}
 use Rattle.sqlite_rules.specs.Cast.{cast_row}
 use Rattle.sqlite_tied.specs.Compute.{everything}
 use Rattle.sqlite.specs.declared.error.Error.{Error}
@@ -26,7 +26,7 @@ use Rattle.sqlite.proofs.Callers.{IsPlain, command_of, statement_of}
 use Rattle.fuse_store_tables.specs.Layout.{nodes, store_schema}
 use Rattle.fuse_store_tables.specs.Content.{Content, Holds, stored, put_by, has_by, at_by, node_key, node_row, node_columns, renumbered}
 use Rattle.fuse_store_tables.specs.inner.Columns.{given_node}
-use Rattle.fuse_store_tables.specs.Content.{with_node, set_node}
+use Rattle.fuse_store_tables.specs.Content.{with_node, set_node, without_node}
 use Rattle.fuse_store_tables.specs.Moves.{Inside, Makes}
 use Rattle.fuse_store_tables.specs.inner.Performing.{Ran}
 use Rattle.fuse_store_tables.proofs.Writing.{makes}
@@ -35,6 +35,7 @@ use Rattle.fuse_store_tables.proofs.Keyed.{put_rows, row_cmp_nat, found_rows}
 use Rattle.fuse_store_tables.proofs.RowLemmas.{cast_int, cast_null, inserted}
 use Rattle.fuse_store_tables.proofs.Reading.{plain_query, answered, looks, read, only, truth_of}
 use Rattle.fuse_store_tables.proofs.Updating.{changing, changes}
+use Rattle.fuse_store_tables.proofs.Deletes.{picking, picks}
 use Rattle.std.specs.Int.{w64, cast_signed}
 use Rattle.fuse_tree.specs.declared.rows.NodeRow.{NodeRow}
 
@@ -103,6 +104,33 @@ key_terms = op2 (Compare Eq Binary) (col 1 0) (col 0 0) ∷ []
 pub key_tests : (k : ℕ) (params : Row) (x : NodeRow) → list_all (holds ((Int (pos k) ∷ params) ∷ node_row x ∷ [])) key_terms ≡ has_by node_key k x
 unfolding binary
 key_tests k params x = ap (λ o. is_true (from_truth (Some (is_eq o))) && true) (row_cmp_nat (node_key x) k) ∙ truth_of (has_by node_key k x)
+
+-- ---- a row gone
+
+abbrev pub delete_text : List ℕ
+delete_text = codes "DELETE FROM nodes WHERE node = ?1"
+
+delete_is : command_of (understood store_schema delete_text) ≡ Delete 1 (picking 1 key_terms)
+unfolding understood everything
+delete_is = refl
+
+delete_plain : IsPlain (understood store_schema delete_text)
+unfolding understood everything
+delete_plain = (refl, refl)
+
+gone : (k : ℕ) (c : Content) (old new : State) (n : ℕ) → Holds c old.now → Writes old new None (Delete 1 (picking 1 key_terms)) (statement_of delete_text
+    (understood store_schema delete_text)) (Int (pos k) ∷ []) n
+    → Holds (without_node k c) new.now
+gone k c old new n at w =
+    let was = at.rows.1.0 in
+    let now = picks node_key node_row (λ _. refl) (has_by node_key k) 1 nodes refl key_terms (Int (pos k) ∷ []) (key_tests k []) (λ _. refl) c.nodes old new _ n
+    at.schema was.0 was.1 w in
+    wrote store_schema (stored c) (stored (without_node k c)) nodes old.now new.now at now.2 w.sound (only_nodes c _) now.0 now.1
+
+pub removes : (k : ℕ) (old new : State) (r : Result (Unit {0}) Error) → (HasCleanDisk new → Ran delete_text (Int (pos k) ∷ []) old new r)
+    → Survives old new (CommitsBy delete_text (Int (pos k) ∷ []) old) → Makes (without_node k) old new r
+removes k = makes Holds store_schema (λ c d h. h.schema) delete_text (Int (pos k) ∷ []) (Delete 1 (picking 1 key_terms)) delete_is delete_plain refl
+    (λ c. Holds (without_node k c)) (gone k)
 
 -- ---- a row read
 

@@ -1,12 +1,12 @@
 -- An opening and the begin of a mount, in one transaction.
-use Rattle.std.proofs.Common.{Ok, Err, Result, OnOk, IfErr}
+use Rattle.std.proofs.Common.{◌≡◌, Ok, Err, Result, IfErr, IsErrAnd, sym, subst}
 use Rattle.sqlite.specs.Effect.{Database}
 use Rattle.sqlite.specs.Tree.{Trees}
 use Rattle.sqlite.specs.State.{State, Survives}
 use Rattle.fuse_keeper.specs.declared.fault.StoreFault.{StoreFault}
 use Rattle.fuse_store_tables.specs.Content.{Content, Holds}
 use Rattle.fuse_store_tables.specs.Clearing.{cleared, IsBegun}
-use Rattle.fuse_store_tables.specs.Faults.{IsPlain}
+use Rattle.fuse_store_tables.specs.Faults.{IsOutside, IsPlain}
 use Rattle.fuse_store_tables.specs.Moves.{InsideAs, Takes, Makes}
 use Rattle.fuse_store_tables.specs.Opening.{IsStored, IsOpened, opened}
 use Rattle.fuse_store_tables.specs.Saying.{Says, IsTabled}
@@ -35,10 +35,12 @@ pub sure_cleared : {X Y E : Type 0} (a b d : State) (x : X) (r : Result Y StoreF
 sure_cleared a b d x (Ok y) p s q clean = tt
 sure_cleared a b d x (Err f) p s q clean = λ at. q clean (opened at.0, held at.0 b (p.turns (earlier b d _ s clean) at.0 at.1))
 
-pub cleared_says : {X : Type 0} (d : Database) (r : Result X StoreFault) → IsTabled d → IfErr r IsPlain → IfErr r (Says d)
-cleared_says d (Ok x) tabled plain = tt
-cleared_says d (Err f) tabled plain = tabled_says d f tabled plain
+-- what `?` returns of it
+pub same_sure : {C Y : Type 0} (P : C → Database → Type 0) (a b : State) (e : StoreFault) (r : Result Y StoreFault) → IsErrAnd r (λ f. f ≡ e)
+    → IsSure {X = Unit {0}} P a b (Err e) → IsSure P a b r
+same_sure P a b e (Ok y) same sure clean = absurd same
+same_sure P a b e (Err f) same sure clean = λ at. subst IsOutside (sym same) (sure clean at)
 
-pub known_if : {X E P : Type 0} (r : Result X E) → P → OnOk r P
-known_if (Ok x) known = known
-known_if (Err e) known = tt
+pub cleared_says : {X : Type 0} (d : Database) (e : StoreFault) (r : Result X StoreFault) → IsErrAnd r (λ f. f ≡ e) → IsTabled d → IsPlain e → IfErr r (Says d)
+cleared_says d e (Ok x) same tabled plain = tt
+cleared_says d e (Err f) same tabled plain = tabled_says d f tabled (subst IsPlain (sym same) plain)

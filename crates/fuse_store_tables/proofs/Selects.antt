@@ -21,7 +21,8 @@ use Rattle.sqlite.proofs.StateLemmas.{survives_weaker}
 use Rattle.fuse_store_tables.specs.inner.Performing.{OnlyReads, StaysWithin}
 use Rattle.fuse_store_tables.proofs.Control.{keeps_unchanged}
 use Rattle.fuse_store_tables.proofs.OpenLemmas.{version_text, meta_text}
-use Rattle.fuse_store_tables.proofs.Unnamed.{unnamed_text, count_text}
+use Rattle.fuse_store_tables.proofs.CounterRows.{one_text}
+use Rattle.fuse_store_tables.proofs.Unnamed.{unnamed_text, unnamed_sizes_text, count_text}
 use Rattle.fuse_store_tables.proofs.Reading.{keeps_query}
 use Rattle.sqlite_tied.specs.Compute.{everything}
 
@@ -99,6 +100,14 @@ meta_select = (_, refl)
 pub unnamed_select : IsSelectText (first unnamed_text)
 unfolding first everything
 unnamed_select = (_, refl)
+
+pub unnamed_sizes_select : IsSelectText (first unnamed_sizes_text)
+unfolding first everything
+unnamed_sizes_select = (_, refl)
+
+pub one_select : IsSelectText (first one_text)
+unfolding first everything
+one_select = (_, refl)
 
 pub count_select : IsSelectText (first count_text)
 unfolding first everything

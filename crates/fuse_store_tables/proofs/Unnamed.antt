@@ -22,7 +22,7 @@ use Rattle.sqlite.proofs.Callers.{IsPlain, command_of, statement_of}
 use Rattle.fuse_tree.specs.declared.rows.NodeRow.{NodeRow}
 use Rattle.fuse_store_tables.specs.Layout.{nodes, store_schema}
 use Rattle.fuse_store_tables.specs.Content.{Content, Holds, stored, node_row, node_columns, is_unnamed}
-use Rattle.fuse_store_tables.specs.inner.Steps.{without_unnamed}
+use Rattle.fuse_store_tables.specs.inner.Steps.{without_unnamed, unnamed_sizes}
 use Rattle.fuse_store_tables.specs.Clearing.{counted_to, unnamed_numbers}
 use Rattle.fuse_store_tables.specs.inner.Columns.{shown_number}
 use Rattle.fuse_store_tables.specs.Moves.{Inside, Makes}
@@ -118,6 +118,51 @@ pub unnamed_finds : {X : Type 0} (items : X → List Row) (old new : State) (r :
     → HasCleanDisk new → IfOk r (λ x. (c : Content) → Inside c old → items x ≡ map shown_number (unnamed_numbers c.nodes))
 unnamed_finds items old new (Ok x) ok clean = λ c at. unnamed_found c old new (items x) at (ok clean)
 unnamed_finds items old new (Err e) ok clean = tt
+
+-- ---- their sizes
+
+abbrev pub unnamed_sizes_text : List ℕ
+unnamed_sizes_text = codes "SELECT size FROM nodes WHERE up = 0 AND node > 1 ORDER BY node"
+
+unnamed_sizes_is : command_of (understood store_schema unnamed_sizes_text)
+    ≡ Select (record { lets = []; body = ordered_query 1 unnamed_terms (col 1 6 ∷ []) no_limit }) (codes "size" ∷ [])
+unfolding understood everything
+unnamed_sizes_is = refl
+
+unnamed_sizes_plain : IsPlain (understood store_schema unnamed_sizes_text)
+unfolding understood everything
+unnamed_sizes_plain = (refl, refl)
+
+unnamed_sizes_unlisted : reads_listing store_schema unnamed_sizes_text ≡ false
+unfolding understood everything
+unnamed_sizes_unlisted = refl
+
+sizes_shown : (ns : List NodeRow) → map (λ n. shown_number n.size) ns ≡ map shown_number (map (λ (n : NodeRow). n.size) ns)
+sizes_shown [] = refl
+sizes_shown (n ∷ ns) = ap (λ more. shown_number n.size ∷ more) (sizes_shown ns)
+
+unnamed_sizes_found : (c : Content) (old new : State) (rows : List Row) → Inside c old → Shown unnamed_sizes_text [] old new rows
+    → rows ≡ map shown_number (unnamed_sizes c.nodes)
+unnamed_sizes_found c old new rows at h =
+    let answer = (read Holds store_schema (λ c d h. h.schema) unnamed_sizes_text [] _ unnamed_sizes_is unnamed_sizes_plain unnamed_sizes_unlisted c old new rows
+    at h).answer Null in
+    let was = at.holds.rows.1.0 in
+    answered_in_order (λ (n : NodeRow). n.node) (λ n. Null ∷ node_columns n) is_unnamed Null (overlay old.now.trees []) unnamed_terms [] tests_unnamed (col 1 6
+    ∷ []) no_limit 1 c.nodes rows was.0
+    (rises_from (λ (n : NodeRow). n.node) node_row (λ _. refl) c.nodes (subst IsTable was.0 was.1)) answer
+    ∙ sizes_shown (filter is_unnamed c.nodes)
+
+pub unnamed_sizes_make : {X : Type 0} (items : X → List Row) (old new : State) (r : Result X Error)
+    → (HasCleanDisk new → IfOk r (λ x. Shown unnamed_sizes_text [] old new (items x)))
+    → (HasCleanDisk new → IfErr r (FailsToQuery unnamed_sizes_text [] old new)) → Survives old new (CommitsShowing unnamed_sizes_text [] old)
+    → Makes (λ c. c) old new r
+unnamed_sizes_make items = looks Holds store_schema (λ c d h. h.schema) unnamed_sizes_text [] _ unnamed_sizes_is unnamed_sizes_plain items
+
+pub unnamed_sizes_find : {X : Type 0} (items : X → List Row) (old new : State) (r : Result X Error)
+    → (HasCleanDisk new → IfOk r (λ x. Shown unnamed_sizes_text [] old new (items x)))
+    → HasCleanDisk new → IfOk r (λ x. (c : Content) → Inside c old → items x ≡ map shown_number (unnamed_sizes c.nodes))
+unnamed_sizes_find items old new (Ok x) ok clean = λ c at. unnamed_sizes_found c old new (items x) at (ok clean)
+unnamed_sizes_find items old new (Err e) ok clean = tt
 
 -- ---- how many nodes there are
 

@@ -37,6 +37,7 @@ use Rattle.sqlite.specs.Listing.{understood, reads_listing, if_select, is_select
 use Rattle.sqlite.specs.State.{State, HasCleanDisk, Survives, KeepsCommit, CommitsBy, Executes, ExecutesIn, Escapes}
 use Rattle.sqlite.proofs.StateLemmas.{survives_weaker, survives_then}
 use Rattle.sqlite.proofs.InsideLemmas.{executes_inside, commits_nothing, inside_keeps, keeps_then}
+use Rattle.fuse_store_tables.specs.Moves.{Begins, Ends}
 use Rattle.fuse_store_tables.specs.inner.Following.{earlier}
 use Rattle.fuse_store_tables.specs.inner.Performing.{Ran, CommitsNothing, StaysWithin}
 use Rattle.fuse_store_tables.proofs.Control.{keeps_failed}
@@ -46,7 +47,10 @@ use Rattle.fuse_store_tables.proofs.BlockRows.{blocks_text}
 use Rattle.fuse_store_tables.proofs.CounterRows.{update_text}
 use Rattle.fuse_store_tables.proofs.LotRows.{insert_text}
 use Rattle.fuse_store_tables.proofs.Refills.{copy_text, counter_text}
-use Rattle.fuse_store_tables.proofs.SchemaLemmas.{lots_text as lots_made_text, kept_text as kept_made_text, entries_in_order_text}
+use Rattle.fuse_store_tables.proofs.SchemaLemmas.{lots_text as lots_made_text, kept_text as kept_made_text, entries_in_order_text, meta_text, nodes_text, entries_text}
+use Rattle.fuse_store_tables.proofs.SchemaLemmas.{blocks_text as blocks_made_text, handles_text as handles_made_text, answers_text as answers_made_text}
+use Rattle.fuse_store_tables.proofs.MakingLemmas.{fill_text}
+use Rattle.fuse_store_tables.proofs.NodeRows.{insert_text as node_text}
 use Rattle.sqlite_tied.specs.Compute.{everything}
 
 -- ---- a text that changes rows, or makes a table or an index, whatever the schema
@@ -249,6 +253,38 @@ pub index_made_edit : IsEditText (first entries_in_order_text)
 unfolding first everything
 index_made_edit = tt
 
+pub meta_edit : IsEditText (first meta_text)
+unfolding first everything
+meta_edit = tt
+
+pub nodes_edit : IsEditText (first nodes_text)
+unfolding first everything
+nodes_edit = tt
+
+pub entries_edit : IsEditText (first entries_text)
+unfolding first everything
+entries_edit = tt
+
+pub blocks_made_edit : IsEditText (first blocks_made_text)
+unfolding first everything
+blocks_made_edit = tt
+
+pub handles_made_edit : IsEditText (first handles_made_text)
+unfolding first everything
+handles_made_edit = tt
+
+pub answers_made_edit : IsEditText (first answers_made_text)
+unfolding first everything
+answers_made_edit = tt
+
+pub fill_edit : IsEditText (first fill_text)
+unfolding first everything
+fill_edit = tt
+
+pub node_edit : IsEditText (first node_text)
+unfolding first everything
+node_edit = tt
+
 -- ---- so it stays within
 
 module _ (sql : List ℕ) (params : Row) (is : IsEditText (first sql)) where
@@ -322,3 +358,14 @@ nothing_within b d r inside p = record {
   survives = survives_weaker b d _ _ (λ clean db none. none (inside (earlier b d _ p.survives clean))) p.survives;
   kept = λ clean. p.kept clean (inside (earlier b d _ p.survives clean));
 }
+
+-- what was committed before the transaction is kept
+pub keeps_within : {X Y E F : Type 0} (a b d : State) (x : X) (r : Result Y F) → Begins {E = E} a b (Ok x) → StaysWithin b d r → HasCleanDisk d
+    → KeepsCommit a d
+keeps_within a b d x r p q clean =
+    let mid = earlier b d _ q.survives clean in
+    keeps_then a b d (p.kept mid) (q.kept clean (p.begun mid).1)
+
+pub keeps_commit : {X Y Z E F G : Type 0} (a b d e : State) (x : X) (r : Result Y F) (f : G) → Begins {E = E} a b (Ok x) → StaysWithin b d r
+    → Ends {X = Z} d e (Err f) → HasCleanDisk e → KeepsCommit a e
+keeps_commit a b d e x r f p q t clean = keeps_then a d e (keeps_within a b d x r p q (earlier d e _ t.survives clean)) (t.kept clean)

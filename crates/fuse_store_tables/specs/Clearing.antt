@@ -1,10 +1,11 @@
 -- The content of the tables after the begin of a mount (own profile).
-use Rattle.std.specs.Prelude.{ℕ, Bool, not, List, [], map, filter, length, min}
-use Rattle.std.specs.List.{list_any}
+use Rattle.std.specs.Prelude.{ℕ, ◌+◌, ◌-◌, ◌/◌, Bool, not, List, [], map, filter, length, min}
+use Rattle.std.specs.List.{list_any, sum_by}
 use Rattle.std.specs.Ordering.{is_eq, nat_cmp}
 use Rattle.fuse_tree.specs.declared.rows.NodeRow.{NodeRow}
+use Rattle.fuse_tree.specs.Bounds.{block_bytes}
 use Rattle.sqlite.specs.Effect.{Database}
-use Rattle.fuse_store_tables.specs.Content.{Content, is_unnamed, set_counter}
+use Rattle.fuse_store_tables.specs.Content.{Content, is_unnamed, set_counter, value_at}
 use Rattle.fuse_store_tables.specs.Opening.{IsSecond, opened}
 
 abbrev pub unnamed_numbers : List NodeRow → List ℕ
@@ -29,12 +30,23 @@ reached n = min n 9223372036854775807
 abbrev pub counted_to : {X : Type 0} → List X → ℕ
 counted_to xs = reached (length xs)
 
+-- the blocks that a size takes, written or not
+abbrev pub blocks_in : ℕ → ℕ
+blocks_in size = (size + (block_bytes - 1)) / block_bytes
+
+abbrev pub unnamed_blocks : List NodeRow → ℕ
+unnamed_blocks nodes = sum_by (λ n. blocks_in n.size) (filter is_unnamed nodes)
+
+-- The blocks of the unnamed nodes are in use no more. A plain store has no row that counts blocks.
+abbrev pub lowered : Content → Content
+lowered c = set_counter 14 (value_at 14 c - unnamed_blocks c.nodes) c
+
 -- ---- all of them
 
 -- without records, handles, settings and unnamed nodes; the counts are those of the rest
 abbrev pub cleared : Content → Content
 cleared c = record c {
-  counters = (set_counter 5 (counted_to (named c.nodes)) (without_settings (set_counter 6 0 c))).counters;
+  counters = (set_counter 5 (counted_to (named c.nodes)) (without_settings (set_counter 6 0 (lowered c)))).counters;
   nodes = named c.nodes;
   blocks = filter (λ b. not (has_unnamed c.nodes b.node)) c.blocks;
   handles = [];

@@ -157,6 +157,9 @@ renumbered n x = record n { node = x.node }
 abbrev pub set_node : NodeRow → Content → Content
 set_node n c = record c { nodes = set_by node_key n.node (renumbered n) c.nodes }
 
+abbrev pub without_node : ℕ → Content → Content
+without_node node c = record c { nodes = without_by node_key node c.nodes }
+
 -- a node without a name, other than the root
 abbrev pub is_unnamed : NodeRow → Bool
 is_unnamed n = is_eq (nat_cmp n.up 0) && is_gt (nat_cmp n.node 1)
@@ -209,6 +212,10 @@ shown_place e = Int (pos e.cookie) ∷ Int (pos e.child) ∷ []
 abbrev pub shown_handle : HandleRow → Row
 shown_handle h = Int (pos h.node) ∷ Int (pos (access_code h.access)) ∷ []
 
+-- a handle, to one who knows its node
+abbrev pub shown_open : HandleRow → Row
+shown_open h = Int (pos h.fh) ∷ Int (pos (access_code h.access)) ∷ []
+
 abbrev pub shown_kept : Kept → Row
 shown_kept k = Int (pos k.said.errno) ∷ Blob k.said.body ∷ []
 
@@ -218,6 +225,9 @@ has_name dir name e = is_eq (nat_cmp e.dir dir) && is_eq (slice_cmp nat_cmp e.na
 
 abbrev pub stands_after : ℕ → ℕ → EntryRow → Bool
 stands_after dir cookie e = is_eq (nat_cmp e.dir dir) && is_gt (nat_cmp e.cookie cookie)
+
+abbrev pub is_handle_of : ℕ → HandleRow → Bool
+is_handle_of node h = is_eq (nat_cmp h.node node)
 
 -- ---- blocks
 

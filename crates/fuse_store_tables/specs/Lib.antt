@@ -7,4 +7,5 @@ pub mod Making
 pub mod Clearing
 pub mod Opening
 pub mod Saying
+pub mod Refusing
 pub mod inner

@@ -1,5 +1,5 @@
 -- The content of a new store (own profile).
-use Rattle.std.specs.Prelude.{ℕ, List, [], ◌∷◌, ⊤}
+use Rattle.std.specs.Prelude.{ℕ, List, [], ◌∷◌, ◌++◌, Option, Some, None, ⊤}
 use Rattle.sqlite_trees.specs.Tree.{no_trees}
 use Rattle.sqlite.specs.Effect.{Database}
 use Rattle.sqlite.specs.Schema.{Schema}
@@ -12,7 +12,7 @@ use Rattle.fuse_store_tables.specs.Opening.{IsSecond}
 abbrev pub IsBare : Schema → ⊤ → Database → Type 0
 IsBare s _ = HoldsAs s no_trees
 
-abbrev counter : ℕ → ℕ → Counter
+abbrev pub counter : ℕ → ℕ → Counter
 counter key value = record { key = key; value = value }
 
 abbrev pub first_counters : List Counter
@@ -38,8 +38,17 @@ root now = record {
   subdirs = 0;
 }
 
-abbrev pub new_store : Moment → Content
-new_store now = with_node (root now) counters_alone
+-- what an everyday store has more: the number of its profile, its capacity and what is in use of it, in blocks
+abbrev pub room_counters : ℕ → ℕ → List Counter
+room_counters capacity used = counter 12 2 ∷ counter 13 capacity ∷ counter 14 used ∷ []
 
-abbrev pub IsNew : Moment → ⊤ → Database → Type 0
-IsNew now _ = IsSecond (new_store now)
+abbrev pub first_room : Option ℕ → List Counter
+first_room None = []
+first_room (Some capacity) = room_counters capacity 0
+
+-- with a capacity, of the everyday profile
+abbrev pub new_store : Option ℕ → Moment → Content
+new_store room now = with_node (root now) (record counters_alone { counters = first_counters ++ first_room room })
+
+abbrev pub IsNew : Option ℕ → Moment → ⊤ → Database → Type 0
+IsNew room now _ = IsSecond (new_store room now)

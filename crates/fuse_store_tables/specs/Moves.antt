@@ -74,6 +74,16 @@ pub record LeavesAlone (old new : State) : Type 0 where
   pub autocommit : HasCleanDisk new → new.in_transaction ≡ false
   pub same : HasCleanDisk new → IsTrue new.is_open → IsTrue old.is_open × (new.committed ≡ old.committed) × (new.now ≡ new.committed)
 
+-- nothing is committed, whatever the database is
+pub record CommitsNothing (old new : State) : Type 0 where
+  pub survives : Survives old new (λ _. ⊥)
+  pub kept : HasCleanDisk new → KeepsCommit old new
+
+-- a call that only reads
+pub record OnlyReads {X E : Type 0} (old new : State) (result : Result X E) : Type 0 where
+  pub commits : CommitsNothing old new
+  pub same : OnOk result (HasCleanDisk new → new.now ≡ old.now)
+
 -- a whole transaction that leaves the store as it was where it fails
 pub record ServesAs {C X E : Type 0} (P Q : C → Database → Type 0) (old new : State) (result : Result X E) : Type 0 where
   pub survives : Survives old new (λ db. (c : C) → RestsAs (P c) old → LeftAs (Q c) db)

@@ -2,38 +2,79 @@
 use Rattle.std.specs.Prelude.{◌≡◌, ◌≤◌, ◌⊎◌, ◌<◌, ◌^◌, ◌+◌, ℕ, zero, suc, List, [], ◌∷◌, map, length, if◌then◌else◌}
 use Rattle.std.specs.Prelude.{nat_lt, ⊤}
 use Rattle.std.specs.List.{AllByRecursion}
+use Rattle.std.specs.Option.{is_some}
 use Rattle.std.specs.Ordering.{is_eq, nat_cmp}
 use Rattle.sqlite.specs.Effect.{Database}
-use Rattle.fuse_store_tables.specs.Layout.{with_answers}
+use Rattle.fuse_init.specs.declared.profile.Profile.{Profile}
+use Rattle.fuse_init.specs.declared.profile.Profile.TheVariants.{Plain, Everyday}
+use Rattle.fuse_init.specs.Profile.{terms}
+use Rattle.fuse_store_tables.specs.Layout.{with_answers, with_kept}
 use Rattle.fuse_store_tables.specs.Content.{Content, Counter, Answer, Kept, HoldsAs, Holds, stored, value_at, set_counter, with_counter}
+use Rattle.fuse_store_tables.specs.Content.{counter_key, node_key, fh_of, cookie_of, at_by}
 
 -- ---- the rows of `meta`
 
 -- the greatest value of the row with this key
-abbrev pub most : ℕ → ℕ
-most key =
+abbrev pub most : Profile → ℕ → ℕ
+most p key =
     if nat_lt key 5 then 2 ^ 62
+    else (if nat_lt key 6 then (terms p).node_limit
     else (if nat_lt key 7 then 65536
     else (if nat_lt key 8 then 1
     else (if nat_lt key 10 then 4294967295
-    else (if nat_lt key 11 then 9223372036854775807 else 2 ^ 62))))
+    else (if nat_lt key 11 then 9223372036854775807
+    else (if nat_lt key 12 then 2 ^ 62 else 2251799813685247))))))
 
 -- so many rows, whose keys follow each other from this one
-abbrev pub IsMetaFrom : ℕ → ℕ → List Counter → Type 0
-IsMetaFrom key zero [] = ⊤
-IsMetaFrom key zero (c ∷ cs) = ⊥
-IsMetaFrom key (suc n) [] = ⊥
-IsMetaFrom key (suc n) (c ∷ cs) = (c.key ≡ key) × (c.value ≤ most c.key) × IsMetaFrom (key + 1) n cs
+abbrev pub IsMetaFrom : Profile → ℕ → ℕ → List Counter → Type 0
+IsMetaFrom p key zero [] = ⊤
+IsMetaFrom p key zero (c ∷ cs) = ⊥
+IsMetaFrom p key (suc n) [] = ⊥
+IsMetaFrom p key (suc n) (c ∷ cs) = (c.key ≡ key) × (c.value ≤ most p c.key) × IsMetaFrom p (key + 1) n cs
 
-abbrev pub IsMeta : ℕ → Content → Type 0
-IsMeta n c = IsMetaFrom 1 n c.counters
+abbrev pub IsMeta : Profile → ℕ → Content → Type 0
+IsMeta p n c = IsMetaFrom p 1 n c.counters
+
+-- only an everyday store has a row of its profile
+abbrev pub profile_in : Content → Profile
+profile_in c = if is_some (at_by counter_key 12 c.counters) then Everyday else Plain
+
+-- the rows of version 2
+abbrev pub meta_rows : Profile → ℕ
+meta_rows Plain = 11
+meta_rows Everyday = 14
+
+-- the number of the profile; no more blocks are used than there is room for
+abbrev pub HasRoomOf : Profile → Content → Type 0
+HasRoomOf Plain c = ⊤
+HasRoomOf Everyday c = (value_at 12 c ≡ 2) × (value_at 14 c ≤ value_at 13 c)
+
+abbrev pub MetaOf : Profile → Content → Type 0
+MetaOf p c = IsMeta p (meta_rows p) c × HasRoomOf p c
+
+-- ---- the next numbers
+
+-- the numbers of these rows are below the next one
+abbrev pub AllBelow : {X : Type 0} → (X → ℕ) → ℕ → List X → Type 0
+AllBelow key next xs = AllByRecursion (λ x. key x < next) xs
+
+-- each number that is there is below its counter
+pub record AreAbove (c : Content) : Type 0 where
+  pub nodes : AllBelow node_key (value_at 2 c) c.nodes
+  pub handles : AllBelow fh_of (value_at 3 c) c.handles
+  pub entries : AllBelow cookie_of (value_at 4 c) c.entries
+
+-- and so is each lot, in version 2
+abbrev pub LotsAreBelow : Content → Type 0
+LotsAreBelow c = AllBelow (λ lot. lot) (value_at 11 c) c.lots
 
 -- ---- the two versions
 
--- version 1 has neither lots nor records under them
+-- version 1 has neither lots nor records under them, and is of the plain profile
 pub record IsOld (c : Content) : Type 0 where
   pub version : value_at 1 c ≡ 1
-  pub meta : IsMeta 10 c
+  pub meta : IsMeta Plain 10 c
+  pub above : AreAbove c
   pub errnos : AllByRecursion (λ (a : Answer). a.said.errno < 2 ^ 32) c.answers
   pub few : length c.nodes ≤ 65536
   pub no_lots : c.lots ≡ []
@@ -42,9 +83,11 @@ pub record IsOld (c : Content) : Type 0 where
 -- version 2
 pub record IsFit (c : Content) : Type 0 where
   pub version : value_at 1 c ≡ 2
-  pub meta : IsMeta 11 c
+  pub meta : MetaOf (profile_in c) c
+  pub above : AreAbove c
+  pub lots : LotsAreBelow c
   pub errnos : AllByRecursion (λ (k : Kept). k.said.errno < 2 ^ 32) c.kept
-  pub few : length c.nodes ≤ 65536
+  pub few : length c.nodes ≤ (terms (profile_in c)).node_limit
 
 pub record IsFirst (c : Content) (d : Database) : Type 0 where
   pub holds : HoldsAs with_answers (stored c) d
@@ -54,18 +97,33 @@ pub record IsSecond (c : Content) (d : Database) : Type 0 where
   pub holds : Holds c d
   pub fit : IsFit c
 
+-- the tables of version 2 without the index
+abbrev pub HoldsUnindexed : Content → Database → Type 0
+HoldsUnindexed c = HoldsAs with_kept (stored c)
+
+pub record IsUnindexed (c : Content) (d : Database) : Type 0 where
+  pub holds : HoldsUnindexed c d
+  pub fit : IsFit c
+
+-- a store of either version; the index of version 2 may be missing
 abbrev pub IsStored : Content → Database → Type 0
-IsStored c d = IsFirst c d ⊎ IsSecond c d
+IsStored c d = (IsFirst c d ⊎ IsSecond c d) ⊎ IsUnindexed c d
 
 -- ---- the tests of an opening
 
--- the tables are those of one of the versions, whatever their rows
+-- the tables are those of one of the versions, whatever their rows; the index of version 2 may be missing
 abbrev pub IsLaid : Content → Database → Type 0
-IsLaid c d = HoldsAs with_answers (stored c) d ⊎ Holds c d
+IsLaid c d = (HoldsAs with_answers (stored c) d ⊎ Holds c d) ⊎ HoldsUnindexed c d
 
--- the rows of `meta` are those of one of the versions
+-- the rows of `meta` are those of one of the versions and of a profile, and its counters are above all numbers that are there
+abbrev pub HasFirstMeta : Content → Type 0
+HasFirstMeta c = IsMeta Plain 10 c × AreAbove c
+
+abbrev pub HasSecondMeta : Content → Type 0
+HasSecondMeta c = MetaOf (profile_in c) c × AreAbove c × LotsAreBelow c
+
 abbrev pub HasMeta : Content → Type 0
-HasMeta c = ((value_at 1 c ≡ 1) × IsMeta 10 c) ⊎ ((value_at 1 c ≡ 2) × IsMeta 11 c)
+HasMeta c = ((value_at 1 c ≡ 1) × HasFirstMeta c) ⊎ ((value_at 1 c ≡ 2) × HasSecondMeta c)
 
 -- ---- the migration
 
@@ -80,6 +138,7 @@ marked c = set_counter 1 2 (with_counter 11 1 c)
 abbrev pub migrated : Content → Content
 migrated c = record c { counters = (marked c).counters; answers = []; lots = 0 ∷ []; kept = map (under 0) c.answers }
 
+-- The index changes no row.
 abbrev pub opened : Content → Content
 opened c = if is_eq (nat_cmp (value_at 1 c) 1) then migrated c else c
 

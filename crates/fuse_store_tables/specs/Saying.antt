@@ -1,5 +1,5 @@
 -- The databases that are no store, are of another version, or lack a table (own profile).
-use Rattle.std.specs.Prelude.{◌≡◌, ◌≢◌, ◌⊎◌, ℕ, pos, List, [], ◌∷◌, codes, None, Ok, ⊤, Bool, IsTrue}
+use Rattle.std.specs.Prelude.{◌≡◌, ◌≢◌, ◌⊎◌, ℕ, pos, List, [], ◌∷◌, codes, None, Ok, ⊤, Bool, false, IsTrue}
 use Rattle.std.specs.List.{list_all}
 use Rattle.std.specs.Option.{is_some}
 use Rattle.std.specs.Int.{w64, cast_signed}
@@ -11,7 +11,7 @@ use Rattle.sqlite.specs.Effect.{Database, Reads}
 use Rattle.sqlite.specs.Clock.{timed}
 use Rattle.sqlite.specs.Listing.{understood, reads_listing, IsSourceOf}
 use Rattle.sqlite_resolve.specs.declared.compiled.Compiled.{Compiled}
-use Rattle.sqlite_schema.specs.Names.{table_named}
+use Rattle.sqlite_schema.specs.Names.{table_named, index_named}
 use Rattle.fuse_keeper.specs.declared.fault.StoreFault.{StoreFault}
 use Rattle.fuse_keeper.specs.declared.fault.StoreFault.TheVariants.{NotAStore, Version, Damaged}
 
@@ -69,10 +69,16 @@ second_names = codes "nodes" ∷ codes "entries" ∷ codes "blocks" ∷ codes "h
 abbrev pub has_tables : List (List ℕ) → Schema → Bool
 has_tables names schema = list_all (λ name. is_some (table_named schema name)) names
 
+-- the index of version 2
+abbrev pub has_index : Schema → Bool
+has_index schema = is_some (index_named schema (codes "entries_in_order"))
+
 -- it is of one of the two versions, and has all tables of that version
 abbrev pub IsTabled : Database → Type 0
 IsTabled d = (ReportsVersion d 1 × IsTrue (has_tables first_names d.schema)) ⊎ (ReportsVersion d 2 × IsTrue (has_tables second_names d.schema))
 
--- of version 1, with all its tables: the only database that an opening changes
+-- with all its tables, of version 1, or of version 2 without its index: only such a database is changed by an opening
 abbrev pub IsToMigrate : Database → Type 0
-IsToMigrate d = ReportsVersion d 1 × IsTrue (has_tables first_names d.schema)
+IsToMigrate d =
+    (ReportsVersion d 1 × IsTrue (has_tables first_names d.schema))
+    ⊎ (ReportsVersion d 2 × IsTrue (has_tables second_names d.schema) × (has_index d.schema ≡ false))

@@ -1,4 +1,5 @@
 -- What the code does on its way: no public contract cites it (own profile).
+pub mod Checking
 pub mod Columns
 pub mod Following
 pub mod Performing

@@ -1,5 +1,5 @@
 // A new store, made in one transaction.
-ghost use Rattle.std.specs.Prelude.{◌≡◌, false, IsTrue, IfErr, OnOk};
+ghost use Rattle.std.specs.Prelude.{◌≡◌, ◌<◌, ◌^◌, false, None, IsTrue, IfSome, IfErr, IsErrAnd, OnOk};
 ghost use Rattle.sqlite.specs.State.{HasCleanDisk};
 ghost use Rattle.sqlite.specs.Held.{state};
 ghost use Rattle.fuse_store_tables.specs.Faults.{IsOutside};
@@ -7,11 +7,15 @@ ghost use Rattle.fuse_store_tables.specs.Layout.{no_schema, with_meta, with_node
 ghost use Rattle.fuse_store_tables.specs.Layout.{with_blocks, with_handles, with_answers, with_lots};
 ghost use Rattle.fuse_store_tables.specs.Layout.{with_kept, store_schema};
 ghost use Rattle.fuse_store_tables.specs.Making.{IsBare, IsNew};
-ghost use Rattle.fuse_store_tables.specs.inner.Steps.{HasCounters};
-ghost use Rattle.fuse_store_tables.specs.Moves.{Takes, ServesAs, IsSafe};
-ghost use Rattle.fuse_store_tables.specs.inner.Performing.{PerformsAs};
+ghost use Rattle.fuse_store_tables.specs.Refusing.{HasMetaTable, IsOfStore, IsNameTaken};
+ghost use Rattle.fuse_store_tables.specs.inner.Steps.{HasCounters, with_room};
+ghost use Rattle.fuse_store_tables.specs.Moves.{Takes, Makes, ServesAs, IsSafe, LeavesAlone, Begins};
+ghost use Rattle.fuse_store_tables.specs.Moves.{CommitsNothing};
+ghost use Rattle.fuse_store_tables.specs.inner.Performing.{PerformsAs, StaysWithin};
 
-use crate::nodes::insert_node;
+use crate::counters::{CAPACITY, PROFILE, USED, insert_counter};
+use crate::nodes::write_node;
+use crate::profile::EVERYDAY;
 use crate::statements::{begin, commit, run, undo};
 use fuse_keeper::StoreFault;
 use fuse_tree::NodeRow;
@@ -51,63 +55,72 @@ const FILL: &str = "INSERT INTO meta VALUES (1, 2), (2, 2), (3, 1), (4, 3), (5, 
     (7, 0), (8, 0), (9, 0), (10, 0), (11, 1)";
 
 fn make_meta<S: Alter>(conn: &mut Connection<S>) -> Result<(), Error>
-    ensures { Takes (IsBare no_schema) (IsBare with_meta) (state S.Store conn.old)
+    ensures made { Takes (IsBare no_schema) (IsBare with_meta) (state S.Store conn.old)
         (state S.Store conn.new) result }
+    ensures within { StaysWithin (state S.Store conn.old) (state S.Store conn.new) result }
+    ensures taken { HasCleanDisk (state S.Store conn.new)
+        → HasMetaTable (state S.Store conn.old).now.schema → IsErrAnd result IsNameTaken }
 {
     run(conn, META, &[])
 }
 
 fn make_nodes<S: Alter>(conn: &mut Connection<S>) -> Result<(), Error>
-    ensures { Takes (IsBare no_schema) (IsBare with_nodes) (state S.Store conn.old)
+    ensures made { Takes (IsBare with_meta) (IsBare with_nodes) (state S.Store conn.old)
         (state S.Store conn.new) result }
+    ensures within { StaysWithin (state S.Store conn.old) (state S.Store conn.new) result }
 {
-    make_meta(conn)?;
     run(conn, NODES, &[])
 }
 
 fn make_entries<S: Alter>(conn: &mut Connection<S>) -> Result<(), Error>
-    ensures { Takes (IsBare no_schema) (IsBare with_entries) (state S.Store conn.old)
+    ensures made { Takes (IsBare with_meta) (IsBare with_entries) (state S.Store conn.old)
         (state S.Store conn.new) result }
+    ensures within { StaysWithin (state S.Store conn.old) (state S.Store conn.new) result }
 {
     make_nodes(conn)?;
     run(conn, ENTRIES, &[])
 }
 
 fn make_blocks<S: Alter>(conn: &mut Connection<S>) -> Result<(), Error>
-    ensures { Takes (IsBare no_schema) (IsBare with_blocks) (state S.Store conn.old)
+    ensures made { Takes (IsBare with_meta) (IsBare with_blocks) (state S.Store conn.old)
         (state S.Store conn.new) result }
+    ensures within { StaysWithin (state S.Store conn.old) (state S.Store conn.new) result }
 {
     make_entries(conn)?;
     run(conn, BLOCKS, &[])
 }
 
 fn make_handles<S: Alter>(conn: &mut Connection<S>) -> Result<(), Error>
-    ensures { Takes (IsBare no_schema) (IsBare with_handles) (state S.Store conn.old)
+    ensures made { Takes (IsBare with_meta) (IsBare with_handles) (state S.Store conn.old)
         (state S.Store conn.new) result }
+    ensures within { StaysWithin (state S.Store conn.old) (state S.Store conn.new) result }
 {
     make_blocks(conn)?;
     run(conn, HANDLES, &[])
 }
 
 fn make_answers<S: Alter>(conn: &mut Connection<S>) -> Result<(), Error>
-    ensures { Takes (IsBare no_schema) (IsBare with_answers) (state S.Store conn.old)
+    ensures made { Takes (IsBare with_meta) (IsBare with_answers) (state S.Store conn.old)
         (state S.Store conn.new) result }
+    ensures within { StaysWithin (state S.Store conn.old) (state S.Store conn.new) result }
 {
     make_handles(conn)?;
     run(conn, ANSWERS, &[])
 }
 
 fn make_lots<S: Alter>(conn: &mut Connection<S>) -> Result<(), Error>
-    ensures { Takes (IsBare no_schema) (IsBare with_lots) (state S.Store conn.old)
+    ensures made { Takes (IsBare with_meta) (IsBare with_lots) (state S.Store conn.old)
         (state S.Store conn.new) result }
+    ensures within { StaysWithin (state S.Store conn.old) (state S.Store conn.new) result }
 {
     make_answers(conn)?;
     run(conn, LOTS, &[])
 }
 
 fn make_kept<S: Alter>(conn: &mut Connection<S>) -> Result<(), Error>
-    ensures { Takes (IsBare no_schema) (IsBare with_kept) (state S.Store conn.old)
+    ensures made { Takes (IsBare with_meta) (IsBare with_kept) (state S.Store conn.old)
         (state S.Store conn.new) result }
+    ensures within { StaysWithin (state S.Store conn.old) (state S.Store conn.new) result }
 {
     make_lots(conn)?;
     run(conn, KEPT, &[])
@@ -115,27 +128,44 @@ fn make_kept<S: Alter>(conn: &mut Connection<S>) -> Result<(), Error>
 
 // The index is made last: its root page follows those of all tables.
 fn make_entries_in_order<S: Alter>(conn: &mut Connection<S>) -> Result<(), Error>
-    ensures { Takes (IsBare no_schema) (IsBare store_schema) (state S.Store conn.old)
+    ensures made { Takes (IsBare with_meta) (IsBare store_schema) (state S.Store conn.old)
         (state S.Store conn.new) result }
+    ensures within { StaysWithin (state S.Store conn.old) (state S.Store conn.new) result }
 {
     make_kept(conn)?;
     run(conn, ENTRIES_IN_ORDER, &[])
 }
 
 fn fill_meta<S: Alter>(conn: &mut Connection<S>) -> Result<(), Error>
-    ensures { Takes (IsBare no_schema) HasCounters (state S.Store conn.old) (state S.Store conn.new)
+    ensures made { Takes (IsBare with_meta) HasCounters (state S.Store conn.old) (state S.Store conn.new)
         result }
+    ensures within { StaysWithin (state S.Store conn.old) (state S.Store conn.new) result }
 {
     make_entries_in_order(conn)?;
     run(conn, FILL, &[])
 }
 
-// The tables and their first rows.
-fn make_all<S: Alter>(conn: &mut Connection<S>, now: Moment) -> Result<(), Error>
-    ensures { Takes (IsBare no_schema) (IsNew now) (state S.Store conn.old) (state S.Store conn.new)
+// The tables and the counters.
+fn make_tables<S: Alter>(conn: &mut Connection<S>) -> Result<(), Error>
+    ensures made { Takes (IsBare no_schema) HasCounters (state S.Store conn.old) (state S.Store conn.new)
         result }
+    ensures within { StaysWithin (state S.Store conn.old) (state S.Store conn.new) result }
+    ensures taken { HasCleanDisk (state S.Store conn.new)
+        → HasMetaTable (state S.Store conn.old).now.schema → IsErrAnd result IsNameTaken }
 {
-    fill_meta(conn)?;
+    make_meta(conn)?;
+    fill_meta(conn)
+}
+
+// The tables and the first rows of a plain store.
+fn make_plain<S: Alter>(conn: &mut Connection<S>, now: Moment) -> Result<(), Error>
+    ensures made { Takes (IsBare no_schema) (IsNew None now) (state S.Store conn.old)
+        (state S.Store conn.new) result }
+    ensures within { StaysWithin (state S.Store conn.old) (state S.Store conn.new) result }
+    ensures taken { HasCleanDisk (state S.Store conn.new)
+        → HasMetaTable (state S.Store conn.old).now.schema → IsErrAnd result IsNameTaken }
+{
+    make_tables(conn)?;
     let root = NodeRow {
         node: 1,
         mode: 0o040755,
@@ -149,12 +179,43 @@ fn make_all<S: Alter>(conn: &mut Connection<S>, now: Moment) -> Result<(), Error
         up: 0,
         subdirs: 0,
     };
-    insert_node(conn, &root)
+    write_node(conn, &root)
+}
+
+// Makes a plain store one of the everyday profile.
+fn add_room<S: Alter>(conn: &mut Connection<S>, capacity: u64) -> Result<(), Error>
+    requires { capacity < 2 ^ 63 }
+    ensures made { Makes (with_room capacity) (state S.Store conn.old) (state S.Store conn.new)
+        result }
+    ensures within { StaysWithin (state S.Store conn.old) (state S.Store conn.new) result }
+{
+    insert_counter(conn, PROFILE, EVERYDAY)?;
+    insert_counter(conn, CAPACITY, capacity)?;
+    insert_counter(conn, USED, 0)
+}
+
+// The tables and their first rows. A store with a capacity is of the everyday profile.
+fn make_all<S: Alter>(conn: &mut Connection<S>, room: Option<u64>, now: Moment) -> Result<(), Error>
+    requires { IfSome room (λ capacity. capacity < 2 ^ 51) }
+    ensures made { Takes (IsBare no_schema) (IsNew room now) (state S.Store conn.old)
+        (state S.Store conn.new) result }
+    ensures within { StaysWithin (state S.Store conn.old) (state S.Store conn.new) result }
+{
+    make_plain(conn, now)?;
+    match room {
+        None => Ok(()),
+        Some(capacity) => add_room(conn, capacity),
+    }
 }
 
 // The transaction. A fault may leave it open.
-fn transact<S: Alter>(conn: &mut Connection<S>, now: Moment) -> Result<(), StoreFault>
-    ensures performs { PerformsAs (IsBare no_schema) (IsNew now) (state S.Store conn.old)
+fn transact<S: Alter>(
+    conn: &mut Connection<S>,
+    room: Option<u64>,
+    now: Moment,
+) -> Result<(), StoreFault>
+    requires { IfSome room (λ capacity. capacity < 2 ^ 51) }
+    ensures performs { PerformsAs (IsBare no_schema) (IsNew room now) (state S.Store conn.old)
         (state S.Store conn.new) result }
     ensures fault { IsSafe (IsBare no_schema) (state S.Store conn.old) (state S.Store conn.new)
         result }
@@ -165,14 +226,20 @@ fn transact<S: Alter>(conn: &mut Connection<S>, now: Moment) -> Result<(), Store
         → (state S.Store conn.new).in_transaction ≡ false) }
 {
     begin(conn)?;
-    make_all(conn, now)?;
+    make_all(conn, room, now)?;
     commit(conn)?;
     Ok(())
 }
 
-/// Makes a new store in a database without tables. The commit is its last call of the database.
-pub fn make_store<S: Alter>(conn: &mut Connection<S>, now: Moment) -> Result<(), StoreFault>
-    ensures serves { ServesAs (IsBare no_schema) (IsNew now) (state S.Store conn.old)
+/// Makes a new store in a database without tables: an everyday store where it has a capacity, in
+/// blocks, and else a plain one. The commit is its last call of the database.
+pub fn make_store<S: Alter>(
+    conn: &mut Connection<S>,
+    room: Option<u64>,
+    now: Moment,
+) -> Result<(), StoreFault>
+    requires { IfSome room (λ capacity. capacity < 2 ^ 51) }
+    ensures serves { ServesAs (IsBare no_schema) (IsNew room now) (state S.Store conn.old)
         (state S.Store conn.new) result }
     ensures fault { IsSafe (IsBare no_schema) (state S.Store conn.old) (state S.Store conn.new)
         result }
@@ -184,11 +251,45 @@ pub fn make_store<S: Alter>(conn: &mut Connection<S>, now: Moment) -> Result<(),
     ensures ended { HasCleanDisk (state S.Store conn.new)
         → (state S.Store conn.new).in_transaction ≡ false }
 {
-    match transact(conn, now) {
+    match transact(conn, room, now) {
         Ok(()) => Ok(()),
         Err(fault) => {
             undo(conn);
             Err(fault)
         }
     }
+}
+
+// Begins a transaction. Outside of one only the database may refuse it.
+fn begin_first<S: Alter>(conn: &mut Connection<S>) -> Result<(), Error>
+    ensures begins { Begins (state S.Store conn.old) (state S.Store conn.new) result }
+    ensures fails { HasCleanDisk (state S.Store conn.new)
+        → (state S.Store conn.old).in_transaction ≡ false → IfErr result IsOfStore }
+{
+    run(conn, "BEGIN", &[])
+}
+
+// The transaction without its commit.
+fn attempt<S: Alter>(conn: &mut Connection<S>, now: Moment) -> Result<(), Error>
+    ensures nothing { CommitsNothing (state S.Store conn.old) (state S.Store conn.new) }
+    ensures taken { HasCleanDisk (state S.Store conn.new)
+        → (state S.Store conn.old).in_transaction ≡ false
+        → HasMetaTable (state S.Store conn.old).now.schema → IsErrAnd result IsNameTaken }
+{
+    begin_first(conn)?;
+    make_plain(conn, now)
+}
+
+/// Makes the statements of a new store in any database, and takes them back. The error is the one
+/// that SQLite gave.
+pub fn try_store<S: Alter>(conn: &mut Connection<S>, now: Moment) -> Result<(), Error>
+    ensures alone { LeavesAlone (state S.Store conn.old) (state S.Store conn.new) }
+    // Where the first table is there, its statement is refused.
+    ensures taken { HasCleanDisk (state S.Store conn.new)
+        → (state S.Store conn.old).in_transaction ≡ false
+        → HasMetaTable (state S.Store conn.old).now.schema → IsErrAnd result IsNameTaken }
+{
+    let tried = attempt(conn, now);
+    undo(conn);
+    tried
 }

@@ -1,30 +1,34 @@
 // The opening of a store for a mount that begins, in one transaction.
-ghost use Rattle.std.specs.Prelude.{◌≡◌, false, IsTrue, OnOk, IfErr};
-ghost use Rattle.sqlite.specs.State.{HasCleanDisk};
+ghost use Rattle.std.specs.Prelude.{◌≡◌, false, IsTrue, IfOk, OnOk, OnErr, IfErr};
+ghost use Rattle.sqlite.specs.State.{HasCleanDisk, KeepsCommit};
 ghost use Rattle.sqlite.specs.Held.{state};
 ghost use Rattle.fuse_store_tables.specs.Saying.{Says, IsTabled, IsRefusal};
 ghost use Rattle.fuse_store_tables.specs.Content.{Content};
 ghost use Rattle.fuse_store_tables.specs.Clearing.{IsBegun};
-ghost use Rattle.fuse_store_tables.specs.Moves.{RestsAs, Takes, ServesAs, IsSafe, LeavesAlone};
+ghost use Rattle.fuse_store_tables.specs.Moves.{RestsAs, InsideAs, Takes, ServesAs, IsSafe};
+ghost use Rattle.fuse_store_tables.specs.Moves.{LeavesAlone};
 ghost use Rattle.fuse_store_tables.specs.inner.Performing.{PerformsAs, IsSure, CommitsNothing};
 ghost use Rattle.fuse_store_tables.specs.inner.Performing.{OnlyReads, StaysWithin};
-ghost use Rattle.fuse_store_tables.specs.Opening.{IsStored, IsLaid, HasMeta};
+ghost use Rattle.fuse_store_tables.specs.Opening.{IsStored, IsLaid, HasMeta, profile_in};
 ghost use Rattle.fuse_store_tables.specs.inner.Steps.{Tests};
 
 use crate::mount::clear;
 use crate::setup::{law_of_rest, work};
 use crate::statements::{begin, commit, undo};
+use fuse_init::Profile;
 use fuse_keeper::StoreFault;
 use sqlite::{Alter, Connection};
 
 // Opens the store, and deletes all state of the last mount.
-fn renew<S: Alter>(conn: &mut Connection<S>) -> Result<(), StoreFault>
+fn renew<S: Alter>(conn: &mut Connection<S>) -> Result<Profile, StoreFault>
     ensures begun { Takes IsStored IsBegun (state S.Store conn.old) (state S.Store conn.new)
         result }
     ensures fault { IsSure IsStored (state S.Store conn.old) (state S.Store conn.new) result }
     ensures says { HasCleanDisk (state S.Store conn.new)
         → IfErr result (Says (state S.Store conn.old).now) }
     ensures whole { Tests HasMeta (state S.Store conn.old) (state S.Store conn.new) result }
+    ensures profile { HasCleanDisk (state S.Store conn.new) → IfOk result (λ p. (c : Content)
+        → InsideAs (IsLaid c) (state S.Store conn.old) → p ≡ profile_in c) }
     ensures tabled { HasCleanDisk (state S.Store conn.new)
         → OnOk result (IsTabled (state S.Store conn.old).now) }
     ensures alone { (HasCleanDisk (state S.Store conn.new)
@@ -33,13 +37,16 @@ fn renew<S: Alter>(conn: &mut Connection<S>) -> Result<(), StoreFault>
     ensures within { StaysWithin (state S.Store conn.old) (state S.Store conn.new) result }
 {
     match work(conn) {
-        Ok(()) => clear(conn),
+        Ok(profile) => {
+            clear(conn)?;
+            Ok(profile)
+        }
         Err(fault) => Err(fault),
     }
 }
 
 // The transaction. A fault may leave it open.
-fn transact<S: Alter>(conn: &mut Connection<S>) -> Result<(), StoreFault>
+fn transact<S: Alter>(conn: &mut Connection<S>) -> Result<Profile, StoreFault>
     ensures performs { PerformsAs IsStored IsBegun (state S.Store conn.old)
         (state S.Store conn.new) result }
     ensures fault { IsSafe IsStored (state S.Store conn.old) (state S.Store conn.new) result }
@@ -49,12 +56,16 @@ fn transact<S: Alter>(conn: &mut Connection<S>) -> Result<(), StoreFault>
         → IfErr result (Says (state S.Store conn.old).now) }
     ensures whole { HasCleanDisk (state S.Store conn.new) → OnOk result ((c : Content)
         → RestsAs (IsLaid c) (state S.Store conn.old) → HasMeta c) }
+    ensures profile { HasCleanDisk (state S.Store conn.new) → IfOk result (λ p. (c : Content)
+        → RestsAs (IsLaid c) (state S.Store conn.old) → p ≡ profile_in c) }
     ensures tabled { HasCleanDisk (state S.Store conn.new)
         → OnOk result (IsTabled (state S.Store conn.old).now) }
     ensures alone { (IsTabled (state S.Store conn.old).now → ⊥)
         → CommitsNothing (state S.Store conn.old) (state S.Store conn.new) }
     ensures refused { IfErr result (λ f. IsRefusal f
         → CommitsNothing (state S.Store conn.old) (state S.Store conn.new)) }
+    ensures keeps { OnErr result (HasCleanDisk (state S.Store conn.new)
+        → KeepsCommit (state S.Store conn.old) (state S.Store conn.new)) }
     ensures ended { OnOk result (HasCleanDisk (state S.Store conn.new)
         → ((state S.Store conn.new).in_transaction ≡ false)
         × ((state S.Store conn.new).now ≡ (state S.Store conn.new).committed)) }
@@ -62,9 +73,9 @@ fn transact<S: Alter>(conn: &mut Connection<S>) -> Result<(), StoreFault>
     law_of_rest(conn);
     begin(conn)?;
     match renew(conn) {
-        Ok(()) => {
+        Ok(profile) => {
             commit(conn)?;
-            Ok(())
+            Ok(profile)
         }
         Err(fault) => Err(fault),
     }
@@ -72,7 +83,7 @@ fn transact<S: Alter>(conn: &mut Connection<S>) -> Result<(), StoreFault>
 
 /// Opens a store as `set_up` does, and begins a mount of it in the same transaction. The commit is
 /// its last call of the database.
-pub fn set_up_fresh<S: Alter>(conn: &mut Connection<S>) -> Result<(), StoreFault>
+pub fn set_up_fresh<S: Alter>(conn: &mut Connection<S>) -> Result<Profile, StoreFault>
     ensures serves { ServesAs IsStored IsBegun (state S.Store conn.old) (state S.Store conn.new)
         result }
     ensures fault { IsSafe IsStored (state S.Store conn.old) (state S.Store conn.new) result }
@@ -80,9 +91,12 @@ pub fn set_up_fresh<S: Alter>(conn: &mut Connection<S>) -> Result<(), StoreFault
         → OnOk result (IsTrue (state S.Store conn.old).is_open) }
     ensures says { HasCleanDisk (state S.Store conn.new)
         → IfErr result (Says (state S.Store conn.old).now) }
-    // A store with a damaged `meta` or without one of its tables is never opened.
+    // A store with a damaged `meta`, a counter that would give a number out again, or a missing table
+    // is never opened.
     ensures whole { HasCleanDisk (state S.Store conn.new) → OnOk result ((c : Content)
         → RestsAs (IsLaid c) (state S.Store conn.old) → HasMeta c) }
+    ensures profile { HasCleanDisk (state S.Store conn.new) → IfOk result (λ p. (c : Content)
+        → RestsAs (IsLaid c) (state S.Store conn.old) → p ≡ profile_in c) }
     ensures tabled { HasCleanDisk (state S.Store conn.new)
         → OnOk result (IsTabled (state S.Store conn.old).now) }
     // Only a store with all its tables is changed, however the call ends,
@@ -93,9 +107,14 @@ pub fn set_up_fresh<S: Alter>(conn: &mut Connection<S>) -> Result<(), StoreFault
         → LeavesAlone (state S.Store conn.old) (state S.Store conn.new)) }
     ensures ended { HasCleanDisk (state S.Store conn.new)
         → (state S.Store conn.new).in_transaction ≡ false }
+    // Where the call fails, what was committed before is seen, whatever the database.
+    ensures undone { OnErr result (HasCleanDisk (state S.Store conn.new)
+        → IsTrue (state S.Store conn.new).is_open
+        → ((state S.Store conn.new).now ≡ (state S.Store conn.old).committed)
+        × ((state S.Store conn.new).committed ≡ (state S.Store conn.old).committed)) }
 {
     match transact(conn) {
-        Ok(()) => Ok(()),
+        Ok(profile) => Ok(profile),
         Err(fault) => {
             undo(conn);
             Err(fault)

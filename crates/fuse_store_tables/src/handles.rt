@@ -1,5 +1,6 @@
 // The table of handles.
-ghost use Rattle.std.specs.Prelude.{◌≡◌, ◌<◌, ◌^◌, [], ◌∷◌, pos, map, IfOk, OnOk, OnErr};
+ghost use Rattle.std.specs.Prelude.{◌≡◌, ◌<◌, ◌^◌, [], ◌∷◌, pos, map, take, filter, IfOk, OnOk};
+ghost use Rattle.std.specs.Prelude.{OnErr};
 ghost use Rattle.std.specs.Option.{option_to_list};
 ghost use Rattle.sqlite.specs.declared.types.Value.TheVariants.{Int};
 ghost use Rattle.sqlite.specs.State.{HasCleanDisk};
@@ -8,12 +9,13 @@ ghost use Rattle.sqlite.specs.Values.{bound};
 ghost use Rattle.fuse_tree.specs.Columns.{FitsHandle};
 ghost use Rattle.fuse_store_tables.specs.Moves.{Inside, Makes, Looked, Stays};
 ghost use Rattle.fuse_store_tables.specs.Content.{Content, access_code, fh_of, at_by, with_handle};
-ghost use Rattle.fuse_store_tables.specs.Content.{without_handle, shown_handle};
+ghost use Rattle.fuse_store_tables.specs.Content.{without_handle, shown_handle, shown_open};
+ghost use Rattle.fuse_store_tables.specs.Content.{is_handle_of};
 ghost use Rattle.fuse_store_tables.specs.inner.Steps.{without_handles};
 ghost use Rattle.fuse_store_tables.specs.inner.Performing.{StaysWithin};
 
 use crate::statements::run;
-use crate::values::number;
+use crate::values::{number, pair};
 use fuse_tree::HandleRow;
 use fuse_wire::AccessMode;
 use sqlite::types::{ToSql, ValueRef};
@@ -26,6 +28,8 @@ const DELETE: &str = "DELETE FROM handles WHERE fh = ?1";
 const DELETE_ALL: &str = "DELETE FROM handles";
 
 const SELECT: &str = "SELECT node, access FROM handles WHERE fh = ?1";
+
+const SELECT_OF: &str = "SELECT fh, access FROM handles WHERE node = ?1 ORDER BY fh LIMIT ?2";
 
 // The number of an access mode.
 fn code_of(access: AccessMode) -> u32
@@ -88,4 +92,22 @@ pub fn select_handle<S: Alter>(conn: &mut Connection<S>, fh: u64) -> Result<Vec<
 {
     let values = number(fh);
     conn.query_all(SELECT, &values)
+}
+
+/// At most `limit` handles of a node, in rising order.
+pub fn select_handles_of<S: Alter>(
+    conn: &mut Connection<S>,
+    node: u64,
+    limit: u64,
+) -> Result<Vec<Row>, Error>
+    requires node { node < 2 ^ 63 }
+    requires limit { limit < 2 ^ 63 }
+    ensures looks { OnOk result (Looked (state S.Store conn.old) (state S.Store conn.new)) }
+    ensures fails { OnErr result (Stays (state S.Store conn.old) (state S.Store conn.new)) }
+    ensures found { HasCleanDisk (state S.Store conn.new) → IfOk result (λ rows. (c : Content)
+        → Inside c (state S.Store conn.old)
+        → rows.items ≡ take limit (map shown_open (filter (is_handle_of node) c.handles))) }
+{
+    let values = pair(node, limit);
+    conn.query_all(SELECT_OF, &values)
 }

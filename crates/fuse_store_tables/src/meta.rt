@@ -1,5 +1,5 @@
 // The table `meta` of either version, as the opening of a store reads it.
-ghost use Rattle.std.specs.Prelude.{◌≡◌, ◌≤◌, ◌∷◌, [], ℕ, List, map, pos, IfOk, IfErr, OnOk};
+ghost use Rattle.std.specs.Prelude.{◌≡◌, ◌≤◌, ◌∷◌, [], ℕ, ⊤, List, map, pos, IfOk, IfErr, OnOk};
 ghost use Rattle.std.specs.Int.{w64, cast_signed};
 ghost use Rattle.std.specs.Option.{option_to_list};
 ghost use Rattle.sqlite.specs.State.{HasCleanDisk};
@@ -7,6 +7,7 @@ ghost use Rattle.sqlite.specs.Held.{state};
 ghost use Rattle.sqlite.specs.Effect.{Database};
 ghost use Rattle.sqlite.specs.Order.{column};
 ghost use Rattle.sqlite.specs.declared.types.Value.TheVariants.{Int};
+ghost use Rattle.fuse_init.specs.declared.profile.Profile.TheVariants.{Plain};
 ghost use Rattle.fuse_keeper.specs.declared.fault.StoreFault.TheVariants.{Damaged};
 ghost use Rattle.fuse_store_tables.specs.Content.{Content, Counter, shown_counter, counter_key, at_by};
 ghost use Rattle.fuse_store_tables.specs.Content.{value_at};
@@ -16,11 +17,14 @@ ghost use Rattle.fuse_store_tables.specs.Saying.{Says};
 ghost use Rattle.fuse_store_tables.specs.Moves.{InsideAs, Takes};
 ghost use Rattle.fuse_store_tables.specs.inner.Performing.{IsSure, OnlyReads};
 ghost use Rattle.fuse_store_tables.specs.Opening.{IsStored, IsLaid, IsMetaFrom, IsMeta, most};
-ghost use Rattle.fuse_store_tables.specs.inner.Steps.{Tests};
+ghost use Rattle.fuse_store_tables.specs.Opening.{MetaOf, profile_in};
+ghost use Rattle.fuse_store_tables.specs.inner.Checking.{ChecksIf};
 ghost use Rattle.fuse_store_tables.specs.inner.Columns.{shown_meta};
 ghost use Rattle.fuse_store_tables.specs.inner.Performing.{StaysWithin};
 
 use crate::columns::{misread, number_at};
+use crate::profile::{check_profile, node_limit};
+use fuse_init::Profile;
 use fuse_keeper::StoreFault;
 use sqlite::{Alter, Connection, Error, Row};
 
@@ -49,10 +53,6 @@ fn select_version<S: Alter>(conn: &mut Connection<S>) -> Result<Vec<Row>, Error>
 
 // All rows of `meta`, in the order of their keys.
 fn select_meta<S: Alter>(conn: &mut Connection<S>) -> Result<Vec<Row>, Error>
-    ensures unchanged { Takes IsStored IsStored (state S.Store conn.old) (state S.Store conn.new)
-        result }
-    ensures found { HasCleanDisk (state S.Store conn.new) → IfOk result (λ rows. (c : Content)
-        → InsideAs (IsStored c) (state S.Store conn.old) → rows.items ≡ map shown_meta c.counters) }
     ensures laid { Takes IsLaid IsLaid (state S.Store conn.old) (state S.Store conn.new) result }
     ensures shows { HasCleanDisk (state S.Store conn.new) → IfOk result (λ rows. (c : Content)
         → InsideAs (IsLaid c) (state S.Store conn.old) → rows.items ≡ map shown_meta c.counters) }
@@ -114,11 +114,13 @@ pub(crate) fn find_version<S: Alter>(conn: &mut Connection<S>) -> Result<u64, St
 }
 
 // The greatest value of the row of `meta` with this key.
-fn most(key: u64) -> u64
-    ensures { result ≡ most key }
+fn most(profile: Profile, key: u64) -> u64
+    ensures { result ≡ most profile key }
 {
     if key < 5 {
         1 << 62
+    } else if key < 6 {
+        node_limit(profile)
     } else if key < 7 {
         65536
     } else if key < 8 {
@@ -127,44 +129,46 @@ fn most(key: u64) -> u64
         4294967295
     } else if key < 11 {
         9223372036854775807
-    } else {
+    } else if key < 12 {
         1 << 62
+    } else {
+        (1 << 51) - 1
     }
 }
 
 // Tests that the row has this key, and a value in range.
-fn check_row(row: &Row, key: u64) -> Result<(), StoreFault>
+fn check_row(row: &Row, profile: Profile, key: u64) -> Result<(), StoreFault>
     ensures plain { IfErr result IsPlain }
     ensures fault { IfErr result (λ f. (c : Counter) → row.now ≡ shown_meta c → c.key ≡ key
-        → c.value ≤ most c.key → IsOutside f) }
+        → c.value ≤ most profile c.key → IsOutside f) }
     ensures whole { OnOk result ((c : Counter) → row.now ≡ shown_meta c
-        → (c.key ≡ key) × (c.value ≤ most c.key)) }
+        → (c.key ≡ key) × (c.value ≤ most profile c.key)) }
 {
     let found = number_at(row, 0)?;
     let value = number_at(row, 1)?;
     if found != key {
         return Err(StoreFault::Damaged);
     }
-    if value > most(key) {
+    if value > most(profile, key) {
         return Err(StoreFault::Damaged);
     }
     Ok(())
 }
 
-// Tests that the keys of the rows count from 1 to `last`, and that the values are in range.
-fn check_rows(rows: &[Row], count: usize) -> Result<(), StoreFault>
+/// Tests that the keys of the rows count from 1 to `count`, and that the values are in range.
+pub(crate) fn check_rows(rows: &[Row], profile: Profile, count: usize) -> Result<(), StoreFault>
     ensures plain { IfErr result IsPlain }
     ensures fault { IfErr result (λ f. (cs : List Counter) → rows.now ≡ map shown_meta cs
-        → IsMetaFrom 1 count cs → IsOutside f) }
+        → IsMetaFrom profile 1 count cs → IsOutside f) }
     ensures whole { OnOk result ((cs : List Counter) → rows.now ≡ map shown_meta cs
-        → IsMetaFrom 1 count cs) }
+        → IsMetaFrom profile 1 count cs) }
 {
     if rows.len() != count {
         return Err(StoreFault::Damaged);
     }
     let mut at = 0;
     'rows: while at < rows.len() {
-        match check_row(&rows[at], at as u64 + 1) {
+        match check_row(&rows[at], profile, at as u64 + 1) {
             Ok(()) => {}
             Err(fault) => return Err(fault),
         }
@@ -173,18 +177,26 @@ fn check_rows(rows: &[Row], count: usize) -> Result<(), StoreFault>
     Ok(())
 }
 
-/// Tests the keys and the values of `meta`.
-pub(crate) fn check_meta<S: Alter>(conn: &mut Connection<S>, count: usize) -> Result<(), StoreFault>
-    ensures unchanged { Takes IsStored IsStored (state S.Store conn.old) (state S.Store conn.new)
-        result }
-    ensures fault { HasCleanDisk (state S.Store conn.new) → IfErr result (λ f. (c : Content)
-        → InsideAs (IsStored c) (state S.Store conn.old) → IsMetaFrom 1 count c.counters
-        → IsOutside f) }
-    ensures plain { IfErr result IsPlain }
-    ensures whole { Tests (IsMeta count) (state S.Store conn.old) (state S.Store conn.new) result }
-    ensures reads { OnlyReads (state S.Store conn.old) (state S.Store conn.new) result }
-    ensures within { StaysWithin (state S.Store conn.old) (state S.Store conn.new) result }
+/// Tests the keys and the values of `meta` of version 1, and returns its rows.
+pub(crate) fn check_first_meta<S: Alter>(conn: &mut Connection<S>) -> Result<Vec<Row>, StoreFault>
+    ensures checks { ChecksIf (λ _. ⊤) (IsMeta Plain 10) (state S.Store conn.old)
+        (state S.Store conn.new) result }
+    ensures shows { HasCleanDisk (state S.Store conn.new) → IfOk result (λ rows. (c : Content)
+        → InsideAs (IsLaid c) (state S.Store conn.old) → rows.items ≡ map shown_meta c.counters) }
 {
     let rows = select_meta(conn)?;
-    check_rows(rows.as_slice(), count)
+    check_rows(rows.as_slice(), Profile::Plain, 10)?;
+    Ok(rows)
+}
+
+/// The same of version 2, of either profile.
+pub(crate) fn check_second_meta<S: Alter>(conn: &mut Connection<S>) -> Result<Vec<Row>, StoreFault>
+    ensures checks { ChecksIf (λ _. ⊤) (λ c. MetaOf (profile_in c) c) (state S.Store conn.old)
+        (state S.Store conn.new) result }
+    ensures shows { HasCleanDisk (state S.Store conn.new) → IfOk result (λ rows. (c : Content)
+        → InsideAs (IsLaid c) (state S.Store conn.old) → rows.items ≡ map shown_meta c.counters) }
+{
+    let rows = select_meta(conn)?;
+    check_profile(rows.as_slice())?;
+    Ok(rows)
 }

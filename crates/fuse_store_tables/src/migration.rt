@@ -1,7 +1,8 @@
-// The migration of a store from version 1 to version 2.
+// The migration of a store from version 1 to version 2, and the index of a store without it.
 ghost use Rattle.sqlite.specs.Held.{state};
 ghost use Rattle.fuse_store_tables.specs.Moves.{Takes, Makes};
-ghost use Rattle.fuse_store_tables.specs.Opening.{IsFirst, IsOpened};
+ghost use Rattle.fuse_store_tables.specs.Content.{Holds};
+ghost use Rattle.fuse_store_tables.specs.Opening.{IsFirst, IsOpened, HoldsUnindexed};
 ghost use Rattle.fuse_store_tables.specs.inner.Steps.{HasLots, HasKept, HasTables, moved};
 ghost use Rattle.fuse_store_tables.specs.Opening.{marked};
 ghost use Rattle.fuse_store_tables.specs.inner.Performing.{StaysWithin};
@@ -27,13 +28,21 @@ fn add_kept<S: Alter>(conn: &mut Connection<S>) -> Result<(), Error>
     run(conn, KEPT, &[])
 }
 
-// The index is made after all tables, as in a new store.
+/// The index of version 2. It is made after all tables, as in a new store.
+pub(crate) fn add_index<S: Alter>(conn: &mut Connection<S>) -> Result<(), Error>
+    ensures made { Takes HoldsUnindexed Holds (state S.Store conn.old) (state S.Store conn.new)
+        result }
+    ensures within { StaysWithin (state S.Store conn.old) (state S.Store conn.new) result }
+{
+    run(conn, ENTRIES_IN_ORDER, &[])
+}
+
 fn add_tables<S: Alter>(conn: &mut Connection<S>) -> Result<(), Error>
     ensures made { Takes IsFirst HasTables (state S.Store conn.old) (state S.Store conn.new) result }
     ensures within { StaysWithin (state S.Store conn.old) (state S.Store conn.new) result }
 {
     add_kept(conn)?;
-    run(conn, ENTRIES_IN_ORDER, &[])
+    add_index(conn)
 }
 
 // Puts the records under lot 0.

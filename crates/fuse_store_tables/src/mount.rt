@@ -24,6 +24,7 @@ use crate::handles::delete_all_handles;
 use crate::nodes::{count_nodes, delete_unnamed, select_unnamed};
 use crate::records::{delete_all_kept, delete_all_lots};
 use crate::statements::{begin, commit, undo};
+use crate::used::lower_used;
 use fuse_keeper::StoreFault;
 use sqlite::{Alter, Connection, Error, Row};
 
@@ -123,6 +124,7 @@ pub(crate) fn clear<S: Alter>(conn: &mut Connection<S>) -> Result<(), StoreFault
     ensures plain { IfErr result IsPlain }
     ensures within { StaysWithin (state S.Store conn.old) (state S.Store conn.new) result }
 {
+    lower_used(conn)?;
     clear_records(conn)?;
     clear_handles(conn)?;
     clear_settings(conn)?;
@@ -151,7 +153,7 @@ fn transact<S: Alter>(conn: &mut Connection<S>) -> Result<(), StoreFault>
 }
 
 /// Begins a mount: deletes records, lots, handles, settings, and nodes without a name with their
-/// blocks. The commit is its last call of the database.
+/// blocks, which are in use no more. The commit is its last call of the database.
 pub fn begin_mount<S: Alter>(conn: &mut Connection<S>) -> Result<(), StoreFault>
     ensures serves { Serves cleared (state S.Store conn.old) (state S.Store conn.new) result }
     ensures fit { ServesAs IsSecond (λ c. IsSecond (cleared c)) (state S.Store conn.old)

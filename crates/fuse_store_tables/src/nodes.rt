@@ -1,16 +1,18 @@
 // The table of nodes.
 ghost use Rattle.std.specs.Prelude.{◌≡◌, ◌<◌, ◌^◌, [], ◌∷◌, map, IfOk, IfErr, OnOk, OnErr};
 ghost use Rattle.std.specs.Option.{option_to_list};
+ghost use Rattle.std.specs.List.{sum_by};
 ghost use Rattle.sqlite.specs.State.{HasCleanDisk};
 ghost use Rattle.sqlite.specs.Held.{state};
 ghost use Rattle.sqlite.specs.Values.{bound};
 ghost use Rattle.fuse_tree.specs.Columns.{FitsNode};
-ghost use Rattle.fuse_store_tables.specs.Moves.{Inside, Makes, Looked, Stays};
+ghost use Rattle.fuse_store_tables.specs.Moves.{Inside, Rests, Makes, Looked, Stays, Serves};
+ghost use Rattle.fuse_store_tables.specs.Moves.{StaysOpen, IsSafe, OnlyReads};
 ghost use Rattle.fuse_store_tables.specs.inner.Performing.{IsSure, StaysWithin};
 ghost use Rattle.fuse_store_tables.specs.Content.{Content, Holds, node_columns, node_key};
 ghost use Rattle.fuse_store_tables.specs.inner.Columns.{given_node, shown_number};
-ghost use Rattle.fuse_store_tables.specs.Content.{at_by, with_node, set_node};
-ghost use Rattle.fuse_store_tables.specs.inner.Steps.{without_unnamed};
+ghost use Rattle.fuse_store_tables.specs.Content.{at_by, with_node, set_node, without_node};
+ghost use Rattle.fuse_store_tables.specs.inner.Steps.{without_unnamed, unnamed_sizes};
 ghost use Rattle.fuse_store_tables.specs.Clearing.{counted_to, unnamed_numbers};
 ghost use Rattle.fuse_store_tables.specs.Faults.{IsPlain};
 
@@ -29,14 +31,20 @@ const UPDATE: &str = "UPDATE nodes SET mode = ?2, uid = ?3, gid = ?4, rdev = ?5,
     atime = ?7, atimensec = ?8, mtime = ?9, mtimensec = ?10, ctime = ?11, ctimensec = ?12, \
     up = ?13, subdirs = ?14 WHERE node = ?1";
 
+const DELETE: &str = "DELETE FROM nodes WHERE node = ?1";
+
 const SELECT: &str = "SELECT mode, uid, gid, rdev, size, atime, atimensec, mtime, mtimensec, \
     ctime, ctimensec, up, subdirs FROM nodes WHERE node = ?1";
 
 const SELECT_UNNAMED: &str = "SELECT node FROM nodes WHERE up = 0 AND node > 1 ORDER BY node";
 
+const SELECT_UNNAMED_SIZES: &str = "SELECT size FROM nodes WHERE up = 0 AND node > 1 ORDER BY node";
+
 const DELETE_UNNAMED: &str = "DELETE FROM nodes WHERE up = 0 AND node > 1";
 
 const COUNT: &str = "SELECT count(*) FROM nodes";
+
+const SUM_SIZES: &str = "SELECT coalesce(sum(size), 0) FROM nodes";
 
 // The parameters of a node.
 fn node_values(row: &NodeRow) -> [ValueRef<'static>; 14]
@@ -62,12 +70,22 @@ fn node_values(row: &NodeRow) -> [ValueRef<'static>; 14]
 }
 
 /// Adds a node with a new number.
+pub(crate) fn write_node<S: Alter>(conn: &mut Connection<S>, row: &NodeRow) -> Result<(), Error>
+    requires { FitsNode row.now }
+    ensures made { Makes (with_node row.now) (state S.Store conn.old) (state S.Store conn.new)
+        result }
+    ensures within { StaysWithin (state S.Store conn.old) (state S.Store conn.new) result }
+{
+    let values = node_values(row);
+    run(conn, INSERT, &values)
+}
+
+/// Adds a node with a new number.
 pub fn insert_node<S: Alter>(conn: &mut Connection<S>, row: &NodeRow) -> Result<(), Error>
     requires { FitsNode row.now }
     ensures { Makes (with_node row.now) (state S.Store conn.old) (state S.Store conn.new) result }
 {
-    let values = node_values(row);
-    run(conn, INSERT, &values)
+    write_node(conn, row)
 }
 
 /// Changes the node of this number, if there is one.
@@ -77,6 +95,15 @@ pub fn update_node<S: Alter>(conn: &mut Connection<S>, row: &NodeRow) -> Result<
 {
     let values = node_values(row);
     run(conn, UPDATE, &values)
+}
+
+/// Deletes the node of this number, if there is one. Its blocks, entries and handles go before it.
+pub fn delete_node<S: Alter>(conn: &mut Connection<S>, node: u64) -> Result<(), Error>
+    requires { node < 2 ^ 63 }
+    ensures { Makes (without_node node) (state S.Store conn.old) (state S.Store conn.new) result }
+{
+    let values = number(node);
+    run(conn, DELETE, &values)
 }
 
 /// The nodes of this number: one row or none.
@@ -101,6 +128,17 @@ pub(crate) fn select_unnamed<S: Alter>(conn: &mut Connection<S>) -> Result<Vec<R
     ensures within { StaysWithin (state S.Store conn.old) (state S.Store conn.new) result }
 {
     conn.query_all(SELECT_UNNAMED, &[])
+}
+
+/// The sizes of the nodes without a name.
+pub(crate) fn select_unnamed_sizes<S: Alter>(conn: &mut Connection<S>) -> Result<Vec<Row>, Error>
+    ensures made { Makes (λ c. c) (state S.Store conn.old) (state S.Store conn.new) result }
+    ensures found { HasCleanDisk (state S.Store conn.new) → IfOk result (λ rows. (c : Content)
+        → Inside c (state S.Store conn.old)
+        → rows.items ≡ map shown_number (unnamed_sizes c.nodes)) }
+    ensures within { StaysWithin (state S.Store conn.old) (state S.Store conn.new) result }
+{
+    conn.query_all(SELECT_UNNAMED_SIZES, &[])
 }
 
 /// Deletes the nodes without a name, but never the root.
@@ -133,4 +171,32 @@ pub(crate) fn count_nodes<S: Alter>(conn: &mut Connection<S>) -> Result<u64, Sto
 {
     let rows = select_count(conn)?;
     the_number(rows.as_slice())
+}
+
+// The sum of the sizes: one row.
+fn select_sizes<S: Alter>(conn: &mut Connection<S>) -> Result<Vec<Row>, Error>
+    ensures rests { Serves (λ c. c) (state S.Store conn.old) (state S.Store conn.new) result }
+    ensures open { StaysOpen (state S.Store conn.old) (state S.Store conn.new) result }
+    ensures reads { OnlyReads (state S.Store conn.old) (state S.Store conn.new) result }
+    ensures found { HasCleanDisk (state S.Store conn.new) → IfOk result (λ rows. (c : Content)
+        → Rests c (state S.Store conn.old)
+        → rows.items ≡ shown_number (sum_by (λ n. n.size) c.nodes) ∷ []) }
+{
+    conn.query_all(SUM_SIZES, &[])
+}
+
+/// The sum of the sizes of all nodes, outside a transaction. It is 0 where there is no node.
+pub fn sum_sizes<S: Alter>(conn: &mut Connection<S>) -> Result<u64, StoreFault>
+    ensures rests { Serves (λ c. c) (state S.Store conn.old) (state S.Store conn.new) result }
+    ensures open { StaysOpen (state S.Store conn.old) (state S.Store conn.new) result }
+    // Whatever the database is, nothing is changed.
+    ensures reads { OnlyReads (state S.Store conn.old) (state S.Store conn.new) result }
+    ensures value { HasCleanDisk (state S.Store conn.new) → IfOk result (λ n. (c : Content)
+        → Rests c (state S.Store conn.old) → n ≡ sum_by (λ n. n.size) c.nodes) }
+    ensures small { IfOk result (λ n. n < 2 ^ 63) }
+    ensures fault { IsSafe Holds (state S.Store conn.old) (state S.Store conn.new) result }
+    ensures plain { IfErr result IsPlain }
+{
+    let sums = select_sizes(conn)?;
+    the_number(sums.as_slice())
 }

@@ -1,9 +1,9 @@
-// The tables that a database has.
+// The tables and the index that a database has.
 ghost use Rattle.std.specs.Prelude.{◌≡◌};
 ghost use Rattle.std.specs.Option.{is_some};
 ghost use Rattle.std.specs.List.{list_all};
 ghost use Rattle.sqlite_schema.specs.Names.{table_named};
-ghost use Rattle.fuse_store_tables.specs.Saying.{has_tables, first_names, second_names};
+ghost use Rattle.fuse_store_tables.specs.Saying.{has_tables, has_index, first_names, second_names};
 
 use sqlite_schema::schema::Schema;
 
@@ -34,4 +34,11 @@ pub(crate) fn has_second(schema: &Schema) -> bool
             b"nodes", b"entries", b"blocks", b"handles", b"answers", b"lots", b"kept",
         ],
     )
+}
+
+/// Whether the index of version 2 is there.
+pub(crate) fn has_index(schema: &Schema) -> bool
+    ensures { result ≡ has_index schema.now }
+{
+    schema.index_named(b"entries_in_order").is_some()
 }

@@ -1,22 +1,27 @@
-// The opening of a store. A store of version 1 is migrated to version 2.
-ghost use Rattle.std.specs.Prelude.{◌≡◌, false, IsTrue, OnOk, IfErr};
-ghost use Rattle.sqlite.specs.State.{HasCleanDisk};
+// The opening of a store. A store of version 1 is migrated to version 2, and a missing index is
+// made.
+ghost use Rattle.std.specs.Prelude.{◌≡◌, false, IsTrue, IfOk, OnOk, OnErr, IfErr};
+ghost use Rattle.sqlite.specs.State.{HasCleanDisk, KeepsCommit};
 ghost use Rattle.sqlite.specs.Held.{state};
 ghost use Rattle.fuse_store_tables.specs.Faults.{IsPlain};
 ghost use Rattle.fuse_store_tables.specs.Saying.{Says, IsTabled, IsRefusal, IsToMigrate};
 ghost use Rattle.fuse_store_tables.specs.Content.{Content};
-ghost use Rattle.fuse_store_tables.specs.Moves.{RestsAs, Takes, ServesAs, IsSafe, LeavesAlone};
+ghost use Rattle.fuse_store_tables.specs.Moves.{RestsAs, InsideAs, Takes, ServesAs, IsSafe};
+ghost use Rattle.fuse_store_tables.specs.Moves.{LeavesAlone};
 ghost use Rattle.fuse_store_tables.specs.inner.Performing.{PerformsAs, IsSure, CommitsNothing};
 ghost use Rattle.fuse_store_tables.specs.inner.Performing.{OnlyReads};
-ghost use Rattle.fuse_store_tables.specs.Opening.{IsStored, IsFirst, IsSecond, IsOpened, IsLaid};
-ghost use Rattle.fuse_store_tables.specs.Opening.{IsMeta, HasMeta};
+ghost use Rattle.fuse_store_tables.specs.Opening.{IsStored, IsFirst, IsSecond, IsUnindexed};
+ghost use Rattle.fuse_store_tables.specs.Opening.{IsOpened, IsLaid};
+ghost use Rattle.fuse_store_tables.specs.Opening.{HasMeta, HasFirstMeta, HasSecondMeta, profile_in};
 ghost use Rattle.fuse_store_tables.specs.inner.Steps.{Tests};
 ghost use Rattle.fuse_store_tables.specs.inner.Performing.{StaysWithin};
 
-use crate::meta::{check_meta, find_version};
-use crate::migration::migrate;
-use crate::schema::{has_first, has_second};
+use crate::meta::find_version;
+use crate::migration::{add_index, migrate};
+use crate::numbers::{check_first, check_second};
+use crate::schema::{has_first, has_index, has_second};
 use crate::statements::{begin, commit, undo};
+use fuse_init::Profile;
 use fuse_keeper::StoreFault;
 use sqlite::{Alter, Connection};
 
@@ -24,35 +29,57 @@ fn open_first<S: Alter>(conn: &mut Connection<S>) -> Result<(), StoreFault>
     ensures made { Takes IsFirst IsOpened (state S.Store conn.old) (state S.Store conn.new) result }
     ensures fault { IsSure IsFirst (state S.Store conn.old) (state S.Store conn.new) result }
     ensures plain { IfErr result IsPlain }
-    ensures whole { Tests (IsMeta 10) (state S.Store conn.old) (state S.Store conn.new) result }
+    ensures whole { Tests HasFirstMeta (state S.Store conn.old) (state S.Store conn.new) result }
     ensures refused { IfErr result (λ f. IsRefusal f
         → CommitsNothing (state S.Store conn.old) (state S.Store conn.new)) }
     ensures within { StaysWithin (state S.Store conn.old) (state S.Store conn.new) result }
 {
-    check_meta(conn, 10)?;
+    check_first(conn)?;
     Ok(migrate(conn)?)
 }
 
-fn open_second<S: Alter>(conn: &mut Connection<S>) -> Result<(), StoreFault>
+fn open_second<S: Alter>(conn: &mut Connection<S>) -> Result<Profile, StoreFault>
     ensures opened { Takes IsSecond IsOpened (state S.Store conn.old) (state S.Store conn.new)
         result }
     ensures fault { IsSure IsSecond (state S.Store conn.old) (state S.Store conn.new) result }
     ensures plain { IfErr result IsPlain }
-    ensures whole { Tests (IsMeta 11) (state S.Store conn.old) (state S.Store conn.new) result }
+    ensures whole { Tests HasSecondMeta (state S.Store conn.old) (state S.Store conn.new) result }
+    ensures profile { HasCleanDisk (state S.Store conn.new) → IfOk result (λ p. (c : Content)
+        → InsideAs (IsLaid c) (state S.Store conn.old) → p ≡ profile_in c) }
     ensures reads { OnlyReads (state S.Store conn.old) (state S.Store conn.new) result }
     ensures within { StaysWithin (state S.Store conn.old) (state S.Store conn.new) result }
 {
-    check_meta(conn, 11)
+    check_second(conn)
 }
 
-/// Tests the store, and migrates one of version 1, within a transaction.
-pub(crate) fn work<S: Alter>(conn: &mut Connection<S>) -> Result<(), StoreFault>
+// Makes the index of a store of version 2 that has none.
+fn open_unindexed<S: Alter>(conn: &mut Connection<S>) -> Result<Profile, StoreFault>
+    ensures made { Takes IsUnindexed IsOpened (state S.Store conn.old) (state S.Store conn.new)
+        result }
+    ensures fault { IsSure IsUnindexed (state S.Store conn.old) (state S.Store conn.new) result }
+    ensures plain { IfErr result IsPlain }
+    ensures whole { Tests HasSecondMeta (state S.Store conn.old) (state S.Store conn.new) result }
+    ensures profile { HasCleanDisk (state S.Store conn.new) → IfOk result (λ p. (c : Content)
+        → InsideAs (IsLaid c) (state S.Store conn.old) → p ≡ profile_in c) }
+    ensures refused { IfErr result (λ f. IsRefusal f
+        → CommitsNothing (state S.Store conn.old) (state S.Store conn.new)) }
+    ensures within { StaysWithin (state S.Store conn.old) (state S.Store conn.new) result }
+{
+    let profile = check_second(conn)?;
+    add_index(conn)?;
+    Ok(profile)
+}
+
+/// Tests the store, and brings it up to date, within a transaction. The profile is the store's.
+pub(crate) fn work<S: Alter>(conn: &mut Connection<S>) -> Result<Profile, StoreFault>
     ensures opened { Takes IsStored IsOpened (state S.Store conn.old) (state S.Store conn.new)
         result }
     ensures fault { IsSure IsStored (state S.Store conn.old) (state S.Store conn.new) result }
     ensures says { HasCleanDisk (state S.Store conn.new)
         → IfErr result (Says (state S.Store conn.old).now) }
     ensures whole { Tests HasMeta (state S.Store conn.old) (state S.Store conn.new) result }
+    ensures profile { HasCleanDisk (state S.Store conn.new) → IfOk result (λ p. (c : Content)
+        → InsideAs (IsLaid c) (state S.Store conn.old) → p ≡ profile_in c) }
     ensures tabled { HasCleanDisk (state S.Store conn.new)
         → OnOk result (IsTabled (state S.Store conn.old).now) }
     ensures alone { (HasCleanDisk (state S.Store conn.new)
@@ -65,20 +92,25 @@ pub(crate) fn work<S: Alter>(conn: &mut Connection<S>) -> Result<(), StoreFault>
     let schema = conn.schema();
     let first = has_first(schema);
     let second = has_second(schema);
+    let indexed = has_index(schema);
     let version = find_version(conn)?;
     if version == 1 {
         if !first {
             return Err(StoreFault::Damaged);
         }
         match open_first(conn) {
-            Ok(()) => Ok(()),
+            Ok(()) => Ok(Profile::Plain),
             Err(fault) => Err(fault),
         }
     } else if version == 2 {
         if !second {
             return Err(StoreFault::Damaged);
         }
-        open_second(conn)
+        if indexed {
+            open_second(conn)
+        } else {
+            open_unindexed(conn)
+        }
     } else {
         Err(StoreFault::Version(version))
     }
@@ -94,7 +126,7 @@ pub(crate) fn law_of_rest<S: Alter>(conn: &Connection<S>)
 }
 
 // The transaction. A fault may leave it open.
-fn transact<S: Alter>(conn: &mut Connection<S>) -> Result<(), StoreFault>
+fn transact<S: Alter>(conn: &mut Connection<S>) -> Result<Profile, StoreFault>
     ensures performs { PerformsAs IsStored IsOpened (state S.Store conn.old)
         (state S.Store conn.new) result }
     ensures fault { IsSafe IsStored (state S.Store conn.old) (state S.Store conn.new) result }
@@ -104,12 +136,16 @@ fn transact<S: Alter>(conn: &mut Connection<S>) -> Result<(), StoreFault>
         → IfErr result (Says (state S.Store conn.old).now) }
     ensures whole { HasCleanDisk (state S.Store conn.new) → OnOk result ((c : Content)
         → RestsAs (IsLaid c) (state S.Store conn.old) → HasMeta c) }
+    ensures profile { HasCleanDisk (state S.Store conn.new) → IfOk result (λ p. (c : Content)
+        → RestsAs (IsLaid c) (state S.Store conn.old) → p ≡ profile_in c) }
     ensures tabled { HasCleanDisk (state S.Store conn.new)
         → OnOk result (IsTabled (state S.Store conn.old).now) }
     ensures alone { (IsToMigrate (state S.Store conn.old).now → ⊥)
         → CommitsNothing (state S.Store conn.old) (state S.Store conn.new) }
     ensures refused { IfErr result (λ f. IsRefusal f
         → CommitsNothing (state S.Store conn.old) (state S.Store conn.new)) }
+    ensures keeps { OnErr result (HasCleanDisk (state S.Store conn.new)
+        → KeepsCommit (state S.Store conn.old) (state S.Store conn.new)) }
     ensures ended { OnOk result (HasCleanDisk (state S.Store conn.new)
         → ((state S.Store conn.new).in_transaction ≡ false)
         × ((state S.Store conn.new).now ≡ (state S.Store conn.new).committed)) }
@@ -117,16 +153,17 @@ fn transact<S: Alter>(conn: &mut Connection<S>) -> Result<(), StoreFault>
     law_of_rest(conn);
     begin(conn)?;
     match work(conn) {
-        Ok(()) => {
+        Ok(profile) => {
             commit(conn)?;
-            Ok(())
+            Ok(profile)
         }
         Err(fault) => Err(fault),
     }
 }
 
-/// Tests `meta`, and migrates a store of version 1. The commit is its last call of the database.
-pub fn set_up<S: Alter>(conn: &mut Connection<S>) -> Result<(), StoreFault>
+/// Tests `meta`, migrates a store of version 1, and makes the index of version 2 where that is
+/// missing. The profile is the store's. The commit is its last call of the database.
+pub fn set_up<S: Alter>(conn: &mut Connection<S>) -> Result<Profile, StoreFault>
     ensures serves { ServesAs IsStored IsOpened (state S.Store conn.old) (state S.Store conn.new)
         result }
     ensures fault { IsSafe IsStored (state S.Store conn.old) (state S.Store conn.new) result }
@@ -134,12 +171,15 @@ pub fn set_up<S: Alter>(conn: &mut Connection<S>) -> Result<(), StoreFault>
         → OnOk result (IsTrue (state S.Store conn.old).is_open) }
     ensures says { HasCleanDisk (state S.Store conn.new)
         → IfErr result (Says (state S.Store conn.old).now) }
-    // A store with a damaged `meta` or without one of its tables is never opened.
+    // A store with a damaged `meta`, a counter that would give a number out again, or a missing table
+    // is never opened.
     ensures whole { HasCleanDisk (state S.Store conn.new) → OnOk result ((c : Content)
         → RestsAs (IsLaid c) (state S.Store conn.old) → HasMeta c) }
+    ensures profile { HasCleanDisk (state S.Store conn.new) → IfOk result (λ p. (c : Content)
+        → RestsAs (IsLaid c) (state S.Store conn.old) → p ≡ profile_in c) }
     ensures tabled { HasCleanDisk (state S.Store conn.new)
         → OnOk result (IsTabled (state S.Store conn.old).now) }
-    // Only a store of version 1 with all its tables is changed, however the call ends,
+    // Only a store that is to be migrated or lacks the index is changed, however the call ends,
     ensures alone { (IsToMigrate (state S.Store conn.old).now → ⊥)
         → LeavesAlone (state S.Store conn.old) (state S.Store conn.new) }
     // and no database that is refused. No transaction is left open.
@@ -147,9 +187,14 @@ pub fn set_up<S: Alter>(conn: &mut Connection<S>) -> Result<(), StoreFault>
         → LeavesAlone (state S.Store conn.old) (state S.Store conn.new)) }
     ensures ended { HasCleanDisk (state S.Store conn.new)
         → (state S.Store conn.new).in_transaction ≡ false }
+    // Where the call fails, what was committed before is seen, whatever the database.
+    ensures undone { OnErr result (HasCleanDisk (state S.Store conn.new)
+        → IsTrue (state S.Store conn.new).is_open
+        → ((state S.Store conn.new).now ≡ (state S.Store conn.old).committed)
+        × ((state S.Store conn.new).committed ≡ (state S.Store conn.old).committed)) }
 {
     match transact(conn) {
-        Ok(()) => Ok(()),
+        Ok(profile) => Ok(profile),
         Err(fault) => {
             undo(conn);
             Err(fault)

@@ -10,14 +10,17 @@ use Rattle.sqlite_trees.specs.Tree.{IsAscending}
 use Rattle.fuse_tree.specs.declared.rows.Full.{Full}
 use Rattle.fuse_tree.specs.declared.rows.EntryRow.{EntryRow}
 use Rattle.fuse_tree.specs.declared.rows.HandleRow.{HandleRow}
-use Rattle.fuse_tree.specs.State.{State, Node, IsNode, Apart, AreApart, is_entry}
+use Rattle.fuse_init.specs.Profile.{Terms, terms}
+use Rattle.fuse_init.specs.declared.profile.Profile.{Profile}
+use Rattle.fuse_init.specs.declared.profile.Profile.TheVariants.{Plain, Everyday}
+use Rattle.fuse_tree.specs.State.{State, Node, IsNode, Apart, AreApart, is_entry, terms_of, profile_of}
 use Rattle.std.proofs.Common.{◌≤◌, ◌+◌, ◌-◌, inl, inr, length, min, drop, IfSome}
 use Rattle.fuse_tree.specs.Bounds.{file_limit}
 use Rattle.fuse_store_tree.specs.Store.{byte_at, byte_in}
 use Rattle.fuse_store_tree.specs.inner.Reading.{range_of, bytes_told, Describes}
 use Rattle.fuse_store_tree.proofs.Ranges.{range_same, part_is, take_least, none_behind}
-use Rattle.fuse_tree.specs.Rows.{full_at, content_of, bytes_at, Rows, IsRowed, rowed, full_of, row_at, entry_at, entries_after, handle_at, is_after}
-use Rattle.fuse_store_tables.specs.Content.{Content, put_by, at_by, node_key, cookie_of, fh_of, has_name, stands_after}
+use Rattle.fuse_tree.specs.Rows.{full_at, content_of, bytes_at, Rows, IsRowed, rowed, full_of, row_at, entry_at, entries_after, handle_at, handles_of, is_after}
+use Rattle.fuse_store_tables.specs.Content.{Content, put_by, at_by, node_key, cookie_of, fh_of, has_name, stands_after, is_handle_of}
 use Rattle.sqlite.specs.State.{State as Connected}
 use Rattle.fuse_store_tables.specs.Moves.{Inside, InsideAs}
 use Rattle.fuse_store_tree.specs.Store.{Store, Held, in_order}
@@ -95,7 +98,7 @@ handles_rise (h ∷ hs) apart = (apart.0, handles_rise hs apart.1)
 pub rows_rise : (rows : Rows) → IsRowed rows → Rises node_key (map (λ f. f.row) rows.nodes) × Rises cookie_of rows.entries × Rises fh_of rows.handles
 unfolding IsRowed rowed
 rows_rise rows (s, tree, is) = subst (λ (r : Rows). Rises node_key (map (λ f. f.row) r.nodes) × Rises cookie_of r.entries × Rises fh_of r.handles) (sym is)
-    (nodes_rise s s.nodes tree.nodes_rise, entries_rise s.entries tree.entries_apart, handles_rise s.handles tree.handles_rise)
+    (nodes_rise s s.nodes tree.shape.nodes_rise, entries_rise s.entries tree.shape.entries_apart, handles_rise s.handles tree.shape.handles_rise)
 
 -- ---- tests
 
@@ -143,8 +146,15 @@ module _ (x : Store) (c : Content) (rowed : IsRowed x.rows) (at : Describes x c)
   after_told dir cookie limit = ap (λ es. take limit (filter (stands_after dir cookie) es)) entries_told
       ∙ ap (take limit) (filter_same _ _ (after_test dir cookie) x.rows.entries)
 
+  pub handles_are : c.handles ≡ x.rows.handles
+  handles_are = at.handles ∙ order_kept fh_of _ (rows_rise x.rows rowed).2
+
   pub handle_told : (fh : ℕ) → at_by fh_of fh c.handles ≡ handle_at x.rows.handles fh
-  handle_told fh = ap (at_by fh_of fh) (at.handles ∙ order_kept fh_of _ (rows_rise x.rows rowed).2) ∙ find_same _ _ (λ h. same_test h.fh fh) x.rows.handles
+  handle_told fh = ap (at_by fh_of fh) handles_are ∙ find_same _ _ (λ h. same_test h.fh fh) x.rows.handles
+
+  pub handles_told : (node limit : ℕ) → take limit (filter (is_handle_of node) c.handles) ≡ handles_of x.rows.handles node limit
+  handles_told node limit = ap (λ hs. take limit (filter (is_handle_of node) hs)) handles_are
+      ∙ ap (take limit) (filter_same _ _ (λ h. same_test h.node node) x.rows.handles)
 
 pub inside_of : (x : Store) (s : Connected) (at : InsideAs (Held x) s) → Inside at.holds.0 s
 inside_of x s at = record { is_open = at.is_open; in_transaction = at.in_transaction; holds = at.holds.1 }
@@ -154,13 +164,19 @@ inside_of x s at = record { is_open = at.is_open; in_transaction = at.in_transac
 abbrev pub IsFull : Full → Type 0
 IsFull f = (f.row.size ≡ length f.content) × (f.row.size ≤ file_limit)
 
-all_full : (s : State) (next : ℕ) (ns : List Node) → AllByRecursion (IsNode next) ns → AllByRecursion IsFull (map (full_of s) ns)
-all_full s next [] all = tt
-all_full s next (n ∷ ns) all = ((refl, all.0.size), all_full s next ns all.1)
+-- no profile has longer files
+within_limit : (p : Profile) → (terms p).file_limit ≤ file_limit
+within_limit Plain = omega arith
+within_limit Everyday = omega arith
+
+all_full : (s : State) (t : Terms) (next : ℕ) (ns : List Node) → t.file_limit ≤ file_limit → AllByRecursion (IsNode t next) ns
+    → AllByRecursion IsFull (map (full_of s) ns)
+all_full s t next [] within all = tt
+all_full s t next (n ∷ ns) within all = ((refl, let size = all.0.size in omega (arith, size, within)), all_full s t next ns within all.1)
 
 pub rows_full : (rows : Rows) → IsRowed rows → AllByRecursion IsFull rows.nodes
 unfolding IsRowed rowed
-rows_full rows (s, tree, is) = subst (λ (r : Rows). AllByRecursion IsFull r.nodes) (sym is) (all_full s s.next_node s.nodes tree.nodes)
+rows_full rows (s, tree, is) = subst (λ (r : Rows). AllByRecursion IsFull r.nodes) (sym is) (all_full s (terms_of s) s.next_node s.nodes (within_limit (profile_of s)) tree.shape.nodes)
 
 full_found : (p : Full → Bool) (fs : List Full) → AllByRecursion IsFull fs → IfSome (find p fs) IsFull
 full_found p [] all = tt

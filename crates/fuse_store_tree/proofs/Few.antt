@@ -8,9 +8,10 @@ use Rattle.fuse_tree.specs.State.{State, Tree, Node, Apart, AreApart, IsEntry}
 use Rattle.fuse_tree.specs.Rows.{IsRowed, rowed}
 use Rattle.fuse_tree.specs.declared.rows.EntryRow.{EntryRow}
 use Rattle.fuse_tree.specs.declared.rows.Full.{Full}
-use Rattle.fuse_store_tables.specs.Content.{at_by, node_key}
+use Rattle.fuse_store_tables.specs.Content.{Counter, at_by, node_key}
+use Rattle.fuse_store_tree.specs.inner.Reading.{value_of}
 use Rattle.fuse_store_tree.specs.Holding.{Holding, HeldFor, store_of}
-use Rattle.fuse_store_tree.proofs.Described.{entries_told, row_told, rows_full}
+use Rattle.fuse_store_tree.proofs.Described.{entries_told, handles_are, row_told, rows_full}
 
 -- ---- entries
 
@@ -47,11 +48,15 @@ from_three nodes entries end (e ∷ es) all = (all.0.from_three, from_three node
 tree_few : (s : State) → Tree s → length (rowed s).entries < 2 ^ 62
 unfolding rowed
 tree_few s tree =
-    let few = rising_few 3 s.next_cookie s.entries tree.limits.cookie_from_three (from_three s.nodes s.entries s.next_cookie s.entries tree.entries)
-    (below_all s.nodes s.entries s.next_cookie s.entries tree.entries)
-    tree.entries_apart in
-    let end = tree.limits.next_cookie in
+    let few = rising_few 3 s.next_cookie s.entries tree.shape.limits.cookie_from_three (from_three s.nodes s.entries s.next_cookie s.entries tree.shape.entries)
+    (below_all s.nodes s.entries s.next_cookie s.entries tree.shape.entries)
+    tree.shape.entries_apart in
+    let end = tree.shape.limits.next_cookie in
     omega (arith, few, end)
+
+handles_few : (s : State) → Tree s → length (rowed s).handles < 2 ^ 62
+unfolding rowed
+handles_few s tree = let few = tree.shape.limits.handles in omega (arith, few)
 
 tree_rowed : (s : State) → Tree s → IsRowed (rowed s)
 unfolding IsRowed
@@ -60,6 +65,18 @@ tree_rowed s tree = (s, tree, refl)
 module _ (y : Holding) (d : Database) (at : HeldFor y d) where
   pub few_entries : length at.held.0.entries < 2 ^ 62
   few_entries = subst (λ es. length es < 2 ^ 62) (sym (entries_told (store_of y) at.held.0 (tree_rowed y.tree at.tree) at.held.2)) (tree_few y.tree at.tree)
+
+  pub eleven : 11 ≤ length at.held.0.counters
+  eleven = subst (λ (cs : List Counter). 11 ≤ length cs) (sym at.held.2.counters) (omega arith)
+
+  pub minor_fits : value_of at.held.0.counters 7 < 2 ^ 32
+  minor_fits = subst (λ cs. value_of cs 7 < 2 ^ 32) (sym at.held.2.counters) at.held.2.settings.minor
+
+  pub readahead_fits : value_of at.held.0.counters 8 < 2 ^ 32
+  readahead_fits = subst (λ cs. value_of cs 8 < 2 ^ 32) (sym at.held.2.counters) at.held.2.settings.readahead
+
+  pub few_handles : length at.held.0.handles < 2 ^ 62
+  few_handles = subst (λ hs. length hs < 2 ^ 62) (sym (handles_are (store_of y) at.held.0 (tree_rowed y.tree at.tree) at.held.2)) (handles_few y.tree at.tree)
 
   pub sizes_fit : (number : ℕ) → IfSome (at_by node_key number at.held.0.nodes) (λ n. n.size ≤ file_limit)
   sizes_fit number =

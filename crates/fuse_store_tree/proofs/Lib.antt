@@ -8,11 +8,13 @@ pub mod Orders
 pub mod Steps
 pub mod RowChanges
 pub mod Writes
+pub mod Rooms
 pub mod Changes
 pub mod Parents
 pub mod BlockBytes
 pub mod Overlays
 pub mod Cuts
+pub mod Gone
 pub mod AtSize
 pub mod Zeros
 pub mod Turning

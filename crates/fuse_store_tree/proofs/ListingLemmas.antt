@@ -1,4 +1,4 @@
--- The entries after a cookie, as rows were read.
+-- The entries after a cookie and the handles of a node, as rows were read.
 use Rattle.std.proofs.Common.{◌≡◌, ◌≤◌, ◌<◌, ◌^◌, ◌+◌, ◌&&◌, inl, inr, ℕ, zero, suc, List, [], ◌∷◌, ◌++◌, map, filter, take, length, not, nat_lt, Bool, true}
 use Rattle.std.proofs.Common.{false, slice_index_or, refl, ap, arith, ◌∙◌}
 use Rattle.std.specs.List.{AllByRecursion}
@@ -8,9 +8,11 @@ use Rattle.std.proofs.lemmas.Bool.Decides.{nat_tests}
 use Rattle.std.proofs.lemmas.List.{take_more}
 use Rattle.std.proofs.Math.ListN.{get_or-map}
 use Rattle.sqlite.specs.Order.{Row}
+use Rattle.fuse_wire.specs.declared.access_mode.AccessMode.TheVariants.{ReadOnly}
 use Rattle.fuse_tree.specs.declared.rows.EntryRow.{EntryRow}
-use Rattle.fuse_store_tables.specs.Content.{shown_entry, stands_after}
-use Rattle.fuse_tree.specs.Columns.{FitsEntry}
+use Rattle.fuse_tree.specs.declared.rows.HandleRow.{HandleRow}
+use Rattle.fuse_store_tables.specs.Content.{stands_after, is_handle_of}
+use Rattle.fuse_tree.specs.Columns.{FitsEntry, FitsHandle}
 use Rattle.fuse_store_tree.proofs.Looks.{key_is, key_differs, both_are}
 
 pub nothing : {X : Type 0} (n : ℕ) → ◌≡◌ {A = List X} [] (take n [])
@@ -54,6 +56,24 @@ all_taken P (suc n) (x ∷ xs) all = (all.0, all_taken P n xs all.1)
 pub taken_in_dir : (dir cookie n : ℕ) (es : List EntryRow) → AllByRecursion (λ e. e.dir ≡ dir) (take n (filter (stands_after dir cookie) es))
 taken_in_dir dir cookie n es = all_taken _ n _ (in_dir dir cookie es)
 
+-- ---- handles
+
+pub none_open : (node : ℕ) (hs : List HandleRow) → 2 ^ 63 ≤ node → AllByRecursion FitsHandle hs → filter (is_handle_of node) hs ≡ []
+none_open node [] high all = refl
+none_open node (h ∷ hs) high all = rw (key_differs h.node node (2 ^ 63) all.0.node high) (none_open node hs high all.1)
+
+of_node : (node : ℕ) (hs : List HandleRow) → AllByRecursion (λ h. h.node ≡ node) (filter (is_handle_of node) hs)
+of_node node [] = tt
+of_node node (h ∷ hs) = elim (cases_Bool (is_handle_of node h)) [
+  | inl here ↦ rw here (key_is h.node node here, of_node node hs)
+  | inr not_here ↦ rw not_here (of_node node hs)
+]
+
+pub taken_of_node : (node n : ℕ) (hs : List HandleRow) → AllByRecursion (λ h. h.node ≡ node) (take n (filter (is_handle_of node) hs))
+taken_of_node node n hs = all_taken _ n _ (of_node node hs)
+
+-- ---- lists that are cut
+
 take_all_of : {X : Type 0} (n : ℕ) (xs : List X) → length (take n xs) < n → take n xs ≡ xs
 take_all_of zero xs low = absurd (omega (arith, low))
 take_all_of (suc n) [] low = refl
@@ -83,24 +103,31 @@ not_cut most limit count xs within short is = elim (cases_Bool (nat_lt most limi
 abbrev pub entry_none : EntryRow
 entry_none = record { dir = 0; name = []; child = 0; cookie = 0 }
 
-pub row_at_is : (rows : List Row) (es : List EntryRow) (i : ℕ) (row : Row) → rows ≡ map shown_entry es → row ≡ slice_index_or rows i (shown_entry entry_none)
-    → row ≡ shown_entry (slice_index_or es i entry_none)
-row_at_is rows es i row is at = at ∙ ap (λ l. slice_index_or l i (shown_entry entry_none)) is ∙ get_or-map shown_entry es i entry_none
+abbrev pub handle_none : HandleRow
+handle_none = record { fh = 0; node = 0; access = ReadOnly }
 
-pub dir_at : (dir : ℕ) (es : List EntryRow) (i : ℕ) → i < length es → AllByRecursion (λ e. e.dir ≡ dir) es → (slice_index_or es i entry_none).dir ≡ dir
-dir_at dir [] i low all = absurd (omega (arith, low))
-dir_at dir (e ∷ es) zero low all = all.0
-dir_at dir (e ∷ es) (suc i) low all = dir_at dir es i (omega (arith, low)) all.1
+-- one in the place of a value that isn't there
+module _ {X : Type 0} (none : X) where
+  pub each_at : (P : X → Type 0) (xs : List X) (i : ℕ) → i < length xs → AllByRecursion P xs → P (slice_index_or xs i none)
+  each_at P [] i low all = absurd (omega (arith, low))
+  each_at P (x ∷ xs) zero low all = all.0
+  each_at P (x ∷ xs) (suc i) low all = each_at P xs i (omega (arith, low)) all.1
 
-pub more_taken : (es : List EntryRow) (i : ℕ) → i < length es → take (i + 1) es ≡ take i es ++ slice_index_or es i entry_none ∷ []
-more_taken es i low = take_more es i entry_none low
+  pub more_taken : (xs : List X) (i : ℕ) → i < length xs → take (i + 1) xs ≡ take i xs ++ slice_index_or xs i none ∷ []
+  more_taken xs i low = take_more xs i none low
 
-pub shown_length : (rows : List Row) (es : List EntryRow) → rows ≡ map shown_entry es → length rows ≡ length es
-shown_length rows es is = ap length is ∙ same es
-  where
-    same : (xs : List EntryRow) → length (map shown_entry xs) ≡ length xs
-    same [] = refl
-    same (x ∷ xs) = ap suc (same xs)
+-- rows that show values
+module _ {X : Type 0} (show : X → Row) where
+  pub row_at_is : (none : X) (rows : List Row) (xs : List X) (i : ℕ) (row : Row) → rows ≡ map show xs → row ≡ slice_index_or rows i (show none)
+      → row ≡ show (slice_index_or xs i none)
+  row_at_is none rows xs i row is at = at ∙ ap (λ l. slice_index_or l i (show none)) is ∙ get_or-map show xs i none
+
+  pub shown_length : (rows : List Row) (xs : List X) → rows ≡ map show xs → length rows ≡ length xs
+  shown_length rows xs is = ap length is ∙ same xs
+    where
+      same : (ys : List X) → length (map show ys) ≡ length ys
+      same [] = refl
+      same (y ∷ ys) = ap suc (same ys)
 
 pub any_default : {X : Type 0} (xs : List X) (i : ℕ) (d e : X) → i < length xs → slice_index_or xs i d ≡ slice_index_or xs i e
 any_default [] i d e low = absurd (omega (arith, low))

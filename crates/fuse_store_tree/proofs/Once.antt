@@ -8,13 +8,15 @@ use Rattle.sqlite.specs.Effect.{Database}
 use Rattle.fuse_init.specs.declared.settings.Settings.{Settings}
 use Rattle.fuse_tree.specs.declared.rows.Full.{Full}
 use Rattle.fuse_tree.specs.declared.rows.Counters.{Counters as CountersRow}
-use Rattle.fuse_tree.specs.State.{State, Tree}
+use Rattle.fuse_tree.specs.declared.rows.Room.{Room}
+use Rattle.fuse_tree.specs.State.{State, Tree, profile_for}
 use Rattle.fuse_tree.specs.Bounds.{file_limit}
-use Rattle.fuse_tree.specs.Rows.{Rows, IsRowed, rowed, content_of}
+use Rattle.fuse_tree.specs.Space.{room_of}
+use Rattle.fuse_tree.specs.Rows.{Rows, IsRowed, rowed, content_of, agreement_at}
 use Rattle.fuse_tree.specs.Plan.{RowsTellState}
 use Rattle.fuse_store_tables.specs.Content.{Content, node_key, cookie_of, fh_of}
 use Rattle.fuse_store_tree.specs.Store.{counters_of, byte_at, byte_in}
-use Rattle.fuse_store_tree.specs.inner.Reading.{counted_in, agreed_in, value_of}
+use Rattle.fuse_store_tree.specs.inner.Reading.{counted_in, room_in, agreed_in, agreement_in, value_of}
 use Rattle.fuse_store_tree.proofs.Described.{Rises, order_kept, rows_rise, rows_full}
 use Rattle.fuse_store_tree.specs.Holding.{Holding, HeldFor, TreesAreInOrder}
 use Rattle.fuse_store_tree.proofs.Decoding.{same_counters, same_nodes, same_entries, same_handles, same_blocks, same_lots, same_kept}
@@ -75,6 +77,25 @@ same_full (f ∷ fs) (g ∷ gs) rises sized fit same each =
 pub agreed_back : (c : CountersRow) (s : Option Settings) (lot : ℕ) → agreed_in (counters_of c s lot) ≡ s
 agreed_back c None lot = refl
 agreed_back c (Some s) lot = refl
+
+room_back : (c : CountersRow) (s : Option Settings) (lot : ℕ) → room_in (counters_of c s lot) ≡ c.room
+room_back c s lot = by c.room
+  where
+    by : (o : Option Room) → room_in (counters_of (record c { room = o }) s lot) ≡ o
+    by None = refl
+    by (Some r) = refl
+
+pub counted_back : (c : CountersRow) (s : Option Settings) (lot : ℕ) → counted_in (counters_of c s lot) ≡ c
+counted_back c s lot = ap (λ o. record c { room = o }) (room_back c s lot)
+
+pub room_told : (s : State) (lot : ℕ) → room_in (counters_of (rowed s).counters (rowed s).settings lot) ≡ room_of s
+unfolding rowed
+room_told s lot = room_back (rowed s).counters (rowed s).settings lot
+
+pub agreement_back : (rows : Rows) (lot : ℕ) → agreement_in (counters_of rows.counters rows.settings lot) ≡ agreement_at rows
+agreement_back rows lot =
+    ap (λ o. record { profile = profile_for o; settings = agreed_in (counters_of rows.counters rows.settings lot) }) (room_back rows.counters rows.settings lot)
+    ∙ ap (λ o. record { profile = profile_for rows.counters.room; settings = o }) (agreed_back rows.counters rows.settings lot)
 
 -- ---- rows
 
@@ -152,7 +173,8 @@ module _ (x y : Holding) (d : Database) (one : HeldFor x d) (two : HeldFor y d) 
       ∙ order_kept cookie_of _ (rows_rise (rowed y.tree) right).1)
       (sym (order_kept fh_of _ (rows_rise (rowed x.tree) left).2) ∙ sym one.held.2.handles ∙ handles_same ∙ two.held.2.handles
       ∙ order_kept fh_of _ (rows_rise (rowed y.tree) right).2)
-      (ap counted_in all_counters)
+      (sym (counted_back (rowed x.tree).counters (rowed x.tree).settings x.next_lot) ∙ ap counted_in all_counters
+      ∙ counted_back (rowed y.tree).counters (rowed y.tree).settings y.next_lot)
       (sym (agreed_back (rowed x.tree).counters (rowed x.tree).settings x.next_lot) ∙ ap agreed_in all_counters
       ∙ agreed_back (rowed y.tree).counters (rowed y.tree).settings y.next_lot)
 

@@ -5,6 +5,9 @@ use Rattle.std.proofs.lemmas.List.{take_more}
 use Rattle.sqlite.specs.State.{State, HasCleanDisk}
 use Rattle.sqlite.specs.declared.error.Error.{Error}
 use Rattle.fuse_answer.specs.Said.{Said, FitsAnswer}
+use Rattle.fuse_init.specs.declared.settings.Settings.{Settings}
+use Rattle.fuse_tree.specs.declared.rows.Counters.{Counters as CountersRow}
+use Rattle.fuse_tree.specs.declared.rows.Room.{Room}
 use Rattle.fuse_tree.specs.State.{State as TreeState, Tree}
 use Rattle.fuse_tree.specs.Do.{done}
 use Rattle.fuse_wire.specs.declared.id.Id.{Id}
@@ -136,13 +139,22 @@ below_more : (next : ℕ) (lots : List ℕ) → AreBelow next lots → AreBelow 
 below_more next lots below =
     all_put (λ n. n) (λ n. n < next + 1) next lots (omega arith) (all_map (λ n. n < next) (λ n. n < next + 1) lots (λ n low. omega (arith, low)) below)
 
+lot_set : (m : ℕ) (n : CountersRow) (s : Option Settings) (lot : ℕ) (c : Content)
+    → (set_counter 11 m (record c { counters = counters_of n s lot })).counters ≡ counters_of n s m
+lot_set m n s lot c = by n.room
+  where
+    by : (o : Option Room) → (set_counter 11 m (record c { counters = counters_of (record n { room = o }) s lot })).counters
+        ≡ counters_of (record n { room = o }) s m
+    by None = refl
+    by (Some r) = refl
+
 lot_comes : (n : ℕ) (x : Store) (c : Content) → Describes x c → n ≡ value_of c.counters 10
     → Describes (record x { lots = put_by (λ m. m) x.next_lot x.lots; next_lot = x.next_lot + 1 }) (set_counter 11 (n + 1) (with_lot n c))
 lot_comes n x c at is =
     let same : n ≡ x.next_lot = is ∙ ap (λ cs. value_of cs 10) at.counters in
     record {
       counters = ap (λ cs. (set_counter 11 (n + 1) (record c { counters = cs })).counters) at.counters
-          ∙ ap (λ m. counters_of x.rows.counters x.rows.settings (m + 1)) same;
+          ∙ lot_set (n + 1) x.rows.counters x.rows.settings x.next_lot c ∙ ap (λ m. counters_of x.rows.counters x.rows.settings (m + 1)) same;
       nodes = at.nodes;
       entries = at.entries;
       handles = at.handles;

@@ -1,5 +1,7 @@
 -- Reads outside a transaction, of what is held.
-use Rattle.std.proofs.Common.{◌≡◌, ◌≤◌, ◌^◌, ◌<◌, ℕ, List, None, Ok, Err, Result, IfOk, sym, ap, map, option_map, ◌∙◌}
+use Rattle.std.proofs.Common.{◌≡◌, ◌≤◌, ◌^◌, ◌<◌, ◌+◌, ℕ, List, [], ◌∷◌, None, Ok, Err, Result, IfOk, refl, sym, ap, map, option_map, ◌∙◌}
+use Rattle.std.specs.List.{sum_by}
+use Rattle.std.proofs.lemmas.List.Sums.{sum_by-cons}
 use Rattle.std.specs.Result.{IsErr}
 use Rattle.sqlite.specs.Order.{Row}
 use Rattle.sqlite.specs.Effect.{Database}
@@ -7,12 +9,14 @@ use Rattle.sqlite.specs.declared.error.Error.{Error}
 use Rattle.sqlite.specs.State.{State, HasCleanDisk}
 use Rattle.fuse_keeper.specs.declared.fault.StoreFault.{StoreFault}
 use Rattle.fuse_tree.specs.Rows.{rowed}
+use Rattle.fuse_tree.specs.declared.rows.NodeRow.{NodeRow}
+use Rattle.fuse_tree.specs.declared.rows.Full.{Full}
 use Rattle.fuse_store_tables.specs.Content.{Content, Kept, Counter, Holds, kept_key, at_by, shown_counter}
 use Rattle.fuse_store_tables.specs.Moves.{Rests, RestsAs, Serves, ServesAs, IsSafe}
 use Rattle.fuse_store_tables.specs.inner.Following.{rests_less, rests_also, rests_told, rests_failed, safe_also}
 use Rattle.fuse_store_tree.specs.Fits.{KeepsRecord}
 use Rattle.fuse_store_tree.specs.Store.{records_of, counters_of}
-use Rattle.fuse_store_tree.specs.Holding.{Holding, HeldFor, ReportsAfter}
+use Rattle.fuse_store_tree.specs.Holding.{Holding, HeldFor, ReportsAfter, TreesAreInOrder}
 use Rattle.fuse_store_tree.proofs.Looks.{all_map, none_found}
 
 -- a database holds it by its content alone
@@ -66,3 +70,15 @@ counters_held y = counters_of (rowed y.tree).counters (rowed y.tree).settings y.
 pub counters_shown : (y : Holding) (a : State) (rows : List Row) → ((c : Content) → Rests c a → rows ≡ map shown_counter c.counters) → RestsAs (HeldFor y) a
     → rows ≡ map shown_counter (counters_held y)
 counters_shown y a rows found at = found at.holds.held.0 (content_at y a at) ∙ ap (map shown_counter) at.holds.held.2.counters
+
+-- the sizes of what is held
+sizes_mapped : (fs : List Full) → sum_by (λ (n : NodeRow). n.size) (map (λ f. f.row) fs) ≡ sum_by (λ (f : Full). f.row.size) fs
+sizes_mapped [] = refl
+sizes_mapped (f ∷ fs) =
+    sum_by-cons (λ (n : NodeRow). n.size) f.row (map (λ f. f.row) fs) ∙ ap (λ (n : ℕ). f.row.size + n) (sizes_mapped fs)
+    ∙ sym (sum_by-cons (λ (f : Full). f.row.size) f fs)
+
+pub sizes_held : TreesAreInOrder → (y : Holding) (a : State) (at : RestsAs (HeldFor y) a)
+    → sum_by (λ n. n.size) at.holds.held.0.nodes ≡ sum_by (λ f. f.row.size) (rowed y.tree).nodes
+sizes_held ordered y a at =
+    ap (sum_by (λ (n : NodeRow). n.size)) (at.holds.held.2.nodes ∙ (ordered y.tree at.holds.tree).nodes) ∙ sizes_mapped (rowed y.tree).nodes

@@ -1,6 +1,6 @@
 -- Rows that are added, changed and deleted, as the tables describe them.
 use Rattle.std.proofs.Common.{◌≡◌, inl, inr, ℕ, List, [], ◌∷◌, ◌++◌, ◌==◌, map, Bool, true, false}
-use Rattle.std.proofs.Common.{not, cond, Some, None, refl, sym, ap, subst, arith, ◌∙◌, find, ◌||◌, ◌<◌, ◌*◌, length}
+use Rattle.std.proofs.Common.{not, cond, Option, Some, None, refl, sym, ap, subst, arith, ◌∙◌, find, ◌||◌, ◌<◌, ◌*◌, length}
 use Rattle.std.specs.List.{list_any}
 use Rattle.std.proofs.lemmas.Bool.{cases_Bool}
 use Rattle.std.proofs.lemmas.Bool.Decides.{nat_tests}
@@ -12,14 +12,15 @@ use Rattle.fuse_init.specs.declared.settings.Settings.{Settings}
 use Rattle.fuse_tree.specs.declared.rows.EntryRow.{EntryRow}
 use Rattle.fuse_tree.specs.declared.rows.HandleRow.{HandleRow}
 use Rattle.fuse_tree.specs.declared.rows.Counters.{Counters as CountersRow}
+use Rattle.fuse_tree.specs.declared.rows.Room.{Room}
 use Rattle.fuse_tree.specs.declared.rows.Change.TheVariants as changes
 use Rattle.fuse_store_tables.specs.Content.{at_by, node_key, with_node, set_node, renumbered, has_by, Content, put_by}
 use Rattle.fuse_store_tables.specs.Content.{without_by, cookie_of, fh_of, with_entry, with_entry_gone, with_handle, without_handle, set_counter}
 use Rattle.fuse_store_tree.specs.Fits.{KeepsNode}
 use Rattle.fuse_tree.specs.Columns.{FitsEntry, FitsHandle}
-use Rattle.fuse_store_tree.specs.Store.{Store, in_order, byte_at, FitsSettings}
+use Rattle.fuse_store_tree.specs.Store.{Store, in_order, byte_at, counters_of, FitsSettings}
 use Rattle.fuse_store_tree.specs.inner.Reading.{Describes}
-use Rattle.fuse_store_tree.specs.inner.Writing.{with_change}
+use Rattle.fuse_store_tree.specs.inner.Writing.{room_over, with_change, with_used}
 use Rattle.fuse_store_tree.proofs.Described.{Rises, same_test, filter_same}
 use Rattle.fuse_store_tree.proofs.Within.{within_more}
 use Rattle.fuse_store_tree.proofs.Orders.{all_put, all_filter, one_more, one_gone, one_replaced, repl, rises_in_order, set_is_put}
@@ -231,11 +232,24 @@ handle_goes fh s c at = record {
 
 -- ---- counters and settings
 
-pub counters_change : (n : CountersRow) → (s : Store) (c : Content) → Describes s c → Describes (with_change (changes.Counters n) s)
-    (set_counter 6 n.handles (set_counter 5 n.nodes (set_counter 4 n.next_cookie (set_counter 3 n.next_fh (set_counter 2 n.next_node c)))))
+abbrev set_numbers : CountersRow → Content → Content
+set_numbers n c =
+    with_used n.room (set_counter 6 n.handles (set_counter 5 n.nodes (set_counter 4 n.next_cookie (set_counter 3 n.next_fh (set_counter 2 n.next_node c)))))
+
+numbers_set : (n old : CountersRow) (s : Option Settings) (lot : ℕ) (c : Content) → (set_numbers n (record c { counters = counters_of old s lot })).counters
+    ≡ counters_of (record n { room = room_over old.room n.room }) s lot
+numbers_set n old s lot c = by old.room n.room
+  where
+    by : (o r : Option Room) → (set_numbers (record n { room = r }) (record c { counters = counters_of (record old { room = o }) s lot })).counters
+        ≡ counters_of (record n { room = room_over o r }) s lot
+    by None None = refl
+    by None (Some r) = refl
+    by (Some o) None = refl
+    by (Some o) (Some r) = refl
+
+pub counters_change : (n : CountersRow) → (s : Store) (c : Content) → Describes s c → Describes (with_change (changes.Counters n) s) (set_numbers n c)
 counters_change n s c at = record {
-  counters = ap (λ cs. (set_counter 6 n.handles (set_counter 5 n.nodes (set_counter 4 n.next_cookie (set_counter 3 n.next_fh (set_counter 2 n.next_node
-      (record c { counters = cs })))))).counters) at.counters;
+  counters = ap (λ cs. (set_numbers n (record c { counters = cs })).counters) at.counters ∙ numbers_set n s.rows.counters s.rows.settings s.next_lot c;
   nodes = at.nodes;
   entries = at.entries;
   handles = at.handles;
@@ -248,11 +262,22 @@ counters_change n s c at = record {
   fits = record { nodes = at.fits.nodes; entries = at.fits.entries; handles = at.fits.handles; blocks = at.fits.blocks; kept = at.fits.kept };
 }
 
+agreed_set : (v : Settings) (old : CountersRow) (s : Option Settings) (lot : ℕ) (c : Content)
+    → (set_counter 10 v.flags.0 (set_counter 9 v.max_readahead (set_counter 8 v.minor (set_counter 7 1
+    (record c { counters = counters_of old s lot }))))).counters ≡ counters_of old (Some v) lot
+agreed_set v old s lot c = by old.room
+  where
+    by : (o : Option Room) → (set_counter 10 v.flags.0 (set_counter 9 v.max_readahead (set_counter 8 v.minor (set_counter 7 1
+        (record c { counters = counters_of (record old { room = o }) s lot }))))).counters ≡ counters_of (record old { room = o }) (Some v) lot
+    by None = refl
+    by (Some r) = refl
+
 pub settings_change : (v : Settings) → FitsSettings (Some v) → (s : Store) (c : Content) → Describes s c
     → Describes (with_change (changes.Settings v) s) (set_counter 10 v.flags.0 (set_counter 9 v.max_readahead (set_counter 8 v.minor (set_counter 7 1 c))))
 settings_change v fits s c at = record {
   counters = ap (λ cs. (set_counter 10 v.flags.0 (set_counter 9 v.max_readahead
-      (set_counter 8 v.minor (set_counter 7 1 (record c { counters = cs }))))).counters) at.counters;
+      (set_counter 8 v.minor (set_counter 7 1 (record c { counters = cs }))))).counters) at.counters
+      ∙ agreed_set v s.rows.counters s.rows.settings s.next_lot c;
   nodes = at.nodes;
   entries = at.entries;
   handles = at.handles;

@@ -9,11 +9,12 @@ use Rattle.fuse_keeper.specs.Stands.{Records, Stands, AreThese, without}
 use Rattle.fuse_keeper.specs.Taking.{TakesAll}
 use Rattle.fuse_store_tree.specs.Store.{records_of}
 use Rattle.fuse_store_tree.specs.Holding.{Holding}
-use Rattle.fuse_tree.specs.TheTree.{the_tree}
+use Rattle.fuse_init.specs.declared.profile.Profile.{Profile}
+use Rattle.fuse_tree.specs.TheTree.{tree_of}
 use Rattle.fuse_store_tree.specs.Group.{without_record, without_settled, with_lot_for, lot_for, performed, all_dones}
 use Rattle.fuse_store_tree.proofs.Finds.{found_settled}
 use Rattle.fuse_store_tree.specs.Performing.{content_of, HasPerformed}
-use Rattle.fuse_store_tree.proofs.Took.{Below, group_tree, group_performed, group_taken, kept_for}
+use Rattle.fuse_store_tree.proofs.Took.{Below, group_tree, group_good, group_performed, group_taken, kept_for}
 
 -- ---- settled ids
 
@@ -29,9 +30,9 @@ kept_still : (b c : Bool) (r : Option Said) → (b ≡ true → c ≡ true) → 
 kept_still true c r within off = absurd (let on = within refl in let clash = sym on ∙ off in cc)
 kept_still false c r within off = refl
 
-settled_stand : (ids : List ℕ) (y : Holding) (s : State) (h : History) (t : List ℕ) → Includes t ids → Stands the_tree (rowed y.tree) (records_of y.kept) s h t
-    → Stands the_tree (rowed (without_settled ids y).tree) (records_of (without_settled ids y).kept) s h t
-settled_stand ids y s h t within so = record {
+settled_stand : (p : Profile) (ids : List ℕ) (y : Holding) (s : State) (h : History) (t : List ℕ) → Includes t ids → Stands (tree_of p) (rowed y.tree) (records_of y.kept) s h t
+    → Stands (tree_of p) (rowed (without_settled ids y).tree) (records_of (without_settled ids y).kept) s h t
+settled_stand p ids y s h t within so = record {
   tree = so.tree;
   distinct = so.distinct;
   rows_are = ap rowed (same_tree ids y) ∙ so.rows_are;
@@ -41,10 +42,10 @@ settled_stand ids y s h t within so = record {
 
 -- ---- the lot
 
-lotted_stand : (lot : Option ℕ) (y : Holding) (s : State) (h : History) (t : List ℕ) → Stands the_tree (rowed y.tree) (records_of y.kept) s h t
-    → Stands the_tree (rowed (with_lot_for lot y).tree) (records_of (with_lot_for lot y).kept) s h t
-lotted_stand None y s h t so = so
-lotted_stand (Some n) y s h t so = so
+lotted_stand : (p : Profile) (lot : Option ℕ) (y : Holding) (s : State) (h : History) (t : List ℕ) → Stands (tree_of p) (rowed y.tree) (records_of y.kept) s h t
+    → Stands (tree_of p) (rowed (with_lot_for lot y).tree) (records_of (with_lot_for lot y).kept) s h t
+lotted_stand p None y s h t so = so
+lotted_stand p (Some n) y s h t so = so
 
 lotted_tree : (lot : Option ℕ) (y : Holding) → (with_lot_for lot y).tree ≡ y.tree
 lotted_tree None y = refl
@@ -54,29 +55,35 @@ prepared_tree : (lot : Option ℕ) (ids : List ℕ) (y : Holding) → Tree y.tre
 prepared_tree lot ids y tree = subst Tree (sym (lotted_tree lot (without_settled ids y) ∙ same_tree ids y)) tree
 
 -- what a call makes is a tree still
-pub call_tree : Below → (lot : Option ℕ) (ids : List ℕ) (es : List Entry) (y : Holding) → Tree y.tree → Tree (performed lot ids es y).tree
+pub call_tree : {p : Profile} → Below p → (lot : Option ℕ) (ids : List ℕ) (es : List Entry) (y : Holding) → Tree y.tree → Tree (performed lot ids es y).tree
 call_tree g lot ids es y tree = group_tree g (lot_for lot y) es (with_lot_for lot (without_settled ids y)) (prepared_tree lot ids y tree)
 
--- what a call makes stands for the history grown by the group, and each answer is the one said in it
-pub call_performed : Below → (lot : Option ℕ) (ids : List ℕ) (es : List Entry) (y : Holding) (s : State) (h : History) (t : List ℕ) → Tree y.tree
-    → Includes t ids
-    → All (IsUnsettled t) es → Stands the_tree (rowed y.tree) (records_of y.kept) s h t
-    → HasPerformed (performed lot ids es y) s h t es (all_dones lot ids es y)
-call_performed g lot ids es y s h t tree within each so =
+pub call_good : {p : Profile} → Below p → (lot : Option ℕ) (ids : List ℕ) (es : List Entry) (y : Holding) → (tree_of p).IsGood y.tree
+    → (tree_of p).IsGood (performed lot ids es y).tree
+call_good {p} g lot ids es y good =
     let z = without_settled ids y in
-    group_performed g (lot_for lot y) es (with_lot_for lot z) s h t (prepared_tree lot ids y tree) each
-    (lotted_stand lot z s h t (settled_stand ids y s h t within so))
+    group_good g (lot_for lot y) es (with_lot_for lot z) (subst (tree_of p).IsGood (sym (lotted_tree lot z ∙ same_tree ids y)) good)
+
+-- what a call makes stands for the history grown by the group, and each answer is the one said in it
+pub call_performed : {p : Profile} → Below p → (lot : Option ℕ) (ids : List ℕ) (es : List Entry) (y : Holding) (s : State) (h : History) (t : List ℕ) → Tree y.tree
+    → Includes t ids
+    → All (IsUnsettled t) es → Stands (tree_of p) (rowed y.tree) (records_of y.kept) s h t
+    → HasPerformed p (performed lot ids es y) s h t es (all_dones lot ids es y)
+call_performed {p} g lot ids es y s h t tree within each so =
+    let z = without_settled ids y in
+    group_performed g (lot_for lot y) es (with_lot_for lot z) s h t each
+    (lotted_stand p lot z s h t (settled_stand p ids y s h t within so))
 
 -- the entries of the group are taken over the records that aren't settled
-pub call_taken : Below → (lot : Option ℕ) (ids : List ℕ) (es : List Entry) (y : Holding) (rows : Rows) (records : Records) → Tree y.tree
-    → AreThese the_tree (rowed y.tree) (records_of y.kept) rows records
-    → TakesAll the_tree (record { rows = rows; records = without ids records }) es (content_of (performed lot ids es y)) (all_dones lot ids es y)
-call_taken g lot ids es y rows records tree are =
+pub call_taken : {p : Profile} → Below p → (lot : Option ℕ) (ids : List ℕ) (es : List Entry) (y : Holding) (rows : Rows) (records : Records) → Tree y.tree
+    → AreThese (tree_of p) (rowed y.tree) (records_of y.kept) rows records
+    → TakesAll (tree_of p) (record { rows = rows; records = without ids records }) es (content_of p (performed lot ids es y)) (all_dones lot ids es y)
+call_taken {p} g lot ids es y rows records tree are =
     let z = without_settled ids y in
     let before = with_lot_for lot z in
-    (g.grow).same_taken (content_of before) (record { rows = rows; records = without ids records }) es (content_of (performed lot ids es y))
+    (g.grow).same_taken (content_of p before) (record { rows = rows; records = without ids records }) es (content_of p (performed lot ids es y))
     (all_dones lot ids es y) (
       are.0 ∙ sym (ap rowed (lotted_tree lot z ∙ same_tree ids y)),
       λ i. ap (λ o. cond (is_in ids i) None o) (are.1 i) ∙ sym (ap (λ ks. records_of ks i) (kept_for lot z) ∙ found_settled (λ k. k.said) ids y i),
     )
-    (group_taken g (lot_for lot y) es before (prepared_tree lot ids y tree))
+    (group_taken g (lot_for lot y) es before)

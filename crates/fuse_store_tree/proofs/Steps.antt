@@ -7,6 +7,7 @@ use Rattle.sqlite.specs.declared.error.Error.{Error}
 use Rattle.fuse_store_tables.specs.Content.{Content, Holds}
 use Rattle.fuse_store_tables.specs.Moves.{Inside, InsideAs, IsReady, Makes, Looked, Stays}
 use Rattle.fuse_store_tree.specs.inner.Changing.{Changed, Keeps, KeepsBytes}
+use Rattle.fuse_store_tree.specs.inner.Laws.{looked_still}
 use Rattle.sqlite.proofs.StateLemmas.{survives_weaker}
 use Rattle.fuse_store_tables.specs.inner.Following.{earlier, stays_then}
 use Rattle.fuse_store_tree.proofs.Described.{inside_of}
@@ -48,6 +49,11 @@ pub looked_bytes : (a b d : State) → Looked a b → KeepsBytes b d → KeepsBy
 looked_bytes a b d p q = bytes_then a b d (bytes_keep a b p.stays) (λ clean w at.
     let now = p.same clean at.holds.0 (record { is_open = at.is_open; in_transaction = at.in_transaction; holds = at.holds.1 }) in
     (w, record { is_open = now.is_open; in_transaction = now.in_transaction; holds = (at.holds.0, now.holds, at.holds.2) })) q
+
+-- without a statement nothing is made
+pub made_nothing : {X E : Type 0} (a : State) (r : Result X E) → Makes (λ c. c) a a r
+made_nothing a (Ok x) = record { stays = (looked_still a).stays; turns = λ clean c at. at }
+made_nothing a (Err e) = record { stays = (looked_still a).stays; turns = tt }
 
 -- the effect of a statement, on the store that the tables describe
 pub made : {X : Type 0} (f : Content → Content) (g : Store → Store) (a b : State) (x : X) → ((s : Store) (c : Content) → Describes s c → Describes (g s) (f c))

@@ -1,7 +1,7 @@
 -- What a group makes of rows and records, in the words of a keeper.
-use Rattle.std.proofs.Common.{◌≡◌, ℕ, ◌==◌, suc, zero, List, [], ◌∷◌, ◌++◌, Bool, true, false, cond, All, Option, Some, None, refl, ap, subst, arith, ◌∙◌}
+use Rattle.std.proofs.Common.{◌≡◌, ℕ, ◌==◌, suc, zero, List, [], ◌∷◌, ◌++◌, Bool, true, false, cond, All, Option, Some, None, refl, sym, ap, subst, arith, ◌∙◌}
 use Rattle.fuse_answer.specs.Said.{Said}
-use Rattle.fuse_tree.specs.State.{State, Tree}
+use Rattle.fuse_tree.specs.State.{State, Tree, profile_for}
 use Rattle.fuse_tree.specs.Rows.{rowed}
 use Rattle.fuse_tree.specs.Do.{done}
 use Rattle.fuse_tree.specs.Plan.{TreeKept, RowsTellState}
@@ -12,72 +12,91 @@ use Rattle.fuse_keeper.specs.declared.keeper.Done.{Done}
 use Rattle.fuse_store_tree.specs.Store.{records_of}
 use Rattle.fuse_store_tree.proofs.Described.{grouped}
 use Rattle.fuse_store_tree.specs.Holding.{Holding}
-use Rattle.fuse_tree.specs.TheTree.{the_tree}
+use Rattle.fuse_init.specs.declared.profile.Profile.{Profile}
+use Rattle.fuse_tree.specs.TheTree.{tree_of}
 use Rattle.fuse_store_tree.specs.Performing.{content_of, HasPerformed}
 use Rattle.fuse_store_tree.specs.Group.{said_of, taken, taken_by, with_group, dones_of, without_settled, with_lot_for, lot_for, performed}
 use Rattle.fuse_store_tree.proofs.Finds.{found_put, found_settled}
 
 -- what the crates below say of trees, and of a group to which one more comes
-pub record Below : Type 0 where
+pub record Below (p : Profile) : Type 0 where
   pub tree_kept : TreeKept
   pub rows_tell : RowsTellState
-  pub grow : GroupsGrow the_tree
+  pub grow : GroupsGrow (tree_of p)
 
 -- ---- one request
 
-acts_so : Below → (e : Entry) (y : Holding) → Tree y.tree → Acts the_tree (rowed y.tree) e (rowed (done y.tree e.asked e.moment).state) (said_of e y)
-acts_so g e y tree s good is = subst (λ (z : State). ActedOn the_tree z e (rowed (done y.tree e.asked e.moment).state) (said_of e y)) (g.rows_tell y.tree s is)
-    (record { answer_is = refl; rows_are = refl; tree = g.tree_kept y.tree e.asked e.moment tree })
+-- a request leaves a tree of its profile
+good_next : {p : Profile} → Below p → (e : Entry) (s : State) → (tree_of p).IsGood s → (tree_of p).IsGood (done s e.asked e.moment).state
+good_next g e s good =
+    let kept = g.tree_kept s e.asked e.moment good.tree in
+    record { tree = kept.0; profile = ap (λ (c : Option ℕ). profile_for c) kept.1 ∙ good.profile }
 
-took_by : Below → (r : Option Said) (lot : ℕ) (e : Entry) (y : Holding) → Tree y.tree
-    → TookBy the_tree r (content_of y) e (content_of (taken_by r lot e y).holding) (taken_by r lot e y).done
-took_by g (Some known) lot e y tree = (refl, λ i. refl, refl, refl)
-took_by g None lot e y tree = (acts_so g e y tree, λ i. found_put (λ k. k.said) (record { id = entry_id e; lot = lot; said = said_of e y }) y.kept i, refl)
+acts_so : {p : Profile} → Below p → (e : Entry) (y : Holding)
+    → Acts (tree_of p) (rowed y.tree) e (rowed (done y.tree e.asked e.moment).state) (said_of e y)
+acts_so {p} g e y s good is =
+    let same : y.tree ≡ s = g.rows_tell y.tree s is in
+    subst (λ (z : State). ActedOn (tree_of p) z e (rowed (done y.tree e.asked e.moment).state) (said_of e y)) same
+    (record { answer_is = refl; rows_are = refl; tree = good_next g e y.tree (subst (tree_of p).IsGood (sym same) good) })
 
-pub took : Below → (lot : ℕ) (e : Entry) (y : Holding) → Tree y.tree
-    → Took the_tree (content_of y) e (content_of (taken lot e y).holding) (taken lot e y).done
-took g lot e y tree = took_by g (records_of y.kept (entry_id e)) lot e y tree
+took_by : {p : Profile} → Below p → (r : Option Said) (lot : ℕ) (e : Entry) (y : Holding)
+    → TookBy (tree_of p) r (content_of p y) e (content_of p (taken_by r lot e y).holding) (taken_by r lot e y).done
+took_by g (Some known) lot e y = (refl, λ i. refl, refl, refl)
+took_by g None lot e y = (acts_so g e y, λ i. found_put (λ k. k.said) (record { id = entry_id e; lot = lot; said = said_of e y }) y.kept i, refl)
 
-tree_by : Below → (r : Option Said) (lot : ℕ) (e : Entry) (y : Holding) → Tree y.tree → Tree (taken_by r lot e y).holding.tree
+pub took : {p : Profile} → Below p → (lot : ℕ) (e : Entry) (y : Holding)
+    → Took (tree_of p) (content_of p y) e (content_of p (taken lot e y).holding) (taken lot e y).done
+took g lot e y = took_by g (records_of y.kept (entry_id e)) lot e y
+
+tree_by : {p : Profile} → Below p → (r : Option Said) (lot : ℕ) (e : Entry) (y : Holding) → Tree y.tree → Tree (taken_by r lot e y).holding.tree
 tree_by g (Some known) lot e y tree = tree
-tree_by g None lot e y tree = g.tree_kept y.tree e.asked e.moment tree
+tree_by g None lot e y tree = (g.tree_kept y.tree e.asked e.moment tree).0
+
+good_by : {p : Profile} → Below p → (r : Option Said) (lot : ℕ) (e : Entry) (y : Holding) → (tree_of p).IsGood y.tree
+    → (tree_of p).IsGood (taken_by r lot e y).holding.tree
+good_by g (Some known) lot e y good = good
+good_by g None lot e y good = good_next g e y.tree good
 
 -- ---- a group
 
-pub group_tree : Below → (lot : ℕ) (es : List Entry) (y : Holding) → Tree y.tree → Tree (with_group lot es y).tree
+pub group_tree : {p : Profile} → Below p → (lot : ℕ) (es : List Entry) (y : Holding) → Tree y.tree → Tree (with_group lot es y).tree
 group_tree g lot [] y tree = tree
 group_tree g lot (e ∷ es) y tree = group_tree g lot es (taken lot e y).holding (tree_by g (records_of y.kept (entry_id e)) lot e y tree)
 
-pub group_taken : Below → (lot : ℕ) (es : List Entry) (y : Holding) → Tree y.tree
-    → TakesAll the_tree (content_of y) es (content_of (with_group lot es y)) (dones_of lot es y)
-group_taken g lot [] y tree = (refl, λ i. refl)
-group_taken g lot (e ∷ es) y tree =
+pub group_good : {p : Profile} → Below p → (lot : ℕ) (es : List Entry) (y : Holding) → (tree_of p).IsGood y.tree
+    → (tree_of p).IsGood (with_group lot es y).tree
+group_good g lot [] y good = good
+group_good g lot (e ∷ es) y good = group_good g lot es (taken lot e y).holding (good_by g (records_of y.kept (entry_id e)) lot e y good)
+
+pub group_taken : {p : Profile} → Below p → (lot : ℕ) (es : List Entry) (y : Holding)
+    → TakesAll (tree_of p) (content_of p y) es (content_of p (with_group lot es y)) (dones_of lot es y)
+group_taken g lot [] y = (refl, λ i. refl)
+group_taken {p} g lot (e ∷ es) y =
     let z = (taken lot e y).holding in
-    (content_of z, took g lot e y tree, group_taken g lot es z (tree_by g (records_of y.kept (entry_id e)) lot e y tree))
+    (content_of p z, took g lot e y, group_taken g lot es z)
 
 no_more : {X : Type 0} (xs : List X) → xs ≡ xs ++ []
 no_more [] = refl
 no_more (x ∷ xs) = ap (λ more. x ∷ more) (no_more xs)
 
-group_took : Below → (lot : ℕ) (es : List Entry) (y : Holding) (s : State) (h : History) (t : List ℕ) (so_far : List Entry) (dones : List Done) → Tree y.tree
-    → All (IsUnsettled t) es → HasPerformed y s h t so_far dones → HasPerformed (with_group lot es y) s h t (so_far ++ es) (dones ++ dones_of lot es y)
-group_took g lot [] y s h t so_far dones tree each does =
-    subst (λ l. HasPerformed y s h t l (dones ++ [])) (no_more so_far) (subst (λ l. HasPerformed y s h t so_far l) (no_more dones) does)
-group_took g lot (e ∷ es) y s h t so_far dones tree each does =
+group_took : {p : Profile} → Below p → (lot : ℕ) (es : List Entry) (y : Holding) (s : State) (h : History) (t : List ℕ) (so_far : List Entry) (dones : List Done)
+    → All (IsUnsettled t) es → HasPerformed p y s h t so_far dones → HasPerformed p (with_group lot es y) s h t (so_far ++ es) (dones ++ dones_of lot es y)
+group_took {p} g lot [] y s h t so_far dones each does =
+    subst (λ l. HasPerformed p y s h t l (dones ++ [])) (no_more so_far) (subst (λ l. HasPerformed p y s h t so_far l) (no_more dones) does)
+group_took {p} g lot (e ∷ es) y s h t so_far dones each does =
     let z = (taken lot e y).holding in
     let d = (taken lot e y).done in
-    let more : HasPerformed z s h t (so_far ++ e ∷ []) (dones ++ d ∷ []) =
-    (g.grow).one_more (content_of y) e (content_of z) d (record { state = s; history = h; settled = t }) so_far dones (each zero e (omega arith))
-    (took g lot e y tree) does in
-    let all = group_took g lot es z s h t (so_far ++ e ∷ []) (dones ++ d ∷ []) (tree_by g (records_of y.kept (entry_id e)) lot e y tree)
-    (λ k x below. each (suc k) x (omega (arith, below))) more in
-    subst (λ l. HasPerformed (with_group lot es z) s h t l (dones ++ d ∷ dones_of lot es z)) (grouped so_far (e ∷ []) es)
-    (subst (λ l. HasPerformed (with_group lot es z) s h t ((so_far ++ e ∷ []) ++ es) l) (grouped dones (d ∷ []) (dones_of lot es z)) all)
+    let more : HasPerformed p z s h t (so_far ++ e ∷ []) (dones ++ d ∷ []) =
+    (g.grow).one_more (content_of p y) e (content_of p z) d (record { state = s; history = h; settled = t }) so_far dones (each zero e (omega arith))
+    (took g lot e y) does in
+    let all = group_took g lot es z s h t (so_far ++ e ∷ []) (dones ++ d ∷ []) (λ k x below. each (suc k) x (omega (arith, below))) more in
+    subst (λ l. HasPerformed p (with_group lot es z) s h t l (dones ++ d ∷ dones_of lot es z)) (grouped so_far (e ∷ []) es)
+    (subst (λ l. HasPerformed p (with_group lot es z) s h t ((so_far ++ e ∷ []) ++ es) l) (grouped dones (d ∷ []) (dones_of lot es z)) all)
 
-pub group_performed : Below → (lot : ℕ) (es : List Entry) (y : Holding) (s : State) (h : History) (t : List ℕ) → Tree y.tree → All (IsUnsettled t) es
-    → Stands the_tree (rowed y.tree) (records_of y.kept) s h t → HasPerformed (with_group lot es y) s h t es (dones_of lot es y)
-group_performed g lot es y s h t tree each so =
-    group_took g lot es y s h t [] [] tree each ((g.grow).none_yet (content_of y) (record { state = s; history = h; settled = t }) so)
+pub group_performed : {p : Profile} → Below p → (lot : ℕ) (es : List Entry) (y : Holding) (s : State) (h : History) (t : List ℕ) → All (IsUnsettled t) es
+    → Stands (tree_of p) (rowed y.tree) (records_of y.kept) s h t → HasPerformed p (with_group lot es y) s h t es (dones_of lot es y)
+group_performed {p} g lot es y s h t each so =
+    group_took g lot es y s h t [] [] each ((g.grow).none_yet (content_of p y) (record { state = s; history = h; settled = t }) so)
 
 -- ---- the records of other ids
 

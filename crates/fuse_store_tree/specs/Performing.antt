@@ -8,7 +8,8 @@ use Rattle.fuse_keeper.specs.Stands.{Records, Content, Stands, AreThese, Perform
 use Rattle.fuse_keeper.specs.Taking.{TakesAll}
 use Rattle.fuse_keeper.specs.Lots.{RecordsUnder}
 use Rattle.fuse_keeper.specs.declared.keeper.Done.{Done}
-use Rattle.fuse_tree.specs.TheTree.{the_tree}
+use Rattle.fuse_init.specs.declared.profile.Profile.{Profile}
+use Rattle.fuse_tree.specs.TheTree.{tree_of}
 use Rattle.fuse_store_tree.specs.Store.{records_of}
 use Rattle.fuse_store_tree.specs.Holding.{Holding, HeldFor, AreBelow, lots_of}
 use Rattle.fuse_store_tree.specs.Group.{lot_for, performed, all_dones}
@@ -17,30 +18,32 @@ use Rattle.fuse_store_tree.specs.Group.{lot_for, performed, all_dones}
 abbrev pub OneHolding : Type 0
 OneHolding = (x y : Holding) (d : Database) → HeldFor x d → HeldFor y d → x ≡ y
 
--- its rows and records
-abbrev pub content_of : Holding → Content the_tree
-content_of y = record { rows = rowed y.tree; records = records_of y.kept }
+-- its rows and records, as those of a profile
+abbrev pub content_of : (p : Profile) → Holding → Content (tree_of p)
+content_of p y = record { rows = rowed y.tree; records = records_of y.kept }
 
 -- the holding stands for a history
-abbrev pub HoldingStands : Holding → State → History → List ℕ → Type 0
-HoldingStands y s h t = Stands the_tree (rowed y.tree) (records_of y.kept) s h t
+abbrev pub HoldingStands : Profile → Holding → State → History → List ℕ → Type 0
+HoldingStands p y s h t = Stands (tree_of p) (rowed y.tree) (records_of y.kept) s h t
 
 -- the holding stands for the history extended by a group, and each answer is the one said in it
-abbrev pub HasPerformed : Holding → State → History → List ℕ → List Entry → List Done → Type 0
-HasPerformed y s h t es dones =
-    PerformedBy the_tree (AreThese the_tree (rowed y.tree) (records_of y.kept)) (record { state = s; history = h; settled = t }) es dones
+abbrev pub HasPerformed : Profile → Holding → State → History → List ℕ → List Entry → List Done → Type 0
+HasPerformed p y s h t es dones =
+    PerformedBy (tree_of p) (AreThese (tree_of p) (rowed y.tree) (records_of y.kept)) (record { state = s; history = h; settled = t }) es dones
 
 -- of a call with the lot of this opening, settled ids and a group
-pub record CallsPerform : Type 0 where
+pub record CallsPerform (p : Profile) : Type 0 where
   -- a tree stays a tree
   pub tree : (lot : Option ℕ) (ids : List ℕ) (es : List Entry) (y : Holding) → Tree y.tree → Tree (performed lot ids es y).tree
+  -- of the profile
+  pub good : (lot : Option ℕ) (ids : List ℕ) (es : List Entry) (y : Holding) → (tree_of p).IsGood y.tree → (tree_of p).IsGood (performed lot ids es y).tree
   -- the group is performed
   pub group : (lot : Option ℕ) (ids : List ℕ) (es : List Entry) (y : Holding) (s : State) (h : History) (t : List ℕ) → Tree y.tree → Includes t ids
-      → All (IsUnsettled t) es → HoldingStands y s h t → HasPerformed (performed lot ids es y) s h t es (all_dones lot ids es y)
+      → All (IsUnsettled t) es → HoldingStands p y s h t → HasPerformed p (performed lot ids es y) s h t es (all_dones lot ids es y)
   -- the entries are taken one after the other over the records that aren't settled
   pub acts : (lot : Option ℕ) (ids : List ℕ) (es : List Entry) (y : Holding) (rows : Rows) (records : Records) → Tree y.tree
-      → AreThese the_tree (rowed y.tree) (records_of y.kept) rows records
-      → TakesAll the_tree (record { rows = rows; records = without ids records }) es (content_of (performed lot ids es y)) (all_dones lot ids es y)
+      → AreThese (tree_of p) (rowed y.tree) (records_of y.kept) rows records
+      → TakesAll (tree_of p) (record { rows = rows; records = without ids records }) es (content_of p (performed lot ids es y)) (all_dones lot ids es y)
   -- the records of other ids stay, without the settled ones
   pub others : (lot : Option ℕ) (ids : List ℕ) (es : List Entry) (y : Holding)
       → OthersStay (records_of y.kept) ids es (records_of (performed lot ids es y).kept)

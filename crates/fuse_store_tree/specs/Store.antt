@@ -6,6 +6,7 @@ use Rattle.sqlite.specs.Effect.{Database}
 use Rattle.fuse_init.specs.declared.settings.Settings.{Settings}
 use Rattle.fuse_tree.specs.Bounds.{block_bytes}
 use Rattle.fuse_tree.specs.declared.rows.Counters.{Counters as CountersRow}
+use Rattle.fuse_tree.specs.declared.rows.Room.{Room}
 use Rattle.fuse_tree.specs.Rows.{Rows, full_at, content_of}
 use Rattle.fuse_keeper.specs.Stands.{Records}
 use Rattle.fuse_store_tables.specs.Blocks.{Block, block_at}
@@ -46,11 +47,16 @@ abbrev pub flags_of : Option Settings → ℕ
 flags_of None = 0
 flags_of (Some s) = s.flags.0
 
+-- a store with a room has three entries more: the number of its profile, its capacity and what is in use of it
+abbrev pub counters_of_room : Option Room → List Counter
+counters_of_room None = []
+counters_of_room (Some r) = counter 12 2 ∷ counter 13 r.capacity ∷ counter 14 r.used ∷ []
+
 abbrev pub counters_of : CountersRow → Option Settings → ℕ → List Counter
 counters_of c s lot =
     counter 1 2 ∷ counter 2 c.next_node ∷ counter 3 c.next_fh ∷ counter 4 c.next_cookie ∷ counter 5 c.nodes ∷ counter 6 c.handles ∷ counter 7 (is_there s)
     ∷ counter 8 (minor_of s) ∷ counter 9 (readahead_of s)
-    ∷ counter 10 (flags_of s) ∷ counter 11 lot ∷ []
+    ∷ counter 10 (flags_of s) ∷ counter 11 lot ∷ counters_of_room c.room
 
 -- the settings' numbers are those of their types
 pub record FitsSettings (s : Option Settings) : Type 0 where

@@ -17,7 +17,7 @@ use crate::plan_changes::make_all;
 use fuse_answer::Answer;
 use fuse_keeper::StoreFault;
 use fuse_request::Request;
-use fuse_tree::{PlanFault, plan};
+use fuse_tree::{PlanFault, plan, tree_kept};
 use fuse_wire::Moment;
 use sqlite::Alter;
 use std::alloc::Global;
@@ -54,6 +54,7 @@ pub(crate) fn act<S: Alter>(
         result }
     ensures plain { IfErr result IsPlain }
 {
+    tree_kept();
     let planned = match plan(alloc, look, request, now) {
         Ok(planned) => planned,
         Err(fault) => return Err(fault_of_plan(fault, look.take_fault())),

@@ -1,10 +1,10 @@
 // The bounds of the numbers that the tables store.
-ghost use Rattle.std.specs.Prelude.{◌↔◌, ◌+◌, ◌≤◌, IsTrue};
+ghost use Rattle.std.specs.Prelude.{◌↔◌, ◌+◌, ◌≤◌, IsTrue, IfSome};
 ghost use Rattle.fuse_tree.specs.Bounds.{file_limit};
 ghost use Rattle.fuse_tree.specs.Columns.{FitsNode, FitsEntry, FitsHandle, FitsCounters};
-ghost use Rattle.fuse_tree.specs.Columns.{FitsChange};
+ghost use Rattle.fuse_tree.specs.Columns.{FitsChange, FitsRoom};
 
-use fuse_tree::{Change, Counters, EntryRow, HandleRow, MAX_FILE, NodeRow};
+use fuse_tree::{CAPACITY_END, Change, Counters, EntryRow, HandleRow, MAX_FILE, NodeRow, Room};
 
 // All numbers of nodes, handles, cookies and ids in the tables are below it: an INTEGER of SQLite
 // has 63 bits and a sign.
@@ -28,11 +28,21 @@ fn handle_fits(row: &HandleRow) -> bool
     row.fh < END && row.node < END
 }
 
+// Whether a room fits, where there is one.
+fn room_fits(room: Option<Room>) -> bool
+    ensures { IsTrue result ↔ IfSome room FitsRoom }
+{
+    match room {
+        None => true,
+        Some(room) => room.capacity < CAPACITY_END && room.used < CAPACITY_END,
+    }
+}
+
 fn counters_fit(row: &Counters) -> bool
     ensures { IsTrue result ↔ FitsCounters row.now }
 {
     let given = row.next_node < END && row.next_fh < END && row.next_cookie < END;
-    given && row.nodes < END && row.handles < END
+    given && row.nodes < END && row.handles < END && room_fits(row.room)
 }
 
 // Whether bytes at this offset end within the greatest size of a file.
@@ -48,6 +58,7 @@ pub(crate) fn change_fits(change: &Change) -> bool
 {
     match change {
         Change::Node(row) => node_fits(row),
+        Change::NodeGone { node } => *node < END,
         Change::Entry(row) => entry_fits(row),
         Change::EntryGone { cookie } => *cookie < END,
         Change::Handle(row) => handle_fits(row),

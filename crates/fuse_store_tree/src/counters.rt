@@ -7,11 +7,12 @@ ghost use Rattle.fuse_store_tables.specs.Content.{Content, Counter, shown_counte
 ghost use Rattle.fuse_store_tables.specs.Faults.{IsOutside, IsPlain};
 ghost use Rattle.fuse_store_tables.specs.Moves.{Inside, Looked, Stays};
 ghost use Rattle.fuse_store_tree.specs.inner.Reading.{value_of, counted_in, agreed_in};
+ghost use Rattle.fuse_store_tree.specs.inner.Reading.{room_in, agreement_in};
 
 use fuse_init::Settings;
 use fuse_keeper::StoreFault;
 use fuse_store_tables::{number_at, select_counters};
-use fuse_tree::Counters;
+use fuse_tree::{Agreement, Counters, Room};
 use fuse_wire::InitFlags;
 use sqlite::{Alter, Connection, Row};
 
@@ -44,6 +45,25 @@ fn word_at(rows: &[Row], at: usize) -> Result<u32, StoreFault>
     Ok(value as u32)
 }
 
+// The number of counters where there is a room.
+const WITH_ROOM: usize = 14;
+
+// The room, where there is one.
+pub(crate) fn read_room(rows: &[Row]) -> Result<Option<Room>, StoreFault>
+    ensures value { IfOk result (λ r. (cs : List Counter) → rows.now ≡ map shown_counter cs
+        → r ≡ room_in cs) }
+    ensures fault { IfErr result (λ f. (cs : List Counter) → rows.now ≡ map shown_counter cs
+        → IsOutside f) }
+    ensures plain { IfErr result IsPlain }
+{
+    if rows.len() != WITH_ROOM {
+        return Ok(None);
+    }
+    let capacity = value_at(rows, 12)?;
+    let used = value_at(rows, 13)?;
+    Ok(Some(Room { capacity, used }))
+}
+
 pub(crate) fn read_counters(rows: &[Row]) -> Result<Counters, StoreFault>
     ensures value { IfOk result (λ r. (cs : List Counter) → rows.now ≡ map shown_counter cs
         → r ≡ counted_in cs) }
@@ -56,12 +76,14 @@ pub(crate) fn read_counters(rows: &[Row]) -> Result<Counters, StoreFault>
     let next_cookie = value_at(rows, 3)?;
     let nodes = value_at(rows, 4)?;
     let handles = value_at(rows, 5)?;
+    let room = read_room(rows)?;
     Ok(Counters {
         next_node,
         next_fh,
         next_cookie,
         nodes,
         handles,
+        room,
     })
 }
 
@@ -86,6 +108,21 @@ pub(crate) fn read_settings(rows: &[Row]) -> Result<Option<Settings>, StoreFault
     }))
 }
 
+fn read_agreement(rows: &[Row]) -> Result<Agreement, StoreFault>
+    ensures value { IfOk result (λ r. (cs : List Counter) → rows.now ≡ map shown_counter cs
+        → r ≡ agreement_in cs) }
+    ensures fault { IfErr result (λ f. (cs : List Counter) → rows.now ≡ map shown_counter cs
+        → 11 ≤ length cs → value_of cs 7 < 2 ^ 32 → value_of cs 8 < 2 ^ 32 → IsOutside f) }
+    ensures plain { IfErr result IsPlain }
+{
+    let counters = read_counters(rows)?;
+    let settings = read_settings(rows)?;
+    Ok(Agreement {
+        profile: counters.profile(),
+        settings,
+    })
+}
+
 /// The counters.
 pub(crate) fn find_counters<S: Alter>(conn: &mut Connection<S>) -> Result<Counters, StoreFault>
     ensures looks { OnOk result (Looked (state S.Store conn.old) (state S.Store conn.new)) }
@@ -100,19 +137,17 @@ pub(crate) fn find_counters<S: Alter>(conn: &mut Connection<S>) -> Result<Counte
     read_counters(rows.as_slice())
 }
 
-/// The settings, if any were agreed on.
-pub(crate) fn find_settings<S: Alter>(
-    conn: &mut Connection<S>,
-) -> Result<Option<Settings>, StoreFault>
+/// The profile and the settings.
+pub(crate) fn find_agreement<S: Alter>(conn: &mut Connection<S>) -> Result<Agreement, StoreFault>
     ensures looks { OnOk result (Looked (state S.Store conn.old) (state S.Store conn.new)) }
     ensures fails { OnErr result (Stays (state S.Store conn.old) (state S.Store conn.new)) }
     ensures value { HasCleanDisk (state S.Store conn.new) → IfOk result (λ r. (c : Content)
-        → Inside c (state S.Store conn.old) → r ≡ agreed_in c.counters) }
+        → Inside c (state S.Store conn.old) → r ≡ agreement_in c.counters) }
     ensures fault { HasCleanDisk (state S.Store conn.new) → IfErr result (λ f. (c : Content)
         → Inside c (state S.Store conn.old) → 11 ≤ length c.counters
         → value_of c.counters 7 < 2 ^ 32 → value_of c.counters 8 < 2 ^ 32 → IsOutside f) }
     ensures plain { IfErr result IsPlain }
 {
     let rows = select_counters(conn)?;
-    read_settings(rows.as_slice())
+    read_agreement(rows.as_slice())
 }

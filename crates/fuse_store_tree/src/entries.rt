@@ -18,8 +18,8 @@ use fuse_wire::ByteList;
 use sqlite::{Alter, Connection, Row};
 use std::alloc::Global;
 
-// More entries than a table has.
-const MOST: u64 = 0x4000_0000_0000_0000;
+// More rows than a table of entries or handles has.
+pub(crate) const MOST: u64 = 0x4000_0000_0000_0000;
 
 fn entry_at(row: &Row, dir: u64) -> Result<EntryRow, StoreFault>
     ensures value { IfOk result (λ r. (e : Entry) → e.dir ≡ dir → row.now ≡ shown_entry e → r ≡ e) }
@@ -56,7 +56,7 @@ fn read_entries(alloc: Global, rows: &[Row], dir: u64) -> Result<Vec<EntryRow>, 
 }
 
 // The limit of the statement.
-fn most_of(limit: usize) -> u64
+pub(crate) fn most_of(limit: usize) -> u64
     ensures some { result ≤ limit }
     ensures small { result < 2 ^ 63 }
     ensures most { (result ≡ limit) ⊎ (result ≡ MOST) }
@@ -64,8 +64,8 @@ fn most_of(limit: usize) -> u64
     (limit as u64).min(MOST)
 }
 
-// Whether the table has more entries than possible.
-fn is_too_long(limit: usize, most: u64, count: usize) -> bool
+// Whether the table has more rows than possible.
+pub(crate) fn is_too_long(limit: usize, most: u64, count: usize) -> bool
     ensures { result ≡ (nat_lt most limit && not (nat_lt count most)) }
 {
     most < limit as u64 && count as u64 >= most

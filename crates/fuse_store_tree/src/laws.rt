@@ -3,6 +3,7 @@ ghost use Rattle.fuse_store_tree.specs.Holding.{TreesAreInOrder};
 ghost use Rattle.fuse_store_tree.specs.Lots.{LotsAreRead, LotsAreSame};
 ghost use Rattle.fuse_store_tree.specs.Performing.{OneHolding, CallsPerform};
 
+use fuse_init::Profiled;
 use fuse_keeper::groups_grow;
 use fuse_tree::{PlainTree, rows_tell_state, tree_kept};
 
@@ -14,12 +15,12 @@ pub fn one_holding()
 }
 
 /// A call changes the tables as its group extends a history.
-pub fn calls_perform()
-    ensures { CallsPerform }
+pub fn calls_perform<P: Profiled>()
+    ensures { CallsPerform P.PROFILE }
 {
     tree_kept();
     rows_tell_state();
-    groups_grow::<PlainTree>();
+    groups_grow::<PlainTree<P>>();
 }
 
 /// The lots read from the rows of a database are those that it holds.

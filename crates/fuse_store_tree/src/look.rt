@@ -5,12 +5,12 @@ ghost use Rattle.sqlite.specs.Held.{state};
 ghost use Rattle.fuse_store_tree.specs.Looking.{look_fault, told_as};
 
 use crate::block_reads::find_bytes;
-use crate::counters::{find_counters, find_settings};
+use crate::counters::{find_agreement, find_counters};
 use crate::entries::find_after;
+use crate::handles::find_handles_of;
 use crate::rows::{find_entry, find_handle, find_node};
-use fuse_init::Settings;
 use fuse_keeper::StoreFault;
-use fuse_tree::{Counters, EntryRow, HandleRow, Look, LookFault, NodeRow};
+use fuse_tree::{Agreement, Counters, EntryRow, HandleRow, Look, LookFault, NodeRow};
 use fuse_wire::ByteList;
 use sqlite::{Alter, Connection};
 use std::alloc::Global;
@@ -120,6 +120,13 @@ impl<S: Alter> Look for TableLook<S> {
         }
     }
 
+    fn handles_of(&mut self, node: u64, limit: usize) -> Result<Vec<HandleRow>, LookFault> {
+        match find_handles_of(&mut self.conn, self.alloc, node, limit) {
+            Ok(rows) => Ok(rows),
+            Err(fault) => Err(self.fail(fault)),
+        }
+    }
+
     fn bytes(&mut self, node: u64, offset: u64, len: u32) -> Result<ByteList, LookFault> {
         match find_bytes(&mut self.conn, self.alloc, node, offset, len) {
             Ok(bytes) => Ok(bytes),
@@ -134,9 +141,9 @@ impl<S: Alter> Look for TableLook<S> {
         }
     }
 
-    fn settings(&mut self) -> Result<Option<Settings>, LookFault> {
-        match find_settings(&mut self.conn) {
-            Ok(row) => Ok(row),
+    fn agreement(&mut self) -> Result<Agreement, LookFault> {
+        match find_agreement(&mut self.conn) {
+            Ok(agreement) => Ok(agreement),
             Err(fault) => Err(self.fail(fault)),
         }
     }

@@ -10,6 +10,7 @@ ghost use Rattle.fuse_store_tree.specs.inner.Writing.{with_change, with_changes}
 
 use crate::block_writes::write_content;
 use crate::bounds::change_fits;
+use crate::removal::remove_node;
 use crate::truncation::set_size;
 use crate::updates::{
     add_entry, add_handle, put_node, remove_entry, remove_handle, set_counters, set_settings,
@@ -37,6 +38,7 @@ pub(crate) fn make_change<S: Alter>(
     }
     match change {
         Change::Node(row) => put_node(conn, row),
+        Change::NodeGone { node } => remove_node(conn, *node),
         Change::Entry(entry) => add_entry(conn, entry),
         Change::EntryGone { cookie } => remove_entry(conn, *cookie),
         Change::Handle(handle) => add_handle(conn, handle),

@@ -1,20 +1,23 @@
 // Reads outside a transaction. They change nothing.
 ghost use Rattle.std.specs.Prelude.{◌≡◌, length, IfOk, IfErr};
+ghost use Rattle.std.specs.List.{sum_by};
 ghost use Rattle.sqlite.specs.Held.{state};
 ghost use Rattle.fuse_tree.specs.Rows.{rowed};
+ghost use Rattle.fuse_tree.specs.Space.{room_of};
 ghost use Rattle.fuse_store_tables.specs.Faults.{IsPlain};
-ghost use Rattle.fuse_store_tables.specs.Moves.{ServesAs, StaysOpen, IsSafe};
+ghost use Rattle.fuse_store_tables.specs.Moves.{ServesAs, StaysOpen, IsSafe, OnlyReads};
 ghost use Rattle.fuse_store_tree.specs.Store.{records_of};
 ghost use Rattle.fuse_store_tree.specs.Holding.{HeldFor, ReportsAfter};
 
 use crate::bounds::END;
-use crate::counters::{read_counters, read_settings};
+use crate::counters::{read_counters, read_room, read_settings};
+use crate::laws::rows_in_order;
 use crate::rows::read_answer;
 use fuse_answer::Answer;
 use fuse_init::Settings;
 use fuse_keeper::{StoreCounts, StoreFault};
-use fuse_store_tables::{count_kept, count_lots, select_counters, select_kept};
-use fuse_tree::Counters;
+use fuse_store_tables::{count_kept, count_lots, select_counters, select_kept, sum_sizes};
+use fuse_tree::{Counters, Room};
 use sqlite::{Alter, Connection};
 
 /// The answer in the record of this id. No record has an id from 2^63 on.
@@ -64,6 +67,20 @@ fn counters_at_rest<S: Alter>(conn: &mut Connection<S>) -> Result<Counters, Stor
 {
     let rows = select_counters(conn)?;
     read_counters(rows.as_slice())
+}
+
+/// The room of an everyday store, none of a plain one.
+pub fn room_at_rest<S: Alter>(conn: &mut Connection<S>) -> Result<Option<Room>, StoreFault>
+    ensures serves { ServesAs HeldFor HeldFor (state S.Store conn.old) (state S.Store conn.new)
+        result }
+    ensures open { StaysOpen (state S.Store conn.old) (state S.Store conn.new) result }
+    ensures value { IfOk result (λ r. ReportsAfter (state S.Store conn.old)
+        (state S.Store conn.new) (λ y. r ≡ room_of y.tree)) }
+    ensures fault { IsSafe HeldFor (state S.Store conn.old) (state S.Store conn.new) result }
+    ensures plain { IfErr result IsPlain }
+{
+    let rows = select_counters(conn)?;
+    read_room(rows.as_slice())
 }
 
 // The number of records.
@@ -117,4 +134,20 @@ pub fn counts_at_rest<S: Alter>(conn: &mut Connection<S>) -> Result<StoreCounts,
         records,
         lots,
     })
+}
+
+/// The size of all contents.
+pub fn size_at_rest<S: Alter>(conn: &mut Connection<S>) -> Result<u64, StoreFault>
+    ensures serves { ServesAs HeldFor HeldFor (state S.Store conn.old) (state S.Store conn.new)
+        result }
+    ensures open { StaysOpen (state S.Store conn.old) (state S.Store conn.new) result }
+    // Whatever the database is, nothing is changed.
+    ensures reads { OnlyReads (state S.Store conn.old) (state S.Store conn.new) result }
+    ensures value { IfOk result (λ n. ReportsAfter (state S.Store conn.old)
+        (state S.Store conn.new) (λ y. n ≡ sum_by (λ f. f.row.size) (rowed y.tree).nodes)) }
+    ensures fault { IsSafe HeldFor (state S.Store conn.old) (state S.Store conn.new) result }
+    ensures plain { IfErr result IsPlain }
+{
+    rows_in_order();
+    sum_sizes(conn)
 }

@@ -47,7 +47,7 @@ fn read_node(rows: &[Row], number: u64) -> Result<Option<NodeRow>, StoreFault>
 }
 
 // The access mode of a number.
-fn access_at(row: &Row, at: usize) -> Result<AccessMode, StoreFault>
+pub(crate) fn access_at(row: &Row, at: usize) -> Result<AccessMode, StoreFault>
     ensures value { IfOk result (λ r. (h : Handle)
         → column row.now at ≡ Int (pos (access_code h.access)) → r ≡ h.access) }
     ensures fault { IfErr result (λ f. (h : Handle)

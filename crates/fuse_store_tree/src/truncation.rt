@@ -29,8 +29,12 @@ fn some_zeros(alloc: Global, count: u64) -> Result<Vec<u8>, StoreFault>
     Ok(zeros)
 }
 
-// Deletes the blocks from this number on.
-fn drop_blocks<S: Alter>(conn: &mut Connection<S>, node: u64, from: u64) -> Result<(), StoreFault>
+/// Deletes the blocks from this number on.
+pub(crate) fn drop_blocks<S: Alter>(
+    conn: &mut Connection<S>,
+    node: u64,
+    from: u64,
+) -> Result<(), StoreFault>
     requires node { node < 2 ^ 63 }
     requires from { from < 2 ^ 63 }
     ensures cut { OnOk result (Cut node (from * block_bytes) (state S.Store conn.old)

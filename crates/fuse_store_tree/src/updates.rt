@@ -1,6 +1,6 @@
 // Updates of single rows, each a change of a plan.
 ghost use Rattle.std.specs.Prelude.{◌<◌, ◌^◌, ◌+◌, Some, OnOk, OnErr};
-ghost use Rattle.std.specs.Prelude.{IfErr};
+ghost use Rattle.std.specs.Prelude.{IfErr, IfSome};
 ghost use Rattle.sqlite.specs.State.{HasCleanDisk};
 ghost use Rattle.sqlite.specs.Held.{state};
 ghost use Rattle.fuse_tree.specs.declared.rows.Change.TheVariants as changes;
@@ -8,17 +8,18 @@ ghost use Rattle.fuse_store_tables.specs.Faults.{IsOutside, IsPlain};
 ghost use Rattle.fuse_store_tree.specs.inner.Changing.{Changed, Keeps};
 ghost use Rattle.fuse_store_tables.specs.Content.{Content, HasSeconds, set_counter};
 ghost use Rattle.fuse_tree.specs.Columns.{FitsNode, FitsEntry, FitsHandle, FitsCounters};
+ghost use Rattle.fuse_tree.specs.Columns.{FitsRoom};
 ghost use Rattle.fuse_store_tables.specs.Moves.{Inside, Makes};
-ghost use Rattle.fuse_store_tree.specs.inner.Writing.{with_change};
+ghost use Rattle.fuse_store_tree.specs.inner.Writing.{with_change, with_used};
 
 use crate::rows::find_node;
 use fuse_init::Settings;
 use fuse_keeper::StoreFault;
 use fuse_store_tables::{
-    AGREED, HANDLES, NEXT_NODE, delete_entry, delete_handle, insert_entry, insert_handle,
+    AGREED, HANDLES, NEXT_NODE, USED, delete_entry, delete_handle, insert_entry, insert_handle,
     insert_node, update_counter, update_node,
 };
-use fuse_tree::{Counters, EntryRow, HandleRow, NodeRow};
+use fuse_tree::{Counters, EntryRow, HandleRow, NodeRow, Room};
 use sqlite::{Alter, Connection, Error};
 
 /// Adds an entry with a new cookie.
@@ -162,7 +163,29 @@ fn set_agreed<S: Alter>(conn: &mut Connection<S>, v: Settings) -> Result<(), Err
     )
 }
 
-/// Changes the counters.
+// Changes the number of blocks in use, where there is a room for them.
+fn set_used<S: Alter>(conn: &mut Connection<S>, room: Option<Room>) -> Result<(), Error>
+    requires { IfSome room FitsRoom }
+    ensures { Makes (with_used room) (state S.Store conn.old) (state S.Store conn.new) result }
+{
+    match room {
+        None => Ok(()),
+        Some(room) => update_counter(conn, USED, room.used),
+    }
+}
+
+// The same after the other counters.
+fn set_all<S: Alter>(conn: &mut Connection<S>, n: &Counters) -> Result<(), Error>
+    requires { FitsCounters n.now }
+    ensures { Makes (λ c. with_used n.now.room (set_counter 6 n.now.handles (set_counter 5
+        n.now.nodes (set_counter 4 n.now.next_cookie (set_counter 3 n.now.next_fh (set_counter 2
+        n.now.next_node c)))))) (state S.Store conn.old) (state S.Store conn.new) result }
+{
+    set_numbers(conn, n)?;
+    set_used(conn, n.room)
+}
+
+/// Changes the counters. The capacity stays: no change of a plan has another one.
 pub(crate) fn set_counters<S: Alter>(
     conn: &mut Connection<S>,
     n: &Counters,
@@ -174,7 +197,7 @@ pub(crate) fn set_counters<S: Alter>(
     ensures fault { IfErr result (λ f. IsOutside f) }
     ensures plain { IfErr result IsPlain }
 {
-    match set_numbers(conn, n) {
+    match set_all(conn, n) {
         Ok(()) => Ok(()),
         Err(error) => Err(StoreFault::from(error)),
     }

@@ -1,5 +1,5 @@
 -- A plan over the rows of a state agrees with what is done in that state.
-use Rattle.std.proofs.Common.{◌≡◌, ℕ, true, not, List, Option, Some, None, refl, sym, subst}
+use Rattle.std.proofs.Common.{◌≡◌, ℕ, true, not, List, Option, Some, None, refl, sym, ap, subst}
 use Rattle.std.specs.Prelude.{Result, Ok, Err, IfOk, IfErr, is_some}
 use Rattle.std.specs.Option.{option_map}
 use Rattle.fuse_wire.specs.Errnos.{enoent, enotdir, enosys, eproto, estale}
@@ -11,20 +11,27 @@ use Rattle.fuse_request.specs.declared.request.Op.TheVariants as ops
 use Rattle.fuse_request.specs.Act.{Act, Asked, act, opcode_of}
 use Rattle.fuse_request.specs.Act as acts
 use Rattle.fuse_answer.specs.Replies.{IsRead}
+use Rattle.fuse_init.specs.declared.settings.Settings.{Settings}
+use Rattle.fuse_init.specs.declared.profile.Profile.{Profile}
 use Rattle.fuse_init.specs.Agree.{agree}
+use Rattle.fuse_tree.specs.declared.agreement.Agreement.{Agreement}
 use Rattle.fuse_tree.specs.declared.planning.fault.PlanFault.{PlanFault}
 use Rattle.fuse_tree.specs.declared.planning.fault.PlanFault.TheVariants as faults
 use Rattle.fuse_tree.specs.declared.rows.EntryRow.{EntryRow}
 use Rattle.fuse_tree.specs.declared.rows.NodeRow.{NodeRow}
 use Rattle.fuse_tree.specs.declared.rows.Planned.{Planned}
-use Rattle.fuse_tree.specs.State.{State, Node, Tree, is_dir, node_at, is_named, name_fault}
-use Rattle.fuse_tree.specs.Rows.{row_of, rowed, rows_of_state, row_at, entry_at}
-use Rattle.fuse_tree.specs.Do.{lookup_child, lookup_entry, lookup, done, do_at, do_act, names_node, do_agreed, do_offered, offer_of}
+use Rattle.fuse_tree.specs.State.{State, Node, Shape, Tree, used_of, profile_of, is_dir, node_at, is_named, name_fault}
+use Rattle.fuse_tree.specs.Keeping.{agreement_of, keeps}
+use Rattle.fuse_tree.specs.Rows.{agreement_at, row_of, rowed, rows_of_state, row_at, entry_at}
+use Rattle.fuse_tree.specs.Init.{init}
+use Rattle.fuse_tree.specs.Do.{lookup_absent, lookup_child, lookup_entry, lookup, done, do_at, do_act, names_node, do_agreed, do_offered, offer_of}
 use Rattle.fuse_tree.specs.Plan.{Meets, TreeKept, look_fault, AnswersAreRead}
 use Rattle.fuse_tree.specs.Renaming.{asking}
 use Rattle.fuse_tree.specs.inner.Reading.{Reports, child_of}
-use Rattle.fuse_tree.specs.inner.Planning.{plan_lookup, plan_of, plan_offered, plan_agreed, plan_at, plan_act, plan_child}
-use Rattle.fuse_tree.proofs.Agreement.{Agrees, refused_agrees, both, both_for}
+use Rattle.fuse_tree.specs.inner.PlanInit.{plan_init}
+use Rattle.fuse_tree.specs.inner.Planning.{plan_absent, plan_lookup, plan_of, plan_offered, plan_agreed, plan_at, plan_act, plan_child}
+use Rattle.fuse_tree.specs.State.{NodesAreKept}
+use Rattle.fuse_tree.proofs.Agrees.{Agrees, refused_agrees, both, both_for}
 use Rattle.fuse_tree.proofs.MakingAgrees.{mkdir_agrees, mknod_agrees}
 use Rattle.fuse_tree.proofs.SettingAgrees.{setattr_agrees}
 use Rattle.fuse_tree.proofs.WritingAgrees.{write_agrees, read_agrees}
@@ -33,67 +40,87 @@ use Rattle.fuse_tree.proofs.ListingAgrees.{read_dir_agrees}
 use Rattle.fuse_tree.proofs.OpeningAgrees.{open_agrees, open_dir_agrees, release_agrees, release_dir_agrees}
 use Rattle.fuse_tree.proofs.RemovingAgrees.{unlink_agrees, rmdir_agrees}
 use Rattle.fuse_tree.proofs.RenameAgrees.{renaming_agrees}
+use Rattle.fuse_tree.proofs.Blocks.{room_with}
+use Rattle.fuse_tree.proofs.Most.{profile_mapped}
 use Rattle.fuse_tree.proofs.Puts.{row_found, node_found}
 use Rattle.fuse_tree.proofs.GoneFirst.{plan_orders}
 use Rattle.fuse_tree.proofs.Columns.{plan_fits}
 
-child_agrees : (s : State) → Tree s → (o : Option Node) → Agrees s (plan_child (option_map (row_of s) o)) (lookup_child s o)
-child_agrees s tree None = refused_agrees s tree enoent
-child_agrees s tree (Some n) = record { answer = refl; rows = refl; tree = tree }
+absent_agrees : (s : State) → Shape s → Agrees s (plan_absent (agreement_of s)) (lookup_absent s)
+absent_agrees s tree =
+    both s (keeps (agreement_of s)) _ _ _ _ (λ _. record { answer = refl; rows = refl; tree = tree; same = refl; kept = λ all. all })
+    (λ _. refused_agrees s tree enoent)
 
-entry_agrees : (s : State) → Tree s → (o : Option EntryRow) → Agrees s (plan_child (child_of (rows_of_state s) o)) (lookup_entry s o)
-entry_agrees s tree None = refused_agrees s tree enoent
+child_agrees : (s : State) → Shape s → (o : Option Node) → Agrees s (plan_child (agreement_of s) (option_map (row_of s) o)) (lookup_child s o)
+child_agrees s tree None = absent_agrees s tree
+child_agrees s tree (Some n) = record { answer = refl; rows = refl; tree = tree; same = refl; kept = λ all. all }
+
+entry_agrees : (s : State) → Shape s → (o : Option EntryRow) → Agrees s (plan_child (agreement_of s) (child_of (rows_of_state s) o)) (lookup_entry s o)
+entry_agrees s tree None = absent_agrees s tree
 entry_agrees s tree (Some e) =
-    subst (λ (r : Option NodeRow). Agrees s (plan_child r) (lookup_child s (node_at s e.child))) (sym (row_found s e.child))
+    subst (λ (r : Option NodeRow). Agrees s (plan_child (agreement_of s) r) (lookup_child s (node_at s e.child))) (sym (row_found s e.child))
     (child_agrees s tree (node_at s e.child))
 
-lookup_agrees : (s : State) (name : List ℕ) (d : Node) → Tree s → Agrees s (plan_lookup name (row_of s d) (rows_of_state s)) (lookup s name d)
+lookup_agrees : (s : State) (name : List ℕ) (d : Node) → Shape s → Agrees s (plan_lookup (agreement_of s) name (row_of s d) (rows_of_state s)) (lookup s name d)
 lookup_agrees s name d tree =
     both s (not (is_dir d.mode)) _ _ _ _ (λ _. refused_agrees s tree enotdir) (λ _.
     both_for s (name_fault name) _ _ tree (λ _.
     both s (not (is_named s d.number)) _ _ _ _ (λ _. refused_agrees s tree enoent) (λ _.
     entry_agrees s tree (entry_at s.entries d.number name))))
 
-act_agrees : (s : State) (header : InHeader) (a : Act) (now : Moment) (d : Node) → Tree s → node_at s d.number ≡ Some d
-    → Agrees s (plan_act header a now (row_of s d) (rows_of_state s)) (do_act s header a now d)
-act_agrees s header (acts.Lookup name) now d tree e = lookup_agrees s name d tree
-act_agrees s header (acts.Getattr flags fh) now d tree e = record { answer = refl; rows = refl; tree = tree }
-act_agrees s header (acts.Setattr set) now d tree e = setattr_agrees s set now d tree e
-act_agrees s header (acts.Mkdir mode umask name) now d tree e = mkdir_agrees s header mode name now d tree e
-act_agrees s header (acts.Mknod mode rdev umask name) now d tree e = mknod_agrees s header mode rdev name now d tree e
-act_agrees s header (acts.Unlink name) now d tree e = unlink_agrees s name now d tree e
-act_agrees s header (acts.Rmdir name) now d tree e = rmdir_agrees s name now d tree e
-act_agrees s header (acts.OpenFile flags open_flags) now d tree e = open_agrees s flags d tree e
-act_agrees s header (acts.Read asked) now d tree e = read_agrees s asked d tree e
-act_agrees s header (acts.Write fh offset write_flags lock_owner flags payload) now d tree e = write_agrees s offset payload now d tree e fh
-act_agrees s header (acts.OpenDir flags open_flags) now d tree e = open_dir_agrees s d tree e
-act_agrees s header (acts.ReadDir x) now d tree e = read_dir_agrees s x d tree
-act_agrees s header (acts.Release x) now d tree e = release_agrees s x.fh d tree
-act_agrees s header (acts.ReleaseDir x) now d tree e = release_dir_agrees s x.fh d tree
-act_agrees s header (acts.Rename new_dir old_name new_name) now d tree e = renaming_agrees s (asking new_dir 0 old_name new_name now) d tree e
-act_agrees s header (acts.Rename2 new_dir flags old_name new_name) now d tree e = renaming_agrees s (asking new_dir flags old_name new_name now) d tree e
-act_agrees s header _ now d tree e = refused_agrees s tree enosys
+act_agrees : (s : State) (header : InHeader) (a : Act) (now : Moment) (d : Node) → Shape s → NodesAreKept s → node_at s d.number ≡ Some d
+    → Agrees s (plan_act (agreement_of s) header a now (row_of s d) (rows_of_state s)) (do_act s header a now d)
+act_agrees s header (acts.Lookup name) now d tree kept e = lookup_agrees s name d tree
+act_agrees s header (acts.Getattr flags fh) now d tree kept e = record { answer = refl; rows = refl; tree = tree; same = refl; kept = λ all. all }
+act_agrees s header (acts.Setattr set) now d tree kept e = setattr_agrees s set now d tree e
+act_agrees s header (acts.Mkdir mode umask name) now d tree kept e = mkdir_agrees s header mode name now d tree e
+act_agrees s header (acts.Mknod mode rdev umask name) now d tree kept e = mknod_agrees s header mode rdev name now d tree e
+act_agrees s header (acts.Unlink name) now d tree kept e = unlink_agrees s name now d tree kept e
+act_agrees s header (acts.Rmdir name) now d tree kept e = rmdir_agrees s name now d tree kept e
+act_agrees s header (acts.OpenFile flags open_flags) now d tree kept e = open_agrees s flags d tree e
+act_agrees s header (acts.Read asked) now d tree kept e = read_agrees s asked d tree e
+act_agrees s header (acts.Write fh offset write_flags lock_owner flags payload) now d tree kept e = write_agrees s offset payload now d tree e fh
+act_agrees s header (acts.OpenDir flags open_flags) now d tree kept e = open_dir_agrees s d tree e
+act_agrees s header (acts.ReadDir x) now d tree kept e = read_dir_agrees s x d tree
+act_agrees s header (acts.Release x) now d tree kept e = release_agrees s x.fh d tree kept e
+act_agrees s header (acts.ReleaseDir x) now d tree kept e = release_dir_agrees s x.fh d tree kept e
+act_agrees s header (acts.Rename new_dir old_name new_name) now d tree kept e = renaming_agrees s (asking new_dir 0 old_name new_name now) d tree kept e
+act_agrees s header (acts.Rename2 new_dir flags old_name new_name) now d tree kept e = renaming_agrees s (asking new_dir flags old_name new_name now) d tree kept e
+act_agrees s header _ now d tree kept e = refused_agrees s tree enosys
 
-at_agrees : (s : State) (request : Asked) (now : Moment) (o : Option Node) → Tree s → node_at s request.header.nodeid ≡ o
-    → Agrees s (plan_at request now (option_map (row_of s) o) (rows_of_state s)) (do_at s request now o)
-at_agrees s request now None tree e = refused_agrees s tree estale
-at_agrees s request now (Some d) tree e =
-    act_agrees s request.header request.act now d tree (subst (λ number. node_at s number ≡ Some d) (sym (node_found s request.header.nodeid d tree e).0) e)
+at_agrees : (s : State) (request : Asked) (now : Moment) (o : Option Node) → Shape s → NodesAreKept s → node_at s request.header.nodeid ≡ o
+    → Agrees s (plan_at (agreement_of s) request now (option_map (row_of s) o) (rows_of_state s)) (do_at s request now o)
+at_agrees s request now None tree kept e = refused_agrees s tree estale
+at_agrees s request now (Some d) tree kept e =
+    act_agrees s request.header request.act now d tree kept (subst (λ number. node_at s number ≡ Some d) (sym (node_found s request.header.nodeid d tree e).0) e)
 
-node_agrees : (s : State) (request : Asked) (now : Moment) → Tree s
-    → Agrees s (plan_at request now (row_at (rows_of_state s) request.header.nodeid) (rows_of_state s)) (do_at s request now (node_at s request.header.nodeid))
-node_agrees s request now tree =
-    subst (λ (o : Option NodeRow). Agrees s (plan_at request now o (rows_of_state s)) (do_at s request now (node_at s request.header.nodeid)))
-    (sym (row_found s request.header.nodeid)) (at_agrees s request now (node_at s request.header.nodeid) tree refl)
+node_agrees : (s : State) (request : Asked) (now : Moment) → Shape s → NodesAreKept s
+    → Agrees s (plan_at (agreement_of s) request now (row_at (rows_of_state s) request.header.nodeid) (rows_of_state s))
+    (do_at s request now (node_at s request.header.nodeid))
+node_agrees s request now tree kept =
+    subst (λ (o : Option NodeRow). Agrees s (plan_at (agreement_of s) request now o (rows_of_state s)) (do_at s request now (node_at s request.header.nodeid)))
+    (sym (row_found s request.header.nodeid)) (at_agrees s request now (node_at s request.header.nodeid) tree kept refl)
 
-agreed_agrees : (s : State) (request : Asked) (now : Moment) → Tree s → Agrees s (plan_agreed request now (rows_of_state s)) (do_agreed s request now)
-agreed_agrees s request now tree =
-    both s (names_node request.act) _ _ _ _ (λ _. node_agrees s request now tree) (λ _. record { answer = refl; rows = refl; tree = tree })
+-- the rows show what the store says to each request
+agreement_told : (s : State) → agreement_at (rows_of_state s) ≡ agreement_of s
+agreement_told s = ap (λ (p : Profile). told_with p s.settings) (profile_mapped (room_with (used_of s)) s.capacity)
+  where
+    told_with : Profile → Option Settings → Agreement
+    told_with p settings = record { profile = p; settings = settings }
 
-plan_agrees : (s : State) (request : Asked) (now : Moment) (offer : Option InitIn) → Tree s
+agreed_agrees : (s : State) (request : Asked) (now : Moment) → Shape s → NodesAreKept s
+    → Agrees s (plan_agreed (agreement_of s) request now (rows_of_state s)) (do_agreed s request now)
+agreed_agrees s request now tree kept =
+    both s (names_node request.act) _ _ _ _ (λ _. node_agrees s request now tree kept) (λ _. record { answer = refl; rows = refl; tree = tree; same = refl; kept = λ all. all })
+
+plan_agrees : (s : State) (request : Asked) (now : Moment) (offer : Option InitIn) → Shape s → NodesAreKept s
     → Agrees s (plan_offered request now offer (rows_of_state s)) (do_offered s request now offer)
-plan_agrees s request now (Some offer) tree = init_agrees s (agree offer) tree
-plan_agrees s request now None tree = both s (is_some s.settings) _ _ _ _ (λ _. agreed_agrees s request now tree) (λ _. refused_agrees s tree eproto)
+plan_agrees s request now (Some offer) tree kept =
+    subst (λ (a : Agreement). Agrees s (plan_init (agree a.profile offer)) (init s (agree (profile_of s) offer))) (sym (agreement_told s))
+    (init_agrees s (agree (profile_of s) offer) tree)
+plan_agrees s request now None tree kept = both s (is_some s.settings) _ _ _ _ (λ _. subst
+    (λ (a : Agreement). Agrees s (plan_agreed a request now (rows_of_state s)) (do_agreed s request now)) (sym (agreement_told s))
+    (agreed_agrees s request now tree kept)) (λ _. refused_agrees s tree eproto)
 
 -- what a plan over the rows of a tree is
 pub plan_meets : (s : State) (request : Asked) (now : Moment) → Tree s → Meets s (plan_of request now (rowed s)) (done s request now)
@@ -101,16 +128,20 @@ unfolding rowed done
 plan_meets s request now tree =
     let a =
     plan_agrees s request now
-    (offer_of request.act) tree in record {
+    (offer_of request.act) tree.shape tree.kept in record {
       answer = a.answer;
       rows = a.rows;
       order = plan_orders request now (rowed s);
-      fits = plan_fits s request now tree;
-      tree = a.tree;
+      fits = plan_fits s request now tree.shape;
+      tree = record { shape = a.tree; kept = a.kept tree.kept };
     }
 
+capacity_kept : (s : State) (request : Asked) (now : Moment) → Tree s → (done s request now).state.capacity ≡ s.capacity
+unfolding done
+capacity_kept s request now tree = (plan_agrees s request now (offer_of request.act) tree.shape tree.kept).same
+
 pub tree_kept : TreeKept
-tree_kept s request now tree = (plan_meets s request now tree).tree
+tree_kept s request now tree = ((plan_meets s request now tree).tree, capacity_kept s request now tree)
 
 pub answered : (s : State) (request : Asked) (now : Moment) (result : Result Planned PlanFault) → Tree s
     → (look_fault result ≡ None → Reports result (plan_of request now (rowed s))) → IfOk result (λ p. Meets s p (done s request now))

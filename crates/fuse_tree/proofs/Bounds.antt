@@ -8,24 +8,28 @@ use Rattle.std.specs.Option.{option_map}
 use Rattle.fuse_tree.specs.declared.rows.EntryRow.{EntryRow}
 use Rattle.fuse_tree.specs.declared.rows.HandleRow.{HandleRow}
 use Rattle.fuse_tree.specs.declared.rows.NodeRow.{NodeRow}
-use Rattle.fuse_tree.specs.State.{State, Node, Tree, IsNode, IsEntry, is_below, has_number, node_at, is_entry}
+use Rattle.fuse_tree.specs.State.{State, terms_of, profile_of, Node, Shape, Tree, IsNode, IsEntry, is_below, has_number, node_at, is_entry}
 use Rattle.fuse_tree.specs.Rows.{Rows, IsRowed, row_of, rowed, rows_of_state, row_at, entry_at, is_after, entries_after}
 use Rattle.fuse_tree.specs.Handles.{is_open}
 use Rattle.fuse_tree.specs.inner.Reading.{IsWithin}
 use Rattle.fuse_tree.specs.Removing.{has_entries}
 use Rattle.fuse_tree.proofs.Lists.{all_more, found, any_gives, none_found, length_filtered}
+use Rattle.fuse_tree.proofs.Most.{nodes_most, file_most}
 use Rattle.fuse_tree.proofs.Puts.{row_found}
 
-within : (s : State) (number : ℕ) (row : NodeRow) (o : Option Node) → Tree s → node_at s number ≡ o → option_map (row_of s) o ≡ Some row → IsWithin row
+within : (s : State) (number : ℕ) (row : NodeRow) (o : Option Node) → Shape s → node_at s number ≡ o → option_map (row_of s) o ≡ Some row → IsWithin row
 within s number row None tree e is = absurd cc
 within s number row (Some n) tree e is =
-    let p = (found (IsNode s.next_node) (λ m. m.number == number) s.nodes n tree.nodes e).0 in
+    let p = (found (IsNode (terms_of s) s.next_node) (λ m. m.number == number) s.nodes n tree.nodes e).0 in
     let same : row_of s n ≡ row = cc in
     let here : IsWithin (row_of s n) =
-    record { size = p.size; subdirs = omega (arith, tree.limits.nodes, length_filtered (is_below s.entries n.number) s.nodes) } in
+    record {
+      size = omega (arith, p.size, file_most (profile_of s));
+      subdirs = omega (arith, tree.limits.nodes, nodes_most (profile_of s), length_filtered (is_below s.entries n.number) s.nodes);
+    } in
     subst IsWithin same here
 
-within_state : (s : State) (number : ℕ) (row : NodeRow) → Tree s → row_at (rows_of_state s) number ≡ Some row → IsWithin row
+within_state : (s : State) (number : ℕ) (row : NodeRow) → Shape s → row_at (rows_of_state s) number ≡ Some row → IsWithin row
 within_state s number row tree is = within s number row (node_at s number) tree refl (sym (row_found s number) ∙ is)
 
 pub rowed_is : (s : State) → rowed s ≡ rows_of_state s
@@ -36,7 +40,7 @@ rowed_is s = refl
 pub row_within : (rows : Rows) (number : ℕ) (row : NodeRow) → IsRowed rows → row_at rows number ≡ Some row → IsWithin row
 unfolding IsRowed
 row_within rows number row is e =
-    let s = is.0 in within_state s number row is.1 (subst (λ (r : Rows). row_at r number ≡ Some row) (is.2 ∙ rowed_is s) e)
+    let s = is.0 in within_state s number row is.1.shape (subst (λ (r : Rows). row_at r number ≡ Some row) (is.2 ∙ rowed_is s) e)
 
 pub map_none : {A B : Type 0} (f : A → B) (o : Option A) → option_map f o ≡ None → o ≡ None
 map_none f None e = refl
@@ -49,7 +53,7 @@ child_there s child there none =
     any_gives (λ n. (n.number == child) ≡ false) (has_number child) ⊥ s.nodes (none_found (λ n. n.number == child) s.nodes missing) there
     (λ n fails passes. absurd cc)
 
-child_in_state : (s : State) (dir : ℕ) (name : List ℕ) (x : EntryRow) → Tree s → entry_at s.entries dir name ≡ Some x → row_at (rows_of_state s) x.child ≡ None
+child_in_state : (s : State) (dir : ℕ) (name : List ℕ) (x : EntryRow) → Shape s → entry_at s.entries dir name ≡ Some x → row_at (rows_of_state s) x.child ≡ None
     → ⊥
 child_in_state s dir name x tree e none =
     let p = (found (IsEntry s.nodes s.entries s.next_cookie) (is_entry dir name) s.entries x tree.entries e).0 in
@@ -61,7 +65,7 @@ unfolding IsRowed
 child_row rows dir name x is e none =
     let s = is.0 in
     let same : rows ≡ rows_of_state s = is.2 ∙ rowed_is s in
-    child_in_state s dir name x is.1 (subst (λ (r : Rows). entry_at r.entries dir name ≡ Some x) same e)
+    child_in_state s dir name x is.1.shape (subst (λ (r : Rows). entry_at r.entries dir name ≡ Some x) same e)
     (subst (λ (r : Rows). row_at r x.child ≡ None) same none)
 
 open_counted : (handles : List HandleRow) (fh node : ℕ) → is_open handles fh node ≡ true → length handles ≡ 0 → ⊥
@@ -102,4 +106,4 @@ entries_told rows dir is =
     let s = is.0 in
     let same : rows ≡ rows_of_state s = is.2 ∙ rowed_is s in
     subst (λ (r : Rows). not (eqb (length (entries_after r dir 0 1)) 0) ≡ has_entries r.entries dir) (sym same)
-    (first_after s.entries dir (all_more (IsEntry s.nodes s.entries s.next_cookie) (λ e. 3 ≤ e.cookie) s.entries (λ e p. p.from_three) is.1.entries))
+    (first_after s.entries dir (all_more (IsEntry s.nodes s.entries s.next_cookie) (λ e. 3 ≤ e.cookie) s.entries (λ e p. p.from_three) is.1.shape.entries))

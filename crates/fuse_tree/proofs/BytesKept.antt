@@ -1,6 +1,6 @@
 -- Requests that bring bytes leave a state of bytes one.
 use Rattle.std.proofs.Common.{◌<◌, ◌+◌, ◌-◌, ◌==◌, ◌&&◌, ◌||◌, ℕ, zero, suc, Bool, true, false, cond, eqb, not, List, [], ◌∷◌, ◌++◌, length, map, Option, Some}
-use Rattle.std.proofs.Common.{None, is_some, arith}
+use Rattle.std.proofs.Common.{None, is_some, max, arith}
 use Rattle.std.specs.Prelude.{take, drop, replicate, nat_le, nat_lt}
 use Rattle.std.specs.List.{AllByRecursion}
 use Rattle.fuse_wire.specs.declared.access_mode.AccessMode.{AccessMode}
@@ -22,11 +22,13 @@ use Rattle.fuse_init.specs.declared.negotiation.Negotiated.TheVariants.{Agreed, 
 use Rattle.fuse_tree.specs.Bounds.{number_end, read_limit}
 use Rattle.fuse_tree.specs.declared.new_node.NewNode.{NewNode}
 use Rattle.fuse_tree.specs.declared.rows.EntryRow.{EntryRow}
-use Rattle.fuse_tree.specs.State.{State, Node, is_dir, is_file, type_bits, is_named, name_fault, node_at}
+use Rattle.fuse_tree.specs.State.{State, terms_of, profile_of, Node, is_dir, is_file, type_bits, is_named, is_kept, name_fault, node_at}
+use Rattle.fuse_tree.specs.Removal.{swept, tidied}
 use Rattle.fuse_tree.specs.Rows.{entry_at, sized, written}
 use Rattle.fuse_tree.specs.Handles.{access_at, is_open}
 use Rattle.fuse_tree.specs.Done.{Done, refuse, refuse_for, answer, touched, touch}
 use Rattle.fuse_tree.specs.Changing.{changed_at, with_changed}
+use Rattle.fuse_tree.specs.Space.{room_of, has_room}
 use Rattle.fuse_tree.specs.Setting.{has, set_fault, set_node, with_set, setattr}
 use Rattle.fuse_tree.specs.Writing.{wrote, with_bytes, may_write, may_read, write, read}
 use Rattle.fuse_tree.specs.Making.{is_full, begun, new_node, new_entry, with_node, make, dir_mode, mkdir, may_make, node_mode, node_rdev, mknod}
@@ -37,7 +39,8 @@ use Rattle.fuse_tree.specs.Removing.{marked, mark, without, entry_gone, has_entr
 use Rattle.fuse_tree.specs.Removing.{rmdir_named, rmdir}
 use Rattle.fuse_tree.specs.Renaming.{Renaming, asking, is_exchange, is_no_replace, holds, is_same, asked_fault, place_fault, placed, replaced, both_touched}
 use Rattle.fuse_tree.specs.Renaming.{renamed, exchanged, rename_with_room, rename_entry, exchange_entry, rename_by, rename_from, rename_between, rename}
-use Rattle.fuse_tree.specs.Do.{lookup_child, lookup_entry, lookup_named, lookup, do_act, do_at, names_node, done, do_offered, offer_of}
+use Rattle.fuse_tree.specs.Keeping.{agreement_of, keeps}
+use Rattle.fuse_tree.specs.Do.{lookup_absent, lookup_child, lookup_entry, lookup_named, lookup, do_act, do_at, names_node, done, do_offered, offer_of}
 use Rattle.fuse_tree.specs.Bytes.{AreBytes, AreNameBytes, HoldsBytes, BringsBytes, BytesKept}
 use Rattle.fuse_tree.proofs.Lists.{all_more, all_grown, all_mapped, all_kept}
 
@@ -107,6 +110,14 @@ node_bytes s fresh dir name new h = record {
 
 -- ---- what is done
 
+-- without the nodes that have neither a name nor an fh
+tidied_bytes : (t : State) → HoldsBytes t → HoldsBytes (tidied t)
+tidied_bytes t h = step (terms_of t).removes
+  where
+    step : (b : Bool) → HoldsBytes (cond b (swept t) t)
+    step true = record { contents = all_kept (λ n. AreBytes n.content) (λ n. is_kept t n.number) t.nodes h.contents; names = h.names }
+    step false = h
+
 record Keeps (d : Done) : Type 0 where
   bytes : HoldsBytes d.state
 
@@ -126,12 +137,15 @@ unless s None d h so = so
 
 -- in a state of bytes
 module _ (s : State) (h : HoldsBytes s) where
+  lookup_absent_keeps : Keeps (lookup_absent s)
+  lookup_absent_keeps = chosen (keeps (agreement_of s)) _ _ (leads s _ h) (stays s _ h)
+
   lookup_child_keeps : (o : Option Node) → Keeps (lookup_child s o)
-  lookup_child_keeps None = stays s _ h
+  lookup_child_keeps None = lookup_absent_keeps
   lookup_child_keeps (Some child) = leads s _ h
 
   lookup_entry_keeps : (o : Option EntryRow) → Keeps (lookup_entry s o)
-  lookup_entry_keeps None = stays s _ h
+  lookup_entry_keeps None = lookup_absent_keeps
   lookup_entry_keeps (Some e) = lookup_child_keeps (node_at s e.child)
 
   lookup_keeps : (name : List ℕ) (n : Node) → Keeps (lookup s name n)
@@ -142,8 +156,9 @@ module _ (s : State) (h : HoldsBytes s) where
 
   setattr_keeps : (set : SetattrIn) (now : Moment) (n : Node) → Keeps (setattr s set now n)
   setattr_keeps set now n =
-      unless s (set_fault set n.mode) _ h
-      (leads (with_set s set now n.number) _ (changed_bytes n.number (set_node set now) s (λ m p. one m.content (has set fattr_size) p) h))
+      unless s (set_fault (terms_of s).file_limit set n.mode) _ h
+      (chosen (has set fattr_size && not (has_room (room_of s) (length n.content) set.size)) _ _ (stays s _ h)
+      (leads (with_set s set now n.number) _ (changed_bytes n.number (set_node set now) s (λ m p. one m.content (has set fattr_size) p) h)))
     where
       one : (bs : List ℕ) (b : Bool) → AreBytes bs → AreBytes (cond b (sized set.size bs) bs)
       one bs true p = sized_bytes set.size bs p
@@ -153,9 +168,10 @@ module _ (s : State) (h : HoldsBytes s) where
   write_keeps fh offset payload now n new =
       chosen (not (may_write (access_at s.handles fh n.number))) _ _ (stays s _ h)
       (chosen (length payload == 0) _ _ (leads s _ h)
-      (chosen (nat_lt 16777216 (offset + length payload)) _ _ (stays s _ h)
+      (chosen (nat_lt (terms_of s).file_limit (offset + length payload)) _ _ (stays s _ h)
+      (chosen (not (has_room (room_of s) (length n.content) (max (length n.content) (offset + length payload)))) _ _ (stays s _ h)
       (leads (with_bytes s offset payload now n.number) _
-      (changed_bytes n.number (wrote offset payload now) s (λ m p. written_bytes offset payload m.content new p) h))))
+      (changed_bytes n.number (wrote offset payload now) s (λ m p. written_bytes offset payload m.content new p) h)))))
 
   read_keeps : (asked : ReadIn) (n : Node) → Keeps (read s asked n)
   read_keeps asked n =
@@ -167,23 +183,23 @@ module _ (s : State) (h : HoldsBytes s) where
   make_keeps fresh name n new =
       chosen (not (is_named s n.number)) _ _ (stays s _ h)
       (chosen (is_some (entry_at s.entries n.number name)) _ _ (stays s _ h)
-      (chosen (is_full (length s.nodes) s.next_node s.next_cookie) _ _ (stays s _ h)
+      (chosen (is_full (terms_of s).node_limit (length s.nodes) s.next_node s.next_cookie) _ _ (stays s _ h)
       (leads (with_node s fresh n.number name) _ (node_bytes s fresh n.number name new h))))
 
   mkdir_keeps : (header : InHeader) (mode : ℕ) (name : List ℕ) (now : Moment) (n : Node) → AreNameBytes name → Keeps (mkdir s header mode name now n)
   mkdir_keeps header mode name now n new =
       chosen (not (is_dir n.mode)) _ _ (stays s _ h)
-      (unless s (name_fault name) _ h (make_keeps (begun header (dir_mode mode) 0 now) name n new))
+      (unless s (name_fault name) _ h (make_keeps (begun (terms_of s) n.mode n.gid header (dir_mode mode) 0 now) name n new))
 
   mknod_keeps : (header : InHeader) (mode rdev : ℕ) (name : List ℕ) (now : Moment) (n : Node) → AreNameBytes name → Keeps (mknod s header mode rdev name now n)
   mknod_keeps header mode rdev name now n new =
       chosen (not (is_dir n.mode)) _ _ (stays s _ h)
       (chosen (not (may_make (type_bits mode))) _ _ (stays s _ h)
-      (unless s (name_fault name) _ h (make_keeps (begun header (node_mode mode) (node_rdev mode rdev) now) name n new)))
+      (unless s (name_fault name) _ h (make_keeps (begun (terms_of s) n.mode n.gid header (node_mode mode) (node_rdev mode rdev) now) name n new)))
 
   unlink_child_keeps : (e : EntryRow) (now : Moment) (o : Option Node) → Keeps (unlink_child s e now o)
   unlink_child_keeps e now None = stays s _ h
-  unlink_child_keeps e now (Some c) = chosen (is_dir c.mode) _ _ (stays s _ h) (leads (entry_gone e now s) [] (gone_bytes e now s h))
+  unlink_child_keeps e now (Some c) = chosen (is_dir c.mode) _ _ (stays s _ h) (leads (tidied (entry_gone e now s)) [] (tidied_bytes (entry_gone e now s) (gone_bytes e now s h)))
 
   unlink_entry_keeps : (now : Moment) (o : Option EntryRow) → Keeps (unlink_entry s now o)
   unlink_entry_keeps now None = stays s _ h
@@ -199,7 +215,7 @@ module _ (s : State) (h : HoldsBytes s) where
   rmdir_child_keeps e now None = stays s _ h
   rmdir_child_keeps e now (Some c) =
       chosen (not (is_dir c.mode)) _ _ (stays s _ h)
-      (chosen (has_entries s.entries c.number) _ _ (stays s _ h) (leads (entry_gone e now s) [] (gone_bytes e now s h)))
+      (chosen (has_entries s.entries c.number) _ _ (stays s _ h) (leads (tidied (entry_gone e now s)) [] (tidied_bytes (entry_gone e now s) (gone_bytes e now s h))))
 
   rmdir_entry_keeps : (now : Moment) (o : Option EntryRow) → Keeps (rmdir_entry s now o)
   rmdir_entry_keeps now None = stays s _ h
@@ -211,13 +227,13 @@ module _ (s : State) (h : HoldsBytes s) where
       (unless s (name_fault name) (rmdir_named s name now n) h
       (chosen (not (is_named s n.number)) _ _ (stays s _ h) (rmdir_entry_keeps now (entry_at s.entries n.number name))))
 
-  open_node_keeps : (access : AccessMode) (n : Node) → Keeps (open_node s access n)
-  open_node_keeps access n =
+  open_node_keeps : (flags : ℕ) (access : AccessMode) (n : Node) → Keeps (open_node s flags access n)
+  open_node_keeps flags access n =
       unless s (open_fault (length s.handles) s.next_fh) _ h (leads (opened s n.number access) _ (record { contents = h.contents; names = h.names }))
 
   open_for_keeps : (access : Option AccessMode) (n : Node) → Keeps (open_for s access n)
   open_for_keeps None n = stays s _ h
-  open_for_keeps (Some access) n = open_node_keeps access n
+  open_for_keeps (Some access) n = open_node_keeps (terms_of s).open_flags access n
 
   open_keeps : (flags : ℕ) (n : Node) → Keeps (open_file s flags n)
   open_keeps flags n =
@@ -225,12 +241,12 @@ module _ (s : State) (h : HoldsBytes s) where
       (chosen (not (is_file n.mode)) _ _ (stays s _ h) (open_for_keeps (access_of flags) n))
 
   open_dir_keeps : (n : Node) → Keeps (open_dir s n)
-  open_dir_keeps n = chosen (not (is_dir n.mode)) _ _ (stays s _ h) (open_node_keeps ReadOnly n)
+  open_dir_keeps n = chosen (not (is_dir n.mode)) _ _ (stays s _ h) (open_node_keeps 0 ReadOnly n)
 
   close_keeps : (fh : ℕ) (kind_fault : Option Errno) (n : Node) → Keeps (close s fh kind_fault n)
   close_keeps fh kind_fault n =
       chosen (not (is_open s.handles fh n.number)) _ _ (stays s _ h)
-      (unless s kind_fault _ h (leads (closed s fh) [] (record { contents = h.contents; names = h.names })))
+      (unless s kind_fault _ h (leads (tidied (closed s fh)) [] (tidied_bytes (closed s fh) (record { contents = h.contents; names = h.names }))))
 
   list_keeps : (es : List Entry) (size : ℕ) → Keeps (list_prefix s es size)
   list_keeps es size = chosen (not (first_fits es size)) _ _ (stays s _ h) (leads s _ h)
@@ -267,7 +283,8 @@ module _ (s : State) (h : HoldsBytes s) where
         (placed_bytes dir r.old_name other.child _ old (without_bytes other.cookie _ (without_bytes e.cookie s h))))))
 
     room_keeps : (dir : ℕ) (e : EntryRow) (other : Option EntryRow) → Keeps (rename_with_room s r dir e other)
-    room_keeps dir e other = chosen (nat_le number_end s.next_cookie) _ _ (stays s _ h) (leads (renamed r dir e other s) [] (renamed_bytes dir e other))
+    room_keeps dir e other = chosen (nat_le number_end s.next_cookie) _ _ (stays s _ h)
+        (leads (tidied (renamed r dir e other s)) [] (tidied_bytes (renamed r dir e other s) (renamed_bytes dir e other)))
 
     entry_keeps : (dir : ℕ) (e : EntryRow) (other : Option EntryRow) → Keeps (rename_entry s r dir e other)
     entry_keeps dir e other =
@@ -324,7 +341,7 @@ module _ (s : State) (h : HoldsBytes s) where
   at_keeps request now (Some n) new = act_keeps request.header request.act now n new
 
   offered_keeps : (request : Asked) (now : Moment) (o : Option InitIn) → BringsBytes request.act → Keeps (do_offered s request now o)
-  offered_keeps request now (Some offer) new = init_keeps (agree offer)
+  offered_keeps request now (Some offer) new = init_keeps (agree (profile_of s) offer)
   offered_keeps request now None new =
       chosen (is_some s.settings) _ _
       (chosen (names_node request.act) _ _ (at_keeps request now (node_at s request.header.nodeid) new) (leads s [] h))
@@ -335,7 +352,7 @@ module _ (s : State) (h : HoldsBytes s) where
 pub bytes_kept : BytesKept
 unfolding done
 bytes_kept = record {
-  new = λ now. record { contents = (tt, tt); names = tt };
+  new = λ p capacity now. record { contents = (tt, tt); names = tt };
   kept = λ s request now new h. (offered_keeps s h request now (offer_of request.act) new).bytes;
   mounted = λ s h. record { contents = all_kept (λ n. AreBytes n.content) (λ n. is_named s n.number) s.nodes h.contents; names = h.names };
 }

@@ -1,20 +1,24 @@
 -- One node is changed: the rows are those of the state that has it so, and the tree goes on.
-use Rattle.std.proofs.Common.{◌≡◌, ◌≢◌, ℕ, Bool, true, false, cond, eqb, List, [], ◌∷◌, map, Some, refl, sym, ap, subst, ◌∙◌}
+use Rattle.std.proofs.Common.{◌≡◌, ◌≢◌, ℕ, Bool, true, false, cond, eqb, List, [], ◌∷◌, length, map, Some, refl, sym, ap, subst, ◌∙◌}
+use Rattle.std.specs.Prelude.{IfSome, Option}
 use Rattle.std.specs.List.{AllByRecursion}
 use Rattle.std.proofs.lemmas.Bool.{ne_eqb, eq-eqb, eqb-true, eqb-false}
 use Rattle.std.proofs.lemmas.List.{length-map}
 use Rattle.fuse_tree.specs.declared.rows.NodeRow.{NodeRow}
 use Rattle.fuse_tree.specs.declared.rows.Full.{Full}
-use Rattle.fuse_tree.specs.State.{State, Node, Tree, IsNode, node_at}
+use Rattle.fuse_tree.specs.declared.rows.Room.{Room}
+use Rattle.fuse_tree.specs.State.{State, terms_of, Node, Shape, IsNode, FitsCapacity, node_at}
+use Rattle.fuse_tree.specs.Space.{room_of}
 use Rattle.fuse_tree.specs.Rows.{full_of, counters_of, rows_of_state, with_row, put_node, at_node}
 use Rattle.fuse_tree.specs.Changing.{changed_at, with_changed}
 use Rattle.fuse_tree.proofs.Lists.{all_both}
 use Rattle.fuse_tree.proofs.Counts.{subdirs_mapped}
 use Rattle.fuse_tree.proofs.Trees.{SamePlace, tree_mapped}
+use Rattle.fuse_tree.proofs.Blocks.{recounted}
 use Rattle.fuse_tree.proofs.Puts.{only_one, put_there}
 
 -- in the node d
-module _ (s : State) (change : Node → Node) (same : (n : Node) → SamePlace n (change n)) (d : Node) (tree : Tree s) (e : node_at s d.number ≡ Some d) where
+module _ (s : State) (change : Node → Node) (same : (n : Node) → SamePlace n (change n)) (d : Node) (tree : Shape s) (e : node_at s d.number ≡ Some d) where
   abbrev after : State
   after = with_changed d.number change s
 
@@ -25,18 +29,18 @@ module _ (s : State) (change : Node → Node) (same : (n : Node) → SamePlace n
   places : (n : Node) → SamePlace n (changed_at d.number change n)
   places n = place n (eqb n.number d.number)
 
-  node_then : (n : Node) → IsNode s.next_node (change d) → IsNode s.next_node n → (n.number ≡ d.number → n ≡ d) → (b : Bool) → eqb n.number d.number ≡ b
-      → IsNode s.next_node (cond b (change n) n)
-  node_then n ok p one true is = subst (λ (m : Node). IsNode s.next_node (change m)) (sym (one (eqb-true n.number d.number is))) ok
+  node_then : (n : Node) → IsNode (terms_of s) s.next_node (change d) → IsNode (terms_of s) s.next_node n → (n.number ≡ d.number → n ≡ d) → (b : Bool) → eqb n.number d.number ≡ b
+      → IsNode (terms_of s) s.next_node (cond b (change n) n)
+  node_then n ok p one true is = subst (λ (m : Node). IsNode (terms_of s) s.next_node (change m)) (sym (one (eqb-true n.number d.number is))) ok
   node_then n ok p one false is = p
 
-  pub changed_tree : IsNode s.next_node (change d) → Tree after
-  changed_tree ok =
+  pub changed_tree : IsNode (terms_of s) s.next_node (change d) → IfSome s.capacity (FitsCapacity after) → Shape after
+  changed_tree ok space =
       tree_mapped s (changed_at d.number change) places
-      (all_both (IsNode s.next_node) (λ n. n.number ≡ d.number → n ≡ d) (λ n. IsNode s.next_node (changed_at d.number change n)) s.nodes
+      (all_both (IsNode (terms_of s) s.next_node) (λ n. n.number ≡ d.number → n ≡ d) (λ n. IsNode (terms_of s) s.next_node (changed_at d.number change n)) s.nodes
       (λ n p one. node_then n ok p one (eqb n.number d.number) refl)
       tree.nodes (only_one d.number d s.nodes tree.nodes_rise e))
-      tree
+      space tree
 
   -- nothing else is counted otherwise
   pub full_then : (n : Node) → full_of after n ≡ full_of s n
@@ -64,11 +68,15 @@ module _ (s : State) (change : Node → Node) (same : (n : Node) → SamePlace n
         each_then n one.0 (eqb n.number d.number) refl ∙ sym (full_then (changed_at d.number change n)) in
         rw (head, each ns one.1) refl
 
-    pub changed_rows : record (rows_of_state s) { nodes = map (at_node d.number f) (put_node row (map (full_of s) s.nodes)) } ≡ rows_of_state after
-    changed_rows =
+    -- where the room is counted anew
+    pub changed_rows : (room : Option Room) → room ≡ room_of after
+        → record (rows_of_state s) {
+          nodes = map (at_node d.number f) (put_node row (map (full_of s) s.nodes));
+          counters = record (counters_of s) { room = room };
+        } ≡ rows_of_state after
+    changed_rows room counted =
         let nodes : map (at_node d.number f) (put_node row (map (full_of s) s.nodes)) ≡ map (full_of after) (map (changed_at d.number change) s.nodes) =
         ap (map (at_node d.number f)) (put_there s row d (subst (λ (k : ℕ). node_at s k ≡ Some d) (sym number) e))
         ∙ each s.nodes (only_one d.number d s.nodes tree.nodes_rise e) in
-        ap (λ (fs : List Full). record (rows_of_state s) { nodes = fs }) nodes
-        ∙ ap (λ (n : ℕ). record (rows_of_state after) { counters = record (counters_of s) { nodes = n } })
-        (sym (length-map s.nodes (changed_at d.number change)))
+        ap (λ (fs : List Full). record (rows_of_state s) { nodes = fs; counters = record (counters_of s) { room = room } }) nodes
+        ∙ recounted after (length s.nodes) room (sym (length-map s.nodes (changed_at d.number change))) counted

@@ -1,79 +1,84 @@
 -- The changes of each plan over the rows of a tree fit a table.
-use Rattle.std.proofs.Common.{◌≡◌, ◌+◌, ◌-◌, ◌<◌, ◌≤◌, ◌==◌, ◌&&◌, ◌||◌, ◌^◌, ℕ, Bool, true, false, cond, not, eqb, List, [], ◌∷◌, length, Option}
+use Rattle.std.proofs.Common.{◌≡◌, ◌+◌, ◌-◌, ◌<◌, ◌==◌, ◌&&◌, ◌||◌, ◌^◌, ℕ, Bool, true, false, cond, not, eqb, List, [], ◌∷◌, Option}
 use Rattle.std.proofs.Common.{Some, None, is_some, refl, subst, inl, inr, arith}
-use Rattle.std.specs.Prelude.{nat_eq, nat_lt, nat_le}
+use Rattle.std.specs.Option.{option_map}
+use Rattle.std.specs.Prelude.{IfSome, nat_eq, nat_lt, nat_le}
 use Rattle.std.specs.Cmp.Lexicographic.{pointwise}
-use Rattle.std.proofs.lemmas.Bool.{eqb-true, ltb-true, ltb-false}
+use Rattle.std.proofs.lemmas.Bool.{eqb-true, ltb-true}
 use Rattle.std.proofs.lemmas.Nat.{and_le_r}
 use Rattle.fuse_wire.specs.declared.access_mode.AccessMode.{AccessMode}
 use Rattle.fuse_wire.specs.declared.access_mode.AccessMode.TheVariants.{ReadOnly}
 use Rattle.fuse_wire.specs.declared.errno.Errno.{Errno}
-use Rattle.fuse_wire.specs.Errnos.{eisdir, einval, efbig}
 use Rattle.fuse_wire.specs.declared.moment.Moment.{Moment}
-use Rattle.fuse_wire.specs.Bits.{fattr_size}
 use Rattle.fuse_wire.specs.Flags.{access_of}
 use Rattle.fuse_request.specs.declared.request.InHeader.{InHeader}
 use Rattle.fuse_request.specs.declared.request.InitIn.{InitIn}
 use Rattle.fuse_request.specs.declared.request.ReadIn.{ReadIn}
-use Rattle.fuse_request.specs.declared.request.SetattrIn.{SetattrIn}
 use Rattle.fuse_request.specs.Act.{Act, Asked}
 use Rattle.fuse_request.specs.Act as acts
+use Rattle.fuse_init.specs.declared.profile.Profile.TheVariants.{Plain, Everyday}
 use Rattle.fuse_init.specs.declared.negotiation.Negotiated.{Negotiated}
 use Rattle.fuse_init.specs.declared.negotiation.Negotiated.TheVariants.{Agreed, Again, Refused}
-use Rattle.fuse_init.specs.Agree.{agree, offered, taken, is_older}
+use Rattle.fuse_init.specs.Agree.{agree, offered, is_older}
+use Rattle.fuse_init.specs.Profile.{plain, everyday, terms}
 use Rattle.fuse_init.specs.Numbers.{kernel_version}
-use Rattle.fuse_tree.specs.Bounds.{number_end, file_limit, read_limit}
+use Rattle.fuse_tree.specs.Bounds.{number_end, read_limit}
 use Rattle.fuse_tree.specs.declared.planning.finding.Link.{Link}
 use Rattle.fuse_tree.specs.declared.new_node.NewNode.{NewNode}
+use Rattle.fuse_tree.specs.declared.agreement.Agreement.{Agreement}
 use Rattle.fuse_tree.specs.declared.rows.Change.TheVariants as changes
 use Rattle.fuse_tree.specs.declared.rows.Counters.{Counters as CountersRow}
+use Rattle.fuse_tree.specs.declared.rows.Room.{Room}
+use Rattle.fuse_tree.specs.declared.rows.Change.{Change}
 use Rattle.fuse_tree.specs.declared.rows.NodeRow.{NodeRow}
 use Rattle.fuse_tree.specs.declared.rows.Planned.{Planned}
-use Rattle.fuse_tree.specs.State.{State, Tree, is_dir, type_bits, is_file, name_fault}
-use Rattle.fuse_tree.specs.Rows.{Rows, rows_of_state, row_at, entry_at, handle_at, row_is_named}
+use Rattle.fuse_init.specs.declared.profile.Profile.{Profile}
+use Rattle.fuse_tree.specs.inner.PlanRemoval.{goes_unnamed, goes_closed, room_less, removal, with_removal}
+use Rattle.fuse_tree.specs.State.{State, Shape, profile_for, is_dir, type_bits, is_file, name_fault}
+use Rattle.fuse_tree.specs.Rows.{Rows, terms_at, agreement_at, rows_of_state, row_at, entry_at, handle_at, row_is_named}
 use Rattle.fuse_tree.specs.Handles.{access_at, is_open}
+use Rattle.fuse_tree.specs.Keeping.{keeps, valid_of}
 use Rattle.fuse_tree.specs.Do.{names_node, offer_of}
 use Rattle.fuse_tree.specs.Making.{is_full, begun, dir_mode, may_make, node_mode, node_rdev}
-use Rattle.fuse_tree.specs.Setting.{has, size_fault, set_fault}
-use Rattle.fuse_tree.specs.Writing.{may_write, may_read}
+use Rattle.fuse_tree.specs.Writing.{may_read}
 use Rattle.fuse_tree.specs.Removing.{has_entries}
 use Rattle.fuse_tree.specs.Listing.{first_fits}
 use Rattle.fuse_tree.specs.Opening.{open_fault, not_for_dirs, for_dirs_alone}
-use Rattle.fuse_tree.specs.Columns.{FitsNode, FitColumns}
+use Rattle.fuse_tree.specs.Columns.{FitsNode, FitsRoom, FitsCounters, FitColumns}
 use Rattle.fuse_tree.specs.inner.Planning.{plan_child, plan_lookup, plan_act, plan_at, plan_offered, plan_of}
 use Rattle.fuse_tree.specs.inner.PlanInit.{plan_init}
 use Rattle.fuse_tree.specs.inner.PlanMaking.{plan_new, plan_make, plan_mkdir, plan_mknod}
-use Rattle.fuse_tree.specs.inner.PlanSetting.{set_row, plan_setattr}
-use Rattle.fuse_tree.specs.inner.PlanWriting.{plan_written, plan_write, plan_read}
+use Rattle.fuse_tree.specs.inner.PlanWriting.{plan_read}
 use Rattle.fuse_tree.specs.inner.PlanListing.{rows_after, plan_read_dir}
-use Rattle.fuse_tree.specs.inner.PlanOpening.{plan_opened, plan_open_node, plan_open_for, plan_open, plan_open_dir, plan_closed, plan_close}
-use Rattle.fuse_tree.specs.inner.PlanRemoving.{link_at, plan_gone, plan_unlink_link, plan_unlink, plan_rmdir_link, plan_rmdir}
+use Rattle.fuse_tree.specs.inner.PlanOpening.{plan_opened, plan_open_node, plan_open_for, plan_open, plan_open_dir, counters_closed, closed_changes, plan_close}
+use Rattle.fuse_tree.specs.inner.PlanRemoving.{link_at, gone_changes, plan_gone, plan_unlink_link, plan_unlink, plan_rmdir_link, plan_rmdir}
 use Rattle.fuse_tree.specs.inner.PlanRenaming.{is_same_link, row_holds, other_at, new_dir_at, link_fault, lost_changes, dir_row, dirs_changes, rename_changes}
-use Rattle.fuse_tree.specs.inner.PlanRenaming.{exchange_changes, is_dir_link, is_dir_other, plan_rename_link, plan_exchange_link, plan_rename_from}
+use Rattle.fuse_tree.specs.inner.PlanRenaming.{exchange_changes, is_dir_link, is_dir_other, with_lost, plan_rename_link, plan_exchange_link, plan_rename_from}
 use Rattle.fuse_tree.specs.inner.PlanRenaming.{plan_rename_between, plan_rename}
 use Rattle.fuse_tree.specs.Renaming.{Renaming, is_exchange, is_no_replace, asking, asked_fault}
 use Rattle.fuse_tree.specs.inner.Reading.{child_at}
 use Rattle.fuse_tree.proofs.Lists.{cond_found}
+use Rattle.fuse_tree.proofs.SizesFit.{isnt_not, setattr_fits, write_fits}
 use Rattle.fuse_tree.proofs.SmallRows.{SmallCounters, Small, small}
 use Rattle.fuse_tree.proofs.SmallRows.{found_small, FitsLink, FitsFound, link_small, open_small, Fit, nothing, past}
 use Rattle.fuse_tree.proofs.SmallRows.{unless, joined}
 
 -- ---- LOOKUP
 
-child_fits : (o : Option NodeRow) → Fit (plan_child o)
-child_fits None = nothing _ refl
-child_fits (Some child) = nothing _ refl
+child_fits : (g : Agreement) (o : Option NodeRow) → Fit (plan_child g o)
+child_fits g None = past (keeps g) _ _ refl (λ _. nothing _ refl)
+child_fits g (Some child) = nothing _ refl
 
-lookup_fits : (name : List ℕ) (row : NodeRow) (rows : Rows) → Fit (plan_lookup name row rows)
-lookup_fits name row rows =
+lookup_fits : (g : Agreement) (name : List ℕ) (row : NodeRow) (rows : Rows) → Fit (plan_lookup g name row rows)
+lookup_fits g name row rows =
     past (not (is_dir row.mode)) _ _ refl
-    (λ _. unless (name_fault name) _ (λ _. past (not (row_is_named row)) _ _ refl (λ _. child_fits (child_at rows row.node name))))
+    (λ _. unless (name_fault name) _ (λ _. past (not (row_is_named row)) _ _ refl (λ _. child_fits g (child_at rows row.node name))))
 
 -- ---- MKNOD and MKDIR
 
-new_fits : (counters : CountersRow) (fresh : NewNode) (name : List ℕ) (row : NodeRow) → SmallCounters counters → FitsNode row
-    → Fit (plan_new counters fresh name row)
-new_fits counters fresh name row few fits =
+new_fits : (valid : ℕ) (counters : CountersRow) (fresh : NewNode) (name : List ℕ) (row : NodeRow) → SmallCounters counters → FitsNode row
+    → Fit (plan_new valid counters fresh name row)
+new_fits valid counters fresh name row few fits =
     let node : counters.next_node + 1 < 2 ^ 63 = omega (arith, few.next_node) in
     let cookie : counters.next_cookie + 1 < 2 ^ 63 = omega (arith, few.next_cookie) in
     record {
@@ -90,6 +95,7 @@ new_fits counters fresh name row few fits =
                 next_cookie = cookie;
                 nodes = omega (arith, few.nodes);
                 handles = omega (arith, few.handles);
+                room = few.room;
               },
               tt,
             ),
@@ -98,56 +104,26 @@ new_fits counters fresh name row few fits =
       );
     }
 
-make_fits : (fresh : NewNode) (name : List ℕ) (row : NodeRow) (rows : Rows) → Small rows → FitsNode row → Fit (plan_make fresh name row rows)
-make_fits fresh name row rows all fits =
+make_fits : (valid : ℕ) (fresh : NewNode) (name : List ℕ) (row : NodeRow) (rows : Rows) → Small rows → FitsNode row → Fit (plan_make valid fresh name row rows)
+make_fits valid fresh name row rows all fits =
     past (not (row_is_named row)) _ _ refl
     (λ _. past (is_some (entry_at rows.entries row.node name)) _ _ refl
-    (λ _. past (is_full rows.counters.nodes rows.counters.next_node rows.counters.next_cookie) _ _ refl
-    (λ _. new_fits rows.counters fresh name row all.counters fits)))
+    (λ _. past (is_full (terms_at rows).node_limit rows.counters.nodes rows.counters.next_node rows.counters.next_cookie) _ _ refl
+    (λ _. new_fits valid rows.counters fresh name row all.counters fits)))
 
-mkdir_fits : (header : InHeader) (mode : ℕ) (name : List ℕ) (now : Moment) (row : NodeRow) (rows : Rows) → Small rows → FitsNode row
-    → Fit (plan_mkdir header mode name now row rows)
-mkdir_fits header mode name now row rows all fits =
-    past (not (is_dir row.mode)) _ _ refl (λ _. unless (name_fault name) _ (λ _. make_fits (begun header (dir_mode mode) 0 now) name row rows all fits))
+mkdir_fits : (g : Agreement) (header : InHeader) (mode : ℕ) (name : List ℕ) (now : Moment) (row : NodeRow) (rows : Rows) → Small rows → FitsNode row
+    → Fit (plan_mkdir g header mode name now row rows)
+mkdir_fits g header mode name now row rows all fits =
+    past (not (is_dir row.mode)) _ _ refl (λ _. unless (name_fault name) _ (λ _. make_fits (valid_of g) (begun (terms g.profile) row.mode row.gid header (dir_mode mode) 0 now) name row rows all fits))
 
-mknod_fits : (header : InHeader) (mode rdev : ℕ) (name : List ℕ) (now : Moment) (row : NodeRow) (rows : Rows) → Small rows → FitsNode row
-    → Fit (plan_mknod header mode rdev name now row rows)
-mknod_fits header mode rdev name now row rows all fits =
+mknod_fits : (g : Agreement) (header : InHeader) (mode rdev : ℕ) (name : List ℕ) (now : Moment) (row : NodeRow) (rows : Rows) → Small rows → FitsNode row
+    → Fit (plan_mknod g header mode rdev name now row rows)
+mknod_fits g header mode rdev name now row rows all fits =
     past (not (is_dir row.mode)) _ _ refl
     (λ _. past (not (may_make (type_bits mode))) _ _ refl
-    (λ _. unless (name_fault name) _ (λ _. make_fits (begun header (node_mode mode) (node_rdev mode rdev) now) name row rows all fits)))
+    (λ _. unless (name_fault name) _ (λ _. make_fits (valid_of g) (begun (terms g.profile) row.mode row.gid header (node_mode mode) (node_rdev mode rdev) now) name row rows all fits)))
 
--- ---- SETATTR, WRITE and READ
-
-over_size : (dir file over : Bool) → cond dir (Some eisdir) (cond (not file) (Some einval) (cond over (Some efbig) None)) ≡ None → over ≡ false
-over_size true file over e = absurd cc
-over_size false false over e = absurd cc
-over_size false true true e = absurd cc
-over_size false true false e = refl
-
-setattr_fits : (set : SetattrIn) (now : Moment) (row : NodeRow) → FitsNode row → Fit (plan_setattr set now row)
-setattr_fits set now row fits = unless (set_fault set row.mode) _ (λ none. record { columns = sizes (has set fattr_size) none })
-  where
-    size_is : size_fault row.mode set.size ≡ None → set.size ≤ 16777216
-    size_is none = ltb-false 16777216 set.size (over_size _ (is_file row.mode) (nat_lt 16777216 set.size) none)
-
-    sizes : (b : Bool) → cond b (size_fault row.mode set.size) None ≡ None
-        → FitColumns (changes.Node (record (set_row set now row) { size = cond b set.size row.size }) ∷ cond b (changes.Sized row.node set.size ∷ []) [])
-    sizes true none = (record { node = fits.node; up = fits.up; size = size_is none }, ((fits.node, size_is none), tt))
-    sizes false none = (record { node = fits.node; up = fits.up; size = fits.size }, tt)
-
-written_fits : (offset : ℕ) (payload : List ℕ) (now : Moment) (row : NodeRow) → FitsNode row → offset + length payload ≤ 16777216
-    → Fit (plan_written offset payload now row)
-written_fits offset payload now row fits few =
-    let size : row.size ≤ 16777216 = fits.size in
-    record { columns = (record { node = fits.node; up = fits.up; size = omega arith }, ((fits.node, few), tt)) }
-
-write_fits : (fh offset : ℕ) (payload : List ℕ) (now : Moment) (row : NodeRow) (rows : Rows) → FitsNode row → Fit (plan_write fh offset payload now row rows)
-write_fits fh offset payload now row rows fits =
-    past (not (may_write (access_at rows.handles fh row.node))) _ _ refl
-    (λ _. past (length payload == 0) _ _ refl
-    (λ _. past (nat_lt file_limit (offset + length payload)) _ _ refl
-    (λ few. written_fits offset payload now row fits (ltb-false file_limit (offset + length payload) few))))
+-- ---- READ
 
 read_fits : (asked : ReadIn) (row : NodeRow) (rows : Rows) → Fit (plan_read asked row rows)
 read_fits asked row rows =
@@ -166,8 +142,8 @@ read_dir_fits asked row rows =
 
 -- ---- handles
 
-opened_fits : (counters : CountersRow) (access : AccessMode) (node : ℕ) → SmallCounters counters → node < 2 ^ 63 → Fit (plan_opened counters access node)
-opened_fits counters access node few fits =
+opened_fits : (flags : ℕ) (counters : CountersRow) (access : AccessMode) (node : ℕ) → SmallCounters counters → node < 2 ^ 63 → Fit (plan_opened flags counters access node)
+opened_fits flags counters access node few fits =
     let fh : counters.next_fh + 1 < 2 ^ 63 = omega (arith, few.next_fh) in
     record {
       columns = (
@@ -179,88 +155,126 @@ opened_fits counters access node few fits =
             next_cookie = omega (arith, few.next_cookie);
             nodes = omega (arith, few.nodes);
             handles = omega (arith, few.handles);
+            room = few.room;
           },
           tt,
         ),
       );
     }
 
-open_node_fits : (access : AccessMode) (node : ℕ) (rows : Rows) → Small rows → node < 2 ^ 63 → Fit (plan_open_node access node rows)
-open_node_fits access node rows all fits =
-    unless (open_fault rows.counters.handles rows.counters.next_fh) _ (λ _. opened_fits rows.counters access node all.counters fits)
+open_node_fits : (flags : ℕ) (access : AccessMode) (node : ℕ) (rows : Rows) → Small rows → node < 2 ^ 63 → Fit (plan_open_node flags access node rows)
+open_node_fits flags access node rows all fits =
+    unless (open_fault rows.counters.handles rows.counters.next_fh) _ (λ _. opened_fits flags rows.counters access node all.counters fits)
 
-open_for_fits : (o : Option AccessMode) (row : NodeRow) (rows : Rows) → Small rows → FitsNode row → Fit (plan_open_for o row rows)
-open_for_fits None row rows all fits = nothing _ refl
-open_for_fits (Some access) row rows all fits = open_node_fits access row.node rows all fits.node
+open_for_fits : (open_flags : ℕ) (o : Option AccessMode) (row : NodeRow) (rows : Rows) → Small rows → FitsNode row → Fit (plan_open_for open_flags o row rows)
+open_for_fits open_flags None row rows all fits = nothing _ refl
+open_for_fits open_flags (Some access) row rows all fits = open_node_fits open_flags access row.node rows all fits.node
 
-open_fits : (flags : ℕ) (row : NodeRow) (rows : Rows) → Small rows → FitsNode row → Fit (plan_open flags row rows)
-open_fits flags row rows all fits =
-    past (is_dir row.mode) _ _ refl (λ _. past (not (is_file row.mode)) _ _ refl (λ _. open_for_fits (access_of flags) row rows all fits))
+open_fits : (open_flags flags : ℕ) (row : NodeRow) (rows : Rows) → Small rows → FitsNode row → Fit (plan_open open_flags flags row rows)
+open_fits open_flags flags row rows all fits =
+    past (is_dir row.mode) _ _ refl (λ _. past (not (is_file row.mode)) _ _ refl (λ _. open_for_fits open_flags (access_of flags) row rows all fits))
 
 open_dir_fits : (row : NodeRow) (rows : Rows) → Small rows → FitsNode row → Fit (plan_open_dir row rows)
-open_dir_fits row rows all fits = past (not (is_dir row.mode)) _ _ refl (λ _. open_node_fits ReadOnly row.node rows all fits.node)
+open_dir_fits row rows all fits = past (not (is_dir row.mode)) _ _ refl (λ _. open_node_fits 0 ReadOnly row.node rows all fits.node)
 
-closed_fits : (counters : CountersRow) (fh : ℕ) → SmallCounters counters → fh < 2 ^ 63 → Fit (plan_closed counters fh)
-closed_fits counters fh few fits = record {
-  columns = (
-    fits,
-    (
-      record {
-        next_node = omega (arith, few.next_node);
-        next_fh = omega (arith, few.next_fh);
-        next_cookie = omega (arith, few.next_cookie);
-        nodes = omega (arith, few.nodes);
-        handles = omega (arith, few.handles);
-      },
-      tt,
-    ),
-  );
+-- ---- a node that goes
+
+room_less_fits : (row : NodeRow) (o : Option Room) → IfSome o FitsRoom → IfSome (option_map (room_less row) o) FitsRoom
+room_less_fits row None fits = tt
+room_less_fits row (Some room) fits = record { capacity = fits.capacity; used = omega (arith, fits.used) }
+
+removal_fits : (row : NodeRow) (counters : CountersRow) → row.node < 2 ^ 63 → FitsCounters counters → FitColumns (removal row counters)
+removal_fits row counters node fits = (
+  node,
+  (
+    record {
+      next_node = fits.next_node;
+      next_fh = fits.next_fh;
+      next_cookie = fits.next_cookie;
+      nodes = omega (arith, fits.nodes);
+      handles = fits.handles;
+      room = room_less_fits row counters.room fits.room;
+    },
+    tt,
+  ),
+)
+
+with_removal_fits : (goes : Bool) (row : NodeRow) (counters : CountersRow) (before : List Change) → row.node < 2 ^ 63 → FitsCounters counters
+    → FitColumns before → FitColumns (with_removal goes row counters before)
+with_removal_fits true row counters before node fits so = joined before (removal row counters) so (removal_fits row counters node fits)
+with_removal_fits false row counters before node fits so = so
+
+counters_fit : (counters : CountersRow) → SmallCounters counters → FitsCounters counters
+counters_fit counters few = record {
+  next_node = omega (arith, few.next_node);
+  next_fh = omega (arith, few.next_fh);
+  next_cookie = omega (arith, few.next_cookie);
+  nodes = omega (arith, few.nodes);
+  handles = omega (arith, few.handles);
+  room = few.room;
 }
 
-isnt_not : (b : Bool) → not b ≡ false → b ≡ true
-isnt_not true e = refl
-isnt_not false e = absurd cc
+closed_counters_fit : (counters : CountersRow) → SmallCounters counters → FitsCounters (counters_closed counters)
+closed_counters_fit counters few = record {
+  next_node = omega (arith, few.next_node);
+  next_fh = omega (arith, few.next_fh);
+  next_cookie = omega (arith, few.next_cookie);
+  nodes = omega (arith, few.nodes);
+  handles = omega (arith, few.handles);
+  room = few.room;
+}
 
-close_fits : (fh : ℕ) (fault : Option Errno) (node : ℕ) (rows : Rows) → Small rows → Fit (plan_close fh fault node rows)
-close_fits fh fault node rows all =
-    past (not (is_open rows.handles fh node)) _ _ refl
+close_fits : (fh : ℕ) (fault : Option Errno) (row : NodeRow) (rows : Rows) → Small rows → FitsNode row → Fit (plan_close fh fault row rows)
+close_fits fh fault row rows all fits =
+    let few = closed_counters_fit rows.counters all.counters in
+    past (not (is_open rows.handles fh row.node)) _ _ refl
     (λ there. unless fault _
-    (λ _. closed_fits rows.counters fh all.counters
-    (open_small rows fh node (handle_at rows.handles fh) all refl (isnt_not (is_open rows.handles fh node) there))))
+    (λ _. record {
+      columns =
+          with_removal_fits (goes_closed (profile_for rows.counters.room) fh row rows) row (counters_closed rows.counters) (closed_changes rows.counters fh)
+          fits.node few
+          (open_small rows fh row.node (handle_at rows.handles fh) all refl (isnt_not (is_open rows.handles fh row.node) there), (few, tt));
+    }))
 
 -- ---- UNLINK and RMDIR
 
-gone_fits : (now : Moment) (link : Link) (row : NodeRow) → FitsLink link → FitsNode row → Fit (plan_gone now link row)
-gone_fits now link row there fits = record {
-  columns = (
-    there.cookie,
-    (
-      record { node = fits.node; up = fits.up; size = fits.size },
-      (record { node = there.child.node; up = omega arith; size = there.child.size }, tt),
-    ),
-  );
+gone_fits : (p : Profile) (now : Moment) (link : Link) (row : NodeRow) (rows : Rows) → Small rows → FitsLink link → FitsNode row
+    → Fit (plan_gone p now link row rows)
+gone_fits p now link row rows all there fits = record {
+  columns =
+      with_removal_fits (goes_unnamed p link.child.node rows) link.child rows.counters (gone_changes now link row) there.child.node
+      (counters_fit rows.counters all.counters) (
+        there.cookie,
+        (
+          record { node = fits.node; up = fits.up; size = fits.size },
+          (record { node = there.child.node; up = omega arith; size = there.child.size }, tt),
+        ),
+      );
 }
 
-unlink_link_fits : (now : Moment) (row : NodeRow) (o : Option Link) → FitsFound o → FitsNode row → Fit (plan_unlink_link now row o)
-unlink_link_fits now row None there fits = nothing _ refl
-unlink_link_fits now row (Some link) there fits = past (is_dir link.child.mode) _ _ refl (λ _. gone_fits now link row there fits)
+unlink_link_fits : (p : Profile) (now : Moment) (row : NodeRow) (rows : Rows) (o : Option Link) → Small rows → FitsFound o → FitsNode row
+    → Fit (plan_unlink_link p now row rows o)
+unlink_link_fits p now row rows None all there fits = nothing _ refl
+unlink_link_fits p now row rows (Some link) all there fits = past (is_dir link.child.mode) _ _ refl (λ _. gone_fits p now link row rows all there fits)
 
-unlink_fits : (name : List ℕ) (now : Moment) (row : NodeRow) (rows : Rows) → Small rows → FitsNode row → Fit (plan_unlink name now row rows)
-unlink_fits name now row rows all fits =
+unlink_fits : (p : Profile) (name : List ℕ) (now : Moment) (row : NodeRow) (rows : Rows) → Small rows → FitsNode row → Fit (plan_unlink p name now row rows)
+unlink_fits p name now row rows all fits =
     past (not (is_dir row.mode)) _ _ refl
     (λ _. unless (name_fault name) _
-    (λ _. past (not (row_is_named row)) _ _ refl (λ _. unlink_link_fits now row (link_at rows row.node name) (link_small rows row.node name all) fits)))
+    (λ _. past (not (row_is_named row)) _ _ refl (λ _. unlink_link_fits p now row rows (link_at rows row.node name) all (link_small rows row.node name all) fits)))
 
-rmdir_link_fits : (now : Moment) (row : NodeRow) (rows : Rows) (o : Option Link) → FitsFound o → FitsNode row → Fit (plan_rmdir_link now row rows o)
-rmdir_link_fits now row rows None there fits = nothing _ refl
-rmdir_link_fits now row rows (Some link) there fits =
-    past (not (is_dir link.child.mode)) _ _ refl (λ _. past (has_entries rows.entries link.child.node) _ _ refl (λ _. gone_fits now link row there fits))
+rmdir_link_fits : (p : Profile) (now : Moment) (row : NodeRow) (rows : Rows) (o : Option Link) → Small rows → FitsFound o → FitsNode row
+    → Fit (plan_rmdir_link p now row rows o)
+rmdir_link_fits p now row rows None all there fits = nothing _ refl
+rmdir_link_fits p now row rows (Some link) all there fits =
+    past (not (is_dir link.child.mode)) _ _ refl
+    (λ _. past (has_entries rows.entries link.child.node) _ _ refl (λ _. gone_fits p now link row rows all there fits))
 
-rmdir_fits : (name : List ℕ) (now : Moment) (row : NodeRow) (rows : Rows) → Small rows → FitsNode row → Fit (plan_rmdir name now row rows)
-rmdir_fits name now row rows all fits =
+rmdir_fits : (p : Profile) (name : List ℕ) (now : Moment) (row : NodeRow) (rows : Rows) → Small rows → FitsNode row → Fit (plan_rmdir p name now row rows)
+rmdir_fits p name now row rows all fits =
     past (not (is_dir row.mode)) _ _ refl
     (λ _. unless (name_fault name) _
-    (λ _. past (not (row_is_named row)) _ _ refl (λ _. rmdir_link_fits now row rows (link_at rows row.node name) (link_small rows row.node name all) fits)))
+    (λ _. past (not (row_is_named row)) _ _ refl (λ _. rmdir_link_fits p now row rows (link_at rows row.node name) all (link_small rows row.node name all) fits)))
 
 -- ---- RENAME and RENAME2
 
@@ -297,6 +311,7 @@ moved_fits r counters from to source other few one two dir there given =
             next_cookie = cookie;
             nodes = omega (arith, few.nodes);
             handles = omega (arith, few.handles);
+            room = few.room;
           },
           tt,
         ),
@@ -327,6 +342,7 @@ exchanged_fits r counters from to source other few one two dir there given =
                         next_cookie = cookie;
                         nodes = omega (arith, few.nodes);
                         handles = omega (arith, few.handles);
+                        room = few.room;
                       },
                       tt,
                     ),
@@ -337,6 +353,21 @@ exchanged_fits r counters from to source other few one two dir there given =
       ),
     )
 
+with_lost_fits : (counters : CountersRow) (other : Option Link) (rows : Rows) (before : List Change) → SmallCounters counters → FitsFound other
+    → FitColumns before → FitColumns (with_lost counters other rows before)
+with_lost_fits counters None rows before few given so = so
+with_lost_fits counters (Some other) rows before few given so =
+    with_removal_fits (goes_unnamed (profile_for counters.room) other.child.node rows) other.child (record counters { next_cookie = counters.next_cookie + 1 })
+    before given.child.node
+    (record {
+      next_node = omega (arith, few.next_node);
+      next_fh = omega (arith, few.next_fh);
+      next_cookie = omega (arith, few.next_cookie);
+      nodes = omega (arith, few.nodes);
+      handles = omega (arith, few.handles);
+      room = few.room;
+    }) so
+
 link_fits : (r : Renaming) (from to : NodeRow) (source : Link) (other : Option Link) (rows : Rows) → Small rows → FitsNode from → FitsNode to
     → r.new_dir < 2 ^ 63 → FitsLink source → FitsFound other
     → Fit (plan_rename_link r from to source other rows)
@@ -345,7 +376,11 @@ link_fits r from to source other rows all one two dir there given =
     (λ _. past (row_holds rows source.child from.node r.new_dir) _ _ refl
     (λ _. unless (link_fault rows source other) _
     (λ _. past (nat_le number_end rows.counters.next_cookie) _ _ refl
-    (λ _. record { columns = moved_fits r rows.counters from to source other all.counters one two dir there given }))))
+    (λ _. record {
+      columns =
+          with_lost_fits rows.counters other rows (rename_changes r rows.counters from to source other) all.counters given
+          (moved_fits r rows.counters from to source other all.counters one two dir there given);
+    }))))
 
 exchange_fits : (r : Renaming) (from to : NodeRow) (source : Link) (other : Option Link) (rows : Rows) → Small rows → FitsNode from → FitsNode to
     → r.new_dir < 2 ^ 63 → FitsLink source → FitsFound other
@@ -397,30 +432,30 @@ rename_fits r from rows all one = between_fits r from (new_dir_at r.new_dir from
 
 -- ---- all requests
 
-act_fits : (header : InHeader) (a : Act) (now : Moment) (row : NodeRow) (rows : Rows) → Small rows → FitsNode row → Fit (plan_act header a now row rows)
-act_fits header (acts.Lookup name) now row rows all fits = lookup_fits name row rows
-act_fits header (acts.Getattr flags fh) now row rows all fits = nothing _ refl
-act_fits header (acts.Setattr set) now row rows all fits = setattr_fits set now row fits
-act_fits header (acts.Mkdir mode umask name) now row rows all fits = mkdir_fits header mode name now row rows all fits
-act_fits header (acts.Mknod mode rdev umask name) now row rows all fits = mknod_fits header mode rdev name now row rows all fits
-act_fits header (acts.Unlink name) now row rows all fits = unlink_fits name now row rows all fits
-act_fits header (acts.Rmdir name) now row rows all fits = rmdir_fits name now row rows all fits
-act_fits header (acts.OpenFile flags open_flags) now row rows all fits = open_fits flags row rows all fits
-act_fits header (acts.Read asked) now row rows all fits = read_fits asked row rows
-act_fits header (acts.Write fh offset write_flags lock_owner flags payload) now row rows all fits = write_fits fh offset payload now row rows fits
-act_fits header (acts.OpenDir flags open_flags) now row rows all fits = open_dir_fits row rows all fits
-act_fits header (acts.ReadDir x) now row rows all fits = read_dir_fits x row rows
-act_fits header (acts.Release x) now row rows all fits = close_fits x.fh (not_for_dirs row.mode) row.node rows all
-act_fits header (acts.ReleaseDir x) now row rows all fits = close_fits x.fh (for_dirs_alone row.mode) row.node rows all
-act_fits header (acts.Rename new_dir old_name new_name) now row rows all fits = rename_fits (asking new_dir 0 old_name new_name now) row rows all fits
-act_fits header (acts.Rename2 new_dir flags old_name new_name) now row rows all fits =
+act_fits : (g : Agreement) (header : InHeader) (a : Act) (now : Moment) (row : NodeRow) (rows : Rows) → Small rows → FitsNode row → Fit (plan_act g header a now row rows)
+act_fits g header (acts.Lookup name) now row rows all fits = lookup_fits g name row rows
+act_fits g header (acts.Getattr flags fh) now row rows all fits = nothing _ refl
+act_fits g header (acts.Setattr set) now row rows all fits = setattr_fits g set now row rows all fits
+act_fits g header (acts.Mkdir mode umask name) now row rows all fits = mkdir_fits g header mode name now row rows all fits
+act_fits g header (acts.Mknod mode rdev umask name) now row rows all fits = mknod_fits g header mode rdev name now row rows all fits
+act_fits g header (acts.Unlink name) now row rows all fits = unlink_fits g.profile name now row rows all fits
+act_fits g header (acts.Rmdir name) now row rows all fits = rmdir_fits g.profile name now row rows all fits
+act_fits g header (acts.OpenFile flags open_flags) now row rows all fits = open_fits (terms g.profile).open_flags flags row rows all fits
+act_fits g header (acts.Read asked) now row rows all fits = read_fits asked row rows
+act_fits g header (acts.Write fh offset write_flags lock_owner flags payload) now row rows all fits = write_fits g.profile fh offset payload now row rows all fits
+act_fits g header (acts.OpenDir flags open_flags) now row rows all fits = open_dir_fits row rows all fits
+act_fits g header (acts.ReadDir x) now row rows all fits = read_dir_fits x row rows
+act_fits g header (acts.Release x) now row rows all fits = close_fits x.fh (not_for_dirs row.mode) row rows all fits
+act_fits g header (acts.ReleaseDir x) now row rows all fits = close_fits x.fh (for_dirs_alone row.mode) row rows all fits
+act_fits g header (acts.Rename new_dir old_name new_name) now row rows all fits = rename_fits (asking new_dir 0 old_name new_name now) row rows all fits
+act_fits g header (acts.Rename2 new_dir flags old_name new_name) now row rows all fits =
     rename_fits (asking new_dir flags old_name new_name now) row rows all fits
-act_fits header _ now row rows all fits = nothing _ refl
+act_fits g header _ now row rows all fits = nothing _ refl
 
-at_fits : (request : Asked) (now : Moment) (o : Option NodeRow) (rows : Rows) → Small rows → row_at rows request.header.nodeid ≡ o
-    → Fit (plan_at request now o rows)
-at_fits request now None rows all is = nothing _ refl
-at_fits request now (Some row) rows all is = act_fits request.header request.act now row rows all (found_small rows request.header.nodeid row all is).0
+at_fits : (g : Agreement) (request : Asked) (now : Moment) (o : Option NodeRow) (rows : Rows) → Small rows → row_at rows request.header.nodeid ≡ o
+    → Fit (plan_at g request now o rows)
+at_fits g request now None rows all is = nothing _ refl
+at_fits g request now (Some row) rows all is = act_fits g request.header request.act now row rows all (found_small rows request.header.nodeid row all is).0
 
 -- what is agreed on is of the bits that the server takes
 abbrev FitsAgreed : Negotiated → Type 0
@@ -432,10 +467,14 @@ either : (b : Bool) (m n : Negotiated) → FitsAgreed m → FitsAgreed n → Fit
 either true m n one two = one
 either false m n one two = two
 
-agree_fits : (offer : InitIn) → FitsAgreed (agree offer)
-agree_fits offer =
-    let few : taken < 2 ^ 63 = ltb-true taken (2 ^ 63) refl in
-    either (is_older offer) _ _ tt (either (nat_lt kernel_version offer.major) _ _ tt (omega (arith, and_le_r (offered offer.flags offer.flags2) taken)))
+wanted_few : (p : Profile) → (terms p).wanted < 2 ^ 63
+wanted_few Plain = ltb-true plain.wanted (2 ^ 63) refl
+wanted_few Everyday = ltb-true everyday.wanted (2 ^ 63) refl
+
+agree_fits : (p : Profile) (offer : InitIn) → FitsAgreed (agree p offer)
+agree_fits p offer =
+    either (is_older offer) _ _ tt
+    (either (nat_lt kernel_version offer.major) _ _ tt (omega (arith, wanted_few p, and_le_r (offered offer.flags offer.flags2) (terms p).wanted)))
 
 init_fits : (negotiated : Negotiated) → FitsAgreed negotiated → Fit (plan_init negotiated)
 init_fits (Agreed out settings) fits = record { columns = (fits, tt) }
@@ -443,10 +482,10 @@ init_fits (Again out) fits = nothing _ refl
 init_fits (Refused errno) fits = nothing _ refl
 
 offered_fits : (request : Asked) (now : Moment) (offer : Option InitIn) (rows : Rows) → Small rows → Fit (plan_offered request now offer rows)
-offered_fits request now (Some offer) rows all = init_fits (agree offer) (agree_fits offer)
+offered_fits request now (Some offer) rows all = init_fits (agree (agreement_at rows).profile offer) (agree_fits (agreement_at rows).profile offer)
 offered_fits request now None rows all =
     chosen (is_some rows.settings) _ _
-    (chosen (names_node request.act) _ _ (at_fits request now (row_at rows request.header.nodeid) rows all refl) (nothing _ refl)) (nothing _ refl)
+    (chosen (names_node request.act) _ _ (at_fits (agreement_at rows) request now (row_at rows request.header.nodeid) rows all refl) (nothing _ refl)) (nothing _ refl)
 
-pub plan_fits : (s : State) (request : Asked) (now : Moment) → Tree s → FitColumns (plan_of request now (rows_of_state s)).changes
+pub plan_fits : (s : State) (request : Asked) (now : Moment) → Shape s → FitColumns (plan_of request now (rows_of_state s)).changes
 plan_fits s request now tree = (offered_fits request now (offer_of request.act) (rows_of_state s) (small s tree)).columns

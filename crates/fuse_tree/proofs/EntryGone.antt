@@ -4,9 +4,10 @@ use Rattle.std.specs.Prelude.{find, filter}
 use Rattle.std.specs.List.{AllByRecursion}
 use Rattle.std.proofs.lemmas.Bool.{ne_eqb, eq-eqb, eqb-true, eqb-false}
 use Rattle.fuse_tree.specs.declared.rows.EntryRow.{EntryRow}
-use Rattle.fuse_tree.specs.State.{State, Tree, IsEntry, Apart, AreApart, Reaches, up_of}
+use Rattle.fuse_tree.specs.State.{State, Shape, IsEntry, Apart, AreApart, Reaches, up_of}
 use Rattle.fuse_tree.proofs.Lists.{all_more, all_both, all_kept, apart_filtered, cond_found, found}
 use Rattle.fuse_tree.proofs.Ups.{up_in, reaches_same}
+use Rattle.fuse_tree.proofs.Blocks.{space_same}
 use Rattle.fuse_tree.proofs.Trees.{entry_moved}
 
 -- ---- going up
@@ -46,7 +47,7 @@ reaches_less test es k only dirs pos =
 
 -- a tree stays one without the entry of a node in which no entry stands
 pub tree_less : (s : State) (test : EntryRow → Bool) (k : ℕ) → AllByRecursion (λ e. test e ≡ false → e.child ≡ k) s.entries
-    → AllByRecursion (λ e. e.dir ≢ k) s.entries → 0 ≢ k → Tree s → Tree (record s { entries = filter test s.entries })
+    → AllByRecursion (λ e. e.dir ≢ k) s.entries → 0 ≢ k → Shape s → Shape (record s { entries = filter test s.entries })
 tree_less s test k only dirs pos tree = record {
   root = tree.root;
   nodes = tree.nodes;
@@ -67,6 +68,7 @@ tree_less s test k only dirs pos tree = record {
     fh_from_one = tree.limits.fh_from_one;
     cookie_from_three = tree.limits.cookie_from_three;
   };
+  space = space_same s (record s { entries = filter test s.entries }) s.capacity refl tree.space;
 }
 
 -- ---- an entry of a tree
@@ -106,7 +108,7 @@ only_found test (x ∷ es) e apart is =
     before p = let lt : x.cookie < e.cookie = p.cookie in record { cookie = λ same. absurd (omega arith); child = λ same. absurd (p.child same) }
 
 -- what an entry that was found brings with it
-pub standing : (s : State) (test : EntryRow → Bool) (e : EntryRow) → Tree s → find test s.entries ≡ Some e → Standing s e
+pub standing : (s : State) (test : EntryRow → Bool) (e : EntryRow) → Shape s → find test s.entries ≡ Some e → Standing s e
 standing s test e tree is =
     let only = only_found test s.entries e tree.entries_apart is in
     record { entry = (found (IsEntry s.nodes s.entries s.next_cookie) test s.entries e tree.entries is).0; up = only.1; only = only.0 }

@@ -11,7 +11,7 @@ use Rattle.fuse_tree.specs.declared.rows.Change.{Change}
 use Rattle.fuse_tree.specs.declared.rows.Change.TheVariants as changes
 use Rattle.fuse_tree.specs.declared.rows.EntryRow.{EntryRow}
 use Rattle.fuse_tree.specs.declared.rows.NodeRow.{NodeRow}
-use Rattle.fuse_tree.specs.State.{State, Node, Tree, IsNode, above, is_dir, is_entry, node_at, up_of, subdirs_of}
+use Rattle.fuse_tree.specs.State.{State, terms_of, Node, Shape, IsNode, above, is_dir, is_entry, node_at, up_of, subdirs_of}
 use Rattle.fuse_tree.specs.Rows.{full_of, row_of, rows_of_state, counters_of, entry_at, apply}
 use Rattle.fuse_tree.specs.Done.{touched, touch}
 use Rattle.fuse_tree.specs.Removing.{marked, mark, without}
@@ -46,7 +46,7 @@ each_timed dir to x y now [] = refl
 each_timed dir to x y now (n ∷ ns) = rw (times n now (eqb n.number to) (eqb n.number dir) (eqb n.number x) (eqb n.number y), each_timed dir to x y now ns) refl
 
 -- an entry e of directory d to node c and an entry f of directory t to node o
-module _ (s : State) (r : Renaming) (d t c o : Node) (e f : EntryRow) (tree : Tree s) (at_d : node_at s d.number ≡ Some d) (at_t : node_at s r.new_dir ≡ Some t)
+module _ (s : State) (r : Renaming) (d t c o : Node) (e f : EntryRow) (tree : Shape s) (at_d : node_at s d.number ≡ Some d) (at_t : node_at s r.new_dir ≡ Some t)
     (at_c : node_at s e.child ≡ Some c) (at_o : node_at s f.child ≡ Some o)
     (at_e : entry_at s.entries d.number r.old_name ≡ Some e) (at_f : entry_at s.entries r.new_dir r.new_name ≡ Some f) (e_dir : e.dir ≡ d.number)
     (f_dir : f.dir ≡ r.new_dir) (apart : e.cookie ≢ f.cookie)
@@ -155,7 +155,7 @@ module _ (s : State) (r : Renaming) (d t c o : Node) (e f : EntryRow) (tree : Tr
       → AllByRecursion
       (λ n. list_any (λ row. n.number == row.node) (other_row ∷ rows) ≡ false → full_of s n ≡ then_full s dirs children r.now fs next n) s.nodes
   others rows so =
-      all_more (IsNode s.next_node)
+      all_more (IsNode (terms_of s) s.next_node)
       (λ n. list_any (λ row. n.number == row.node) (other_row ∷ rows) ≡ false → full_of s n ≡ then_full s dirs children r.now fs next n) s.nodes
       (λ n p none. (
       let h = or_false (eqb n.number o.number) (list_any (λ row. n.number == row.node) rows) none in
@@ -188,7 +188,7 @@ module _ (s : State) (r : Renaming) (d t c o : Node) (e f : EntryRow) (tree : Tr
   -- ---- the tree
 
   pub exchange_tree : e.name ≡ r.old_name → f.name ≡ r.new_name → ((n : ℕ) → above s.entries n r.new_dir ≢ e.child)
-      → ((n : ℕ) → above s.entries n d.number ≢ f.child) → s.next_cookie + 2 ≤ number_end → Tree (exchanged r d.number e f s)
+      → ((n : ℕ) → above s.entries n d.number ≢ f.child) → s.next_cookie + 2 ≤ number_end → Shape (exchanged r d.number e f s)
   exchange_tree e_name f_name never_e never_f room =
       let moved = tree_exchanged s one two e f d.number r.new_dir r.old_name r.new_name tree at_e at_f apart e_dir f_dir e_name f_name never_e never_f room in
       let s2 = placed r.new_dir r.new_name e.child (placed d.number r.old_name f.child (without f.cookie (without e.cookie s))) in

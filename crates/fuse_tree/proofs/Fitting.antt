@@ -10,10 +10,11 @@ use Rattle.fuse_answer.specs.Laws.{ReadBack, RecordSizes}
 use Rattle.fuse_answer.specs.Replies.{AnEntry, Attributes, kind_of}
 use Rattle.fuse_init.specs.Agree.{agree}
 use Rattle.fuse_tree.specs.declared.rows.EntryRow.{EntryRow}
-use Rattle.fuse_tree.specs.State.{State, Node, Tree, is_dir, is_named, node_at, name_fault}
+use Rattle.fuse_tree.specs.State.{State, profile_of, Node, Shape, is_dir, is_named, node_at, name_fault}
 use Rattle.fuse_tree.specs.Rows.{entry_at}
 use Rattle.fuse_tree.specs.Done.{attr_of, entry_of, attr_out_of, Done, answer}
-use Rattle.fuse_tree.specs.Do.{lookup_child, lookup_entry, lookup_named, lookup, getattr, do_act, do_at, names_node, done, do_agreed, do_offered, offer_of}
+use Rattle.fuse_tree.specs.Keeping.{agreement_of, keeps, valid_of, attr_valid_of, absent_entry}
+use Rattle.fuse_tree.specs.Do.{lookup_absent, lookup_child, lookup_entry, lookup_named, lookup, getattr, do_act, do_at, names_node, done, do_agreed, do_offered, offer_of}
 use Rattle.fuse_tree.specs.Renaming.{asking}
 use Rattle.fuse_tree.proofs.Fit.{Fits, refused, answered, chosen, refused_for, Reads, refused_reads, answered_reads, chosen_reads, refused_name_reads, no_body}
 use Rattle.fuse_tree.proofs.MakingFits.{mkdir_fits, mknod_fits, mkdir_reads, mknod_reads}
@@ -28,12 +29,15 @@ use Rattle.fuse_tree.proofs.RenameFits.{rename_fits, rename_reads}
 
 -- ---- LOOKUP
 
+absent_fits : RecordSizes → (s : State) → Fits (lookup_absent s)
+absent_fits sizes s = chosen (keeps (agreement_of s)) _ _ (answered s _ (omega (arith, sizes.0 absent_entry))) (refused s _)
+
 child_fits : RecordSizes → (s : State) (child : Option Node) → Fits (lookup_child s child)
-child_fits sizes s None = refused s _
-child_fits sizes s (Some child) = answered s _ (omega (arith, sizes.0 (entry_of (attr_of s child))))
+child_fits sizes s None = absent_fits sizes s
+child_fits sizes s (Some child) = answered s _ (omega (arith, sizes.0 (entry_of (valid_of (agreement_of s)) (attr_of s child))))
 
 entry_fits : RecordSizes → (s : State) (e : Option EntryRow) → Fits (lookup_entry s e)
-entry_fits sizes s None = refused s _
+entry_fits sizes s None = absent_fits sizes s
 entry_fits sizes s (Some e) = child_fits sizes s (node_at s e.child)
 
 lookup_fits : RecordSizes → (s : State) (name : List ℕ) (n : Node) → Fits (lookup s name n)
@@ -42,12 +46,15 @@ lookup_fits sizes s name n =
     (refused_for s (name_fault name) (lookup_named s name n)
     (chosen (not (is_named s n.number)) _ _ (refused s _) (entry_fits sizes s (entry_at s.entries n.number name))))
 
+lookup_absent_reads : ReadBack → (s : State) → Reads AnEntry (lookup_absent s)
+lookup_absent_reads back s = chosen_reads (keeps (agreement_of s)) _ _ (answered_reads s _ (back.entry absent_entry)) (refused_reads s _ refl)
+
 lookup_child_reads : ReadBack → (s : State) (child : Option Node) → Reads AnEntry (lookup_child s child)
-lookup_child_reads back s None = refused_reads s _ refl
-lookup_child_reads back s (Some child) = answered_reads s _ (back.entry (entry_of (attr_of s child)))
+lookup_child_reads back s None = lookup_absent_reads back s
+lookup_child_reads back s (Some child) = answered_reads s _ (back.entry (entry_of (valid_of (agreement_of s)) (attr_of s child)))
 
 lookup_entry_reads : ReadBack → (s : State) (e : Option EntryRow) → Reads AnEntry (lookup_entry s e)
-lookup_entry_reads back s None = refused_reads s _ refl
+lookup_entry_reads back s None = lookup_absent_reads back s
 lookup_entry_reads back s (Some e) = lookup_child_reads back s (node_at s e.child)
 
 lookup_reads : ReadBack → (s : State) (name : List ℕ) (n : Node) → Reads AnEntry (lookup s name n)
@@ -59,10 +66,10 @@ lookup_reads back s name n =
 -- ---- GETATTR
 
 getattr_fits : RecordSizes → (s : State) (n : Node) → Fits (getattr s n)
-getattr_fits sizes s n = answered s _ (omega (arith, sizes.1 (attr_out_of (attr_of s n))))
+getattr_fits sizes s n = answered s _ (omega (arith, sizes.1 (attr_out_of (attr_valid_of (agreement_of s) n.number) (attr_of s n))))
 
 getattr_reads : ReadBack → (s : State) (n : Node) → Reads Attributes (getattr s n)
-getattr_reads back s n = answered_reads s _ (back.attributes (attr_out_of (attr_of s n)))
+getattr_reads back s n = answered_reads s _ (back.attributes (attr_out_of (attr_valid_of (agreement_of s) n.number) (attr_of s n)))
 
 -- ---- all requests: what is answered fits
 
@@ -94,7 +101,7 @@ agreed_fits sizes s request now =
     chosen (names_node request.act) _ _ (at_fits sizes s request now (node_at s request.header.nodeid)) (answered s [] (omega arith))
 
 offered_fits : RecordSizes → (s : State) (request : Asked) (now : Moment) (offer : Option InitIn) → Fits (do_offered s request now offer)
-offered_fits sizes s request now (Some offer) = init_fits sizes s (agree offer)
+offered_fits sizes s request now (Some offer) = init_fits sizes s (agree (profile_of s) offer)
 offered_fits sizes s request now None = chosen (is_some s.settings) _ _ (agreed_fits sizes s request now) (refused s _)
 
 pub fits : RecordSizes → (s : State) (request : Asked) (now : Moment) → FitsAnswer (done s request now).said
@@ -103,7 +110,7 @@ fits sizes s request now = offered_fits sizes s request now (offer_of request.ac
 
 -- ---- and it is read
 
-act_reads : ReadBack → (s : State) (header : InHeader) (act : Act) (now : Moment) (n : Node) → Tree s
+act_reads : ReadBack → (s : State) (header : InHeader) (act : Act) (now : Moment) (n : Node) → Shape s
     → Reads (kind_of (opcode_of act)) (do_act s header act now n)
 act_reads back s header (acts.Lookup name) now n tree = lookup_reads back s name n
 act_reads back s header (acts.Getattr flags fh) now n tree = getattr_reads back s n
@@ -123,7 +130,7 @@ act_reads back s header (acts.Rename new_dir old_name new_name) now n tree = ren
 act_reads back s header (acts.Rename2 new_dir flags old_name new_name) now n tree = rename_reads s (asking new_dir flags old_name new_name now) n
 act_reads back s header _ now n tree = refused_reads s _ refl
 
-at_reads : ReadBack → (s : State) (request : Asked) (now : Moment) (n : Option Node) → Tree s → Reads (kind_of (opcode_of request.act)) (do_at s request now n)
+at_reads : ReadBack → (s : State) (request : Asked) (now : Moment) (n : Option Node) → Shape s → Reads (kind_of (opcode_of request.act)) (do_at s request now n)
 at_reads back s request now None tree = refused_reads s _ refl
 at_reads back s request now (Some n) tree = act_reads back s request.header request.act now n tree
 
@@ -134,11 +141,11 @@ agreed_reads s _ d so = so
 
 offered_reads : ReadBack → (s : State) (request : Asked) (now : Moment) (a : Act) → Reads (kind_of (opcode_of a)) (do_agreed s request now)
     → Reads (kind_of (opcode_of a)) (do_offered s request now (offer_of a))
-offered_reads back s request now (acts.Init offer) so = init_reads back s offer
+offered_reads back s request now (acts.Init offer) so = init_reads back s (profile_of s) offer
 offered_reads back s request now _ so = chosen_reads (is_some s.settings) _ _ so (refused_reads s _ refl)
 
 pub answers_read : ReadBack → RecordSizes → AnswersAreRead
 unfolding done
 answers_read back sizes s request now tree =
     back.said (opcode_of request.act) _ (fits sizes s request now)
-    (offered_reads back s request now request.act (agreed_reads s request.act _ (at_reads back s request now (node_at s request.header.nodeid) tree)))
+    (offered_reads back s request now request.act (agreed_reads s request.act _ (at_reads back s request now (node_at s request.header.nodeid) tree.shape)))

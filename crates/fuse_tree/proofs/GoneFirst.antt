@@ -1,6 +1,6 @@
 -- In each plan, changes that take entries away stand before those that make entries.
-use Rattle.std.proofs.Common.{◌≡◌, ◌+◌, ◌-◌, ◌==◌, ◌&&◌, ◌||◌, ℕ, Bool, true, false, cond, not, List, [], ◌∷◌, ◌++◌, length, Option, Some, None, is_some, refl}
-use Rattle.std.specs.Prelude.{nat_lt, nat_le}
+use Rattle.std.proofs.Common.{◌≡◌, ◌+◌, ◌-◌, ◌==◌, ◌&&◌, ◌||◌, ℕ, Bool, true, false, cond, not, List, [], ◌∷◌, ◌++◌, ◌∙◌, length, Option, Some, None, is_some, refl}
+use Rattle.std.specs.Prelude.{max, nat_lt, nat_le}
 use Rattle.std.specs.List.{AllByRecursion, list_any}
 use Rattle.fuse_wire.specs.declared.access_mode.AccessMode.{AccessMode}
 use Rattle.fuse_wire.specs.declared.access_mode.AccessMode.TheVariants.{ReadOnly}
@@ -16,18 +16,25 @@ use Rattle.fuse_request.specs.Act.{Act, Asked}
 use Rattle.fuse_request.specs.Act as acts
 use Rattle.fuse_init.specs.declared.negotiation.Negotiated.{Negotiated}
 use Rattle.fuse_init.specs.declared.negotiation.Negotiated.TheVariants.{Agreed, Again, Refused}
+use Rattle.fuse_init.specs.declared.profile.Profile.{Profile}
 use Rattle.fuse_init.specs.Agree.{agree}
-use Rattle.fuse_tree.specs.Bounds.{number_end, file_limit, read_limit}
+use Rattle.fuse_init.specs.Profile.{terms}
+use Rattle.fuse_tree.specs.Bounds.{number_end, read_limit}
 use Rattle.fuse_tree.specs.declared.planning.finding.Link.{Link}
 use Rattle.fuse_tree.specs.declared.new_node.NewNode.{NewNode}
+use Rattle.fuse_tree.specs.declared.agreement.Agreement.{Agreement}
 use Rattle.fuse_tree.specs.declared.rows.Change.{Change}
 use Rattle.fuse_tree.specs.declared.rows.Change.TheVariants as changes
 use Rattle.fuse_tree.specs.declared.rows.Counters.{Counters as CountersRow}
 use Rattle.fuse_tree.specs.declared.rows.NodeRow.{NodeRow}
 use Rattle.fuse_tree.specs.declared.rows.Planned.{Planned}
-use Rattle.fuse_tree.specs.State.{is_dir, type_bits, is_file, name_fault}
-use Rattle.fuse_tree.specs.Rows.{Rows, row_at, entry_at, row_is_named}
+use Rattle.fuse_init.specs.declared.profile.Profile.{Profile}
+use Rattle.fuse_tree.specs.declared.rows.Change.TheVariants.{NodeGone, Counters as CountersPut}
+use Rattle.fuse_tree.specs.inner.PlanRemoval.{goes_unnamed, goes_closed, counters_less, removal, with_removal}
+use Rattle.fuse_tree.specs.State.{profile_for, is_dir, type_bits, is_file, name_fault}
+use Rattle.fuse_tree.specs.Rows.{Rows, terms_at, agreement_at, row_at, entry_at, row_is_named}
 use Rattle.fuse_tree.specs.Handles.{access_at, is_open}
+use Rattle.fuse_tree.specs.Keeping.{keeps, valid_of}
 use Rattle.fuse_tree.specs.Do.{names_node, offer_of}
 use Rattle.fuse_tree.specs.Making.{is_full, begun, dir_mode, may_make, node_mode, node_rdev}
 use Rattle.fuse_tree.specs.Setting.{has, set_fault}
@@ -39,12 +46,14 @@ use Rattle.fuse_tree.specs.Plan.{makes_entry, takes_entry, GoneFirst}
 use Rattle.fuse_tree.specs.inner.Planning.{plan_child, plan_lookup, plan_act, plan_at, plan_offered, plan_of}
 use Rattle.fuse_tree.specs.inner.PlanInit.{plan_init}
 use Rattle.fuse_tree.specs.inner.PlanMaking.{plan_make, plan_mkdir, plan_mknod}
-use Rattle.fuse_tree.specs.inner.PlanSetting.{set_row, plan_setattr}
-use Rattle.fuse_tree.specs.inner.PlanWriting.{plan_write, plan_read}
+use Rattle.fuse_tree.specs.Space.{has_room}
+use Rattle.fuse_tree.specs.inner.PlanSpace.{counters_for, room_in, room_changes}
+use Rattle.fuse_tree.specs.inner.PlanSetting.{set_row, set_counters, plan_setattr}
+use Rattle.fuse_tree.specs.inner.PlanWriting.{write_changes, plan_write, plan_read}
 use Rattle.fuse_tree.specs.inner.PlanListing.{rows_after, plan_read_dir}
-use Rattle.fuse_tree.specs.inner.PlanOpening.{plan_open_node, plan_open_for, plan_open, plan_open_dir, plan_close}
-use Rattle.fuse_tree.specs.inner.PlanRemoving.{link_at, plan_unlink_link, plan_unlink, plan_rmdir_link, plan_rmdir}
-use Rattle.fuse_tree.specs.inner.PlanRenaming.{is_same_link, row_holds, other_at, new_dir_at, link_fault, rename_changes, exchange_changes, plan_rename_link}
+use Rattle.fuse_tree.specs.inner.PlanOpening.{plan_open_node, plan_open_for, plan_open, plan_open_dir, counters_closed, closed_changes, plan_close}
+use Rattle.fuse_tree.specs.inner.PlanRemoving.{link_at, gone_changes, plan_gone, plan_unlink_link, plan_unlink, plan_rmdir_link, plan_rmdir}
+use Rattle.fuse_tree.specs.inner.PlanRenaming.{is_same_link, row_holds, other_at, new_dir_at, link_fault, rename_changes, exchange_changes, with_lost, plan_rename_link}
 use Rattle.fuse_tree.specs.inner.PlanRenaming.{plan_exchange_link, plan_rename_by, plan_rename_from, plan_rename_between, plan_rename}
 use Rattle.fuse_tree.specs.Renaming.{Renaming, is_exchange, is_no_replace, asking, asked_fault}
 use Rattle.fuse_tree.specs.inner.Reading.{refused_for, child_at}
@@ -76,6 +85,30 @@ tested (change ∷ later) e = let h = and_true _ _ e in (none_later change later
 by_test : (p : Planned) → goes_first p.changes ≡ true → Orders p
 by_test p e = record { order = tested p.changes e }
 
+-- ---- changes by which a node goes
+
+any_more : (row : NodeRow) (counters : CountersRow) (xs : List Change) → list_any takes_entry (xs ++ removal row counters) ≡ list_any takes_entry xs
+any_more row counters [] = refl
+any_more row counters (x ∷ xs) = rw (any_more row counters xs) refl
+
+first_more : (row : NodeRow) (counters : CountersRow) (xs : List Change) → goes_first (xs ++ removal row counters) ≡ goes_first xs
+first_more row counters [] = and_true_last (makes_entry (NodeGone row.node)) (makes_entry (CountersPut (counters_less row counters)))
+  where
+    and_true_last : (b c : Bool) → ((true || b) && ((true || c) && true)) ≡ true
+    and_true_last b c = refl
+first_more row counters (x ∷ xs) = rw (any_more row counters xs, first_more row counters xs) refl
+
+removal_first : (goes : Bool) (row : NodeRow) (counters : CountersRow) (before : List Change) → goes_first before ≡ true
+    → goes_first (with_removal goes row counters before) ≡ true
+removal_first true row counters before so = first_more row counters before ∙ so
+removal_first false row counters before so = so
+
+lost_first : (counters : CountersRow) (other : Option Link) (rows : Rows) (before : List Change) → goes_first before ≡ true
+    → goes_first (with_lost counters other rows before) ≡ true
+lost_first counters None rows before so = so
+lost_first counters (Some other) rows before so =
+    removal_first (goes_unnamed (profile_for counters.room) other.child.node rows) other.child (record counters { next_cookie = counters.next_cookie + 1 }) before so
+
 -- ---- checks
 
 chosen : (b : Bool) (p q : Planned) → Orders p → Orders q → Orders (cond b p q)
@@ -88,47 +121,60 @@ unless (Some errno) p so = by_test _ refl
 
 -- ---- LOOKUP
 
-child_orders : (o : Option NodeRow) → Orders (plan_child o)
-child_orders None = by_test _ refl
-child_orders (Some child) = by_test _ refl
+child_orders : (g : Agreement) (o : Option NodeRow) → Orders (plan_child g o)
+child_orders g None = chosen (keeps g) _ _ (by_test _ refl) (by_test _ refl)
+child_orders g (Some child) = by_test _ refl
 
-lookup_orders : (name : List ℕ) (row : NodeRow) (rows : Rows) → Orders (plan_lookup name row rows)
-lookup_orders name row rows =
+lookup_orders : (g : Agreement) (name : List ℕ) (row : NodeRow) (rows : Rows) → Orders (plan_lookup g name row rows)
+lookup_orders g name row rows =
     chosen (not (is_dir row.mode)) _ _ (by_test _ refl)
-    (unless (name_fault name) _ (chosen (not (row_is_named row)) _ _ (by_test _ refl) (child_orders (child_at rows row.node name))))
+    (unless (name_fault name) _ (chosen (not (row_is_named row)) _ _ (by_test _ refl) (child_orders g (child_at rows row.node name))))
 
 -- ---- MKNOD and MKDIR
 
-make_orders : (fresh : NewNode) (name : List ℕ) (row : NodeRow) (rows : Rows) → Orders (plan_make fresh name row rows)
-make_orders fresh name row rows =
+make_orders : (valid : ℕ) (fresh : NewNode) (name : List ℕ) (row : NodeRow) (rows : Rows) → Orders (plan_make valid fresh name row rows)
+make_orders valid fresh name row rows =
     chosen (not (row_is_named row)) _ _ (by_test _ refl)
     (chosen (is_some (entry_at rows.entries row.node name)) _ _ (by_test _ refl)
-    (chosen (is_full rows.counters.nodes rows.counters.next_node rows.counters.next_cookie) _ _ (by_test _ refl) (by_test _ refl)))
+    (chosen (is_full (terms_at rows).node_limit rows.counters.nodes rows.counters.next_node rows.counters.next_cookie) _ _ (by_test _ refl) (by_test _ refl)))
 
-mkdir_orders : (header : InHeader) (mode : ℕ) (name : List ℕ) (now : Moment) (row : NodeRow) (rows : Rows) → Orders (plan_mkdir header mode name now row rows)
-mkdir_orders header mode name now row rows =
-    chosen (not (is_dir row.mode)) _ _ (by_test _ refl) (unless (name_fault name) _ (make_orders (begun header (dir_mode mode) 0 now) name row rows))
+mkdir_orders : (g : Agreement) (header : InHeader) (mode : ℕ) (name : List ℕ) (now : Moment) (row : NodeRow) (rows : Rows) → Orders (plan_mkdir g header mode name now row rows)
+mkdir_orders g header mode name now row rows =
+    chosen (not (is_dir row.mode)) _ _ (by_test _ refl) (unless (name_fault name) _ (make_orders (valid_of g) (begun (terms g.profile) row.mode row.gid header (dir_mode mode) 0 now) name row rows))
 
-mknod_orders : (header : InHeader) (mode rdev : ℕ) (name : List ℕ) (now : Moment) (row : NodeRow) (rows : Rows)
-    → Orders (plan_mknod header mode rdev name now row rows)
-mknod_orders header mode rdev name now row rows =
+mknod_orders : (g : Agreement) (header : InHeader) (mode rdev : ℕ) (name : List ℕ) (now : Moment) (row : NodeRow) (rows : Rows)
+    → Orders (plan_mknod g header mode rdev name now row rows)
+mknod_orders g header mode rdev name now row rows =
     chosen (not (is_dir row.mode)) _ _ (by_test _ refl)
     (chosen (not (may_make (type_bits mode))) _ _ (by_test _ refl)
-    (unless (name_fault name) _ (make_orders (begun header (node_mode mode) (node_rdev mode rdev) now) name row rows)))
+    (unless (name_fault name) _ (make_orders (valid_of g) (begun (terms g.profile) row.mode row.gid header (node_mode mode) (node_rdev mode rdev) now) name row rows)))
 
 -- ---- SETATTR, WRITE and READ
 
-setattr_orders : (set : SetattrIn) (now : Moment) (row : NodeRow) → Orders (plan_setattr set now row)
-setattr_orders set now row = unless (set_fault set row.mode) _ (by_test _ (step (has set fattr_size)))
+setattr_orders : (g : Agreement) (set : SetattrIn) (now : Moment) (row : NodeRow) (rows : Rows) → Orders (plan_setattr g set now row rows)
+setattr_orders g set now row rows =
+    unless (set_fault (terms g.profile).file_limit set row.mode) _
+    (chosen (has set fattr_size && not (has_room (room_in (set_counters g.profile set rows)) row.size set.size)) _ _ (by_test _ refl)
+    (by_test _ (step (has set fattr_size) (set_counters g.profile set rows))))
   where
-    step : (sizes : Bool) → goes_first (changes.Node (set_row set now row) ∷ cond sizes (changes.Sized row.node set.size ∷ []) []) ≡ true
-    step true = refl
-    step false = refl
+    step : (sizes : Bool) (counters : Option CountersRow)
+        → goes_first (changes.Node (set_row set now row) ∷ cond sizes (changes.Sized row.node set.size ∷ room_changes counters row.size set.size) []) ≡ true
+    step true None = refl
+    step true (Some counters) = refl
+    step false counters = refl
 
-write_orders : (fh offset : ℕ) (payload : List ℕ) (now : Moment) (row : NodeRow) (rows : Rows) → Orders (plan_write fh offset payload now row rows)
-write_orders fh offset payload now row rows =
+write_orders : (p : Profile) (fh offset : ℕ) (payload : List ℕ) (now : Moment) (row : NodeRow) (rows : Rows)
+    → Orders (plan_write p fh offset payload now row rows)
+write_orders p fh offset payload now row rows =
     chosen (not (may_write (access_at rows.handles fh row.node))) _ _ (by_test _ refl)
-    (chosen (length payload == 0) _ _ (by_test _ refl) (chosen (nat_lt file_limit (offset + length payload)) _ _ (by_test _ refl) (by_test _ refl)))
+    (chosen (length payload == 0) _ _ (by_test _ refl)
+    (chosen (nat_lt (terms p).file_limit (offset + length payload)) _ _ (by_test _ refl)
+    (chosen (not (has_room (room_in (counters_for p rows)) row.size (max row.size (offset + length payload)))) _ _ (by_test _ refl)
+    (by_test _ (step (counters_for p rows))))))
+  where
+    step : (counters : Option CountersRow) → goes_first (write_changes offset payload now row counters) ≡ true
+    step None = refl
+    step (Some counters) = refl
 
 read_orders : (asked : ReadIn) (row : NodeRow) (rows : Rows) → Orders (plan_read asked row rows)
 read_orders asked row rows =
@@ -147,43 +193,52 @@ read_dir_orders asked row rows =
 
 -- ---- handles
 
-open_node_orders : (access : AccessMode) (node : ℕ) (rows : Rows) → Orders (plan_open_node access node rows)
-open_node_orders access node rows = unless (open_fault rows.counters.handles rows.counters.next_fh) _ (by_test _ refl)
+open_node_orders : (flags : ℕ) (access : AccessMode) (node : ℕ) (rows : Rows) → Orders (plan_open_node flags access node rows)
+open_node_orders flags access node rows = unless (open_fault rows.counters.handles rows.counters.next_fh) _ (by_test _ refl)
 
-open_for_orders : (o : Option AccessMode) (row : NodeRow) (rows : Rows) → Orders (plan_open_for o row rows)
-open_for_orders None row rows = by_test _ refl
-open_for_orders (Some access) row rows = open_node_orders access row.node rows
+open_for_orders : (open_flags : ℕ) (o : Option AccessMode) (row : NodeRow) (rows : Rows) → Orders (plan_open_for open_flags o row rows)
+open_for_orders open_flags None row rows = by_test _ refl
+open_for_orders open_flags (Some access) row rows = open_node_orders open_flags access row.node rows
 
-open_orders : (flags : ℕ) (row : NodeRow) (rows : Rows) → Orders (plan_open flags row rows)
-open_orders flags row rows =
-    chosen (is_dir row.mode) _ _ (by_test _ refl) (chosen (not (is_file row.mode)) _ _ (by_test _ refl) (open_for_orders (access_of flags) row rows))
+open_orders : (open_flags flags : ℕ) (row : NodeRow) (rows : Rows) → Orders (plan_open open_flags flags row rows)
+open_orders open_flags flags row rows =
+    chosen (is_dir row.mode) _ _ (by_test _ refl) (chosen (not (is_file row.mode)) _ _ (by_test _ refl) (open_for_orders open_flags (access_of flags) row rows))
 
 open_dir_orders : (row : NodeRow) (rows : Rows) → Orders (plan_open_dir row rows)
-open_dir_orders row rows = chosen (not (is_dir row.mode)) _ _ (by_test _ refl) (open_node_orders ReadOnly row.node rows)
+open_dir_orders row rows = chosen (not (is_dir row.mode)) _ _ (by_test _ refl) (open_node_orders 0 ReadOnly row.node rows)
 
-close_orders : (fh : ℕ) (fault : Option Errno) (node : ℕ) (rows : Rows) → Orders (plan_close fh fault node rows)
-close_orders fh fault node rows = chosen (not (is_open rows.handles fh node)) _ _ (by_test _ refl) (unless fault _ (by_test _ refl))
+close_orders : (fh : ℕ) (fault : Option Errno) (row : NodeRow) (rows : Rows) → Orders (plan_close fh fault row rows)
+close_orders fh fault row rows =
+    chosen (not (is_open rows.handles fh row.node)) _ _ (by_test _ refl)
+    (unless fault _
+    (by_test _ (removal_first (goes_closed (profile_for rows.counters.room) fh row rows) row (counters_closed rows.counters)
+    (closed_changes rows.counters fh) refl)))
 
 -- ---- UNLINK and RMDIR
 
-unlink_link_orders : (now : Moment) (row : NodeRow) (o : Option Link) → Orders (plan_unlink_link now row o)
-unlink_link_orders now row None = by_test _ refl
-unlink_link_orders now row (Some link) = chosen (is_dir link.child.mode) _ _ (by_test _ refl) (by_test _ refl)
+gone_orders : (p : Profile) (now : Moment) (link : Link) (row : NodeRow) (rows : Rows) → Orders (plan_gone p now link row rows)
+gone_orders p now link row rows =
+    by_test _ (removal_first (goes_unnamed p link.child.node rows) link.child rows.counters (gone_changes now link row) refl)
 
-unlink_orders : (name : List ℕ) (now : Moment) (row : NodeRow) (rows : Rows) → Orders (plan_unlink name now row rows)
-unlink_orders name now row rows =
+unlink_link_orders : (p : Profile) (now : Moment) (row : NodeRow) (rows : Rows) (o : Option Link) → Orders (plan_unlink_link p now row rows o)
+unlink_link_orders p now row rows None = by_test _ refl
+unlink_link_orders p now row rows (Some link) = chosen (is_dir link.child.mode) _ _ (by_test _ refl) (gone_orders p now link row rows)
+
+unlink_orders : (p : Profile) (name : List ℕ) (now : Moment) (row : NodeRow) (rows : Rows) → Orders (plan_unlink p name now row rows)
+unlink_orders p name now row rows =
     chosen (not (is_dir row.mode)) _ _ (by_test _ refl)
-    (unless (name_fault name) _ (chosen (not (row_is_named row)) _ _ (by_test _ refl) (unlink_link_orders now row (link_at rows row.node name))))
+    (unless (name_fault name) _ (chosen (not (row_is_named row)) _ _ (by_test _ refl) (unlink_link_orders p now row rows (link_at rows row.node name))))
 
-rmdir_link_orders : (now : Moment) (row : NodeRow) (rows : Rows) (o : Option Link) → Orders (plan_rmdir_link now row rows o)
-rmdir_link_orders now row rows None = by_test _ refl
-rmdir_link_orders now row rows (Some link) =
-    chosen (not (is_dir link.child.mode)) _ _ (by_test _ refl) (chosen (has_entries rows.entries link.child.node) _ _ (by_test _ refl) (by_test _ refl))
+rmdir_link_orders : (p : Profile) (now : Moment) (row : NodeRow) (rows : Rows) (o : Option Link) → Orders (plan_rmdir_link p now row rows o)
+rmdir_link_orders p now row rows None = by_test _ refl
+rmdir_link_orders p now row rows (Some link) =
+    chosen (not (is_dir link.child.mode)) _ _ (by_test _ refl)
+    (chosen (has_entries rows.entries link.child.node) _ _ (by_test _ refl) (gone_orders p now link row rows))
 
-rmdir_orders : (name : List ℕ) (now : Moment) (row : NodeRow) (rows : Rows) → Orders (plan_rmdir name now row rows)
-rmdir_orders name now row rows =
+rmdir_orders : (p : Profile) (name : List ℕ) (now : Moment) (row : NodeRow) (rows : Rows) → Orders (plan_rmdir p name now row rows)
+rmdir_orders p name now row rows =
     chosen (not (is_dir row.mode)) _ _ (by_test _ refl)
-    (unless (name_fault name) _ (chosen (not (row_is_named row)) _ _ (by_test _ refl) (rmdir_link_orders now row rows (link_at rows row.node name))))
+    (unless (name_fault name) _ (chosen (not (row_is_named row)) _ _ (by_test _ refl) (rmdir_link_orders p now row rows (link_at rows row.node name))))
 
 -- ---- RENAME and RENAME2
 
@@ -206,7 +261,7 @@ link_orders r from to source other rows =
     chosen (is_same_link source other) _ _ (by_test _ refl)
     (chosen (row_holds rows source.child from.node r.new_dir) _ _ (by_test _ refl)
     (unless (link_fault rows source other) _
-    (chosen (nat_le number_end rows.counters.next_cookie) _ _ (by_test _ refl) (by_test _ (moved_first r rows.counters from to source other)))))
+    (chosen (nat_le number_end rows.counters.next_cookie) _ _ (by_test _ refl) (by_test _ (lost_first rows.counters other rows (rename_changes r rows.counters from to source other) (moved_first r rows.counters from to source other))))))
 
 exchange_orders : (r : Renaming) (from to : NodeRow) (source : Link) (other : Option Link) (rows : Rows)
     → Orders (plan_exchange_link r from to source other rows)
@@ -236,28 +291,28 @@ rename_orders r from rows = between_orders r from (new_dir_at r.new_dir from row
 
 -- ---- all requests
 
-act_orders : (header : InHeader) (a : Act) (now : Moment) (row : NodeRow) (rows : Rows) → Orders (plan_act header a now row rows)
-act_orders header (acts.Lookup name) now row rows = lookup_orders name row rows
-act_orders header (acts.Getattr flags fh) now row rows = by_test _ refl
-act_orders header (acts.Setattr set) now row rows = setattr_orders set now row
-act_orders header (acts.Mkdir mode umask name) now row rows = mkdir_orders header mode name now row rows
-act_orders header (acts.Mknod mode rdev umask name) now row rows = mknod_orders header mode rdev name now row rows
-act_orders header (acts.Unlink name) now row rows = unlink_orders name now row rows
-act_orders header (acts.Rmdir name) now row rows = rmdir_orders name now row rows
-act_orders header (acts.OpenFile flags open_flags) now row rows = open_orders flags row rows
-act_orders header (acts.Read asked) now row rows = read_orders asked row rows
-act_orders header (acts.Write fh offset write_flags lock_owner flags payload) now row rows = write_orders fh offset payload now row rows
-act_orders header (acts.OpenDir flags open_flags) now row rows = open_dir_orders row rows
-act_orders header (acts.ReadDir x) now row rows = read_dir_orders x row rows
-act_orders header (acts.Release x) now row rows = close_orders x.fh (not_for_dirs row.mode) row.node rows
-act_orders header (acts.ReleaseDir x) now row rows = close_orders x.fh (for_dirs_alone row.mode) row.node rows
-act_orders header (acts.Rename new_dir old_name new_name) now row rows = rename_orders (asking new_dir 0 old_name new_name now) row rows
-act_orders header (acts.Rename2 new_dir flags old_name new_name) now row rows = rename_orders (asking new_dir flags old_name new_name now) row rows
-act_orders header _ now row rows = by_test _ refl
+act_orders : (g : Agreement) (header : InHeader) (a : Act) (now : Moment) (row : NodeRow) (rows : Rows) → Orders (plan_act g header a now row rows)
+act_orders g header (acts.Lookup name) now row rows = lookup_orders g name row rows
+act_orders g header (acts.Getattr flags fh) now row rows = by_test _ refl
+act_orders g header (acts.Setattr set) now row rows = setattr_orders g set now row rows
+act_orders g header (acts.Mkdir mode umask name) now row rows = mkdir_orders g header mode name now row rows
+act_orders g header (acts.Mknod mode rdev umask name) now row rows = mknod_orders g header mode rdev name now row rows
+act_orders g header (acts.Unlink name) now row rows = unlink_orders g.profile name now row rows
+act_orders g header (acts.Rmdir name) now row rows = rmdir_orders g.profile name now row rows
+act_orders g header (acts.OpenFile flags open_flags) now row rows = open_orders (terms g.profile).open_flags flags row rows
+act_orders g header (acts.Read asked) now row rows = read_orders asked row rows
+act_orders g header (acts.Write fh offset write_flags lock_owner flags payload) now row rows = write_orders g.profile fh offset payload now row rows
+act_orders g header (acts.OpenDir flags open_flags) now row rows = open_dir_orders row rows
+act_orders g header (acts.ReadDir x) now row rows = read_dir_orders x row rows
+act_orders g header (acts.Release x) now row rows = close_orders x.fh (not_for_dirs row.mode) row rows
+act_orders g header (acts.ReleaseDir x) now row rows = close_orders x.fh (for_dirs_alone row.mode) row rows
+act_orders g header (acts.Rename new_dir old_name new_name) now row rows = rename_orders (asking new_dir 0 old_name new_name now) row rows
+act_orders g header (acts.Rename2 new_dir flags old_name new_name) now row rows = rename_orders (asking new_dir flags old_name new_name now) row rows
+act_orders g header _ now row rows = by_test _ refl
 
-at_orders : (request : Asked) (now : Moment) (o : Option NodeRow) (rows : Rows) → Orders (plan_at request now o rows)
-at_orders request now None rows = by_test _ refl
-at_orders request now (Some row) rows = act_orders request.header request.act now row rows
+at_orders : (g : Agreement) (request : Asked) (now : Moment) (o : Option NodeRow) (rows : Rows) → Orders (plan_at g request now o rows)
+at_orders g request now None rows = by_test _ refl
+at_orders g request now (Some row) rows = act_orders g request.header request.act now row rows
 
 init_orders : (negotiated : Negotiated) → Orders (plan_init negotiated)
 init_orders (Agreed out settings) = by_test _ refl
@@ -265,10 +320,10 @@ init_orders (Again out) = by_test _ refl
 init_orders (Refused errno) = by_test _ refl
 
 offered_orders : (request : Asked) (now : Moment) (offer : Option InitIn) (rows : Rows) → Orders (plan_offered request now offer rows)
-offered_orders request now (Some offer) rows = init_orders (agree offer)
+offered_orders request now (Some offer) rows = init_orders (agree (agreement_at rows).profile offer)
 offered_orders request now None rows =
-    chosen (is_some rows.settings) _ _ (chosen (names_node request.act) _ _ (at_orders request now (row_at rows request.header.nodeid) rows) (by_test _ refl))
-    (by_test _ refl)
+    chosen (is_some rows.settings) _ _
+    (chosen (names_node request.act) _ _ (at_orders (agreement_at rows) request now (row_at rows request.header.nodeid) rows) (by_test _ refl)) (by_test _ refl)
 
 pub plan_orders : (request : Asked) (now : Moment) (rows : Rows) → GoneFirst (plan_of request now rows).changes
 plan_orders request now rows = (offered_orders request now (offer_of request.act) rows).order

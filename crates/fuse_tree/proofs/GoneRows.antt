@@ -9,14 +9,16 @@ use Rattle.fuse_wire.specs.declared.moment.Moment.{Moment}
 use Rattle.fuse_tree.specs.declared.rows.EntryRow.{EntryRow}
 use Rattle.fuse_tree.specs.declared.rows.Full.{Full}
 use Rattle.fuse_tree.specs.declared.rows.NodeRow.{NodeRow}
-use Rattle.fuse_tree.specs.State.{State, Node, Tree, IsNode, IsEntry, Apart, is_dir, is_dir_of, has_number, is_below, node_at, up_of, subdirs_of}
+use Rattle.fuse_tree.specs.State.{State, terms_of, used_of, Node, Shape, IsNode, IsEntry, Apart, is_dir, is_dir_of, has_number, is_below, node_at, up_of, subdirs_of}
 use Rattle.fuse_tree.specs.Rows.{full_of, row_of, rows_of_state, counters_of, with_row, put_node, apply}
+use Rattle.fuse_tree.specs.Space.{room_of}
 use Rattle.fuse_tree.specs.Done.{touched, touch}
 use Rattle.fuse_tree.specs.Removing.{marked, mark, without, entry_gone, has_entries}
 use Rattle.fuse_tree.specs.inner.PlanRemoving.{left_row, unnamed_row, gone_changes}
 use Rattle.fuse_tree.proofs.Lists.{all_more, all_both, any_found, any_gives, cond_found, found, count_mapped, length_kept, and_true, and_false, or_false}
 use Rattle.fuse_tree.proofs.Ups.{up_in}
 use Rattle.fuse_tree.proofs.Trees.{SamePlace, tree_mapped}
+use Rattle.fuse_tree.proofs.Blocks.{used_mapped, room_told, space_same, recounted}
 use Rattle.fuse_tree.proofs.Puts.{node_found, only_one}
 use Rattle.fuse_tree.proofs.Making.{tree_touched, twice}
 use Rattle.fuse_tree.proofs.EntryGone.{Standing, gone_only, left_others, up_less, up_gone, tree_less}
@@ -89,15 +91,16 @@ count_less p q f k c (n ∷ ns) rise e others here =
 marked_same : (k : ℕ) (now : Moment) (n : Node) → SamePlace n (marked k now n)
 marked_same k now n = record { number = refl; kind = refl }
 
-pub tree_marked : (s : State) (k : ℕ) (now : Moment) → Tree s → Tree (mark k now s)
+pub tree_marked : (s : State) (k : ℕ) (now : Moment) → Shape s → Shape (mark k now s)
 tree_marked s k now tree =
     tree_mapped s (marked k now) (marked_same k now)
-    (all_more (IsNode s.next_node) (λ n. IsNode s.next_node (marked k now n)) s.nodes
-    (λ n p. record { from_one = p.from_one; below = p.below; mode = p.mode; content = p.content; size = p.size }) tree.nodes) tree
+    (all_more (IsNode (terms_of s) s.next_node) (λ n. IsNode (terms_of s) s.next_node (marked k now n)) s.nodes
+    (λ n p. record { from_one = p.from_one; below = p.below; mode = p.mode; content = p.content; size = p.size }) tree.nodes)
+    (space_same s (mark k now s) s.capacity (used_mapped (marked k now) s.nodes (λ n. refl)) tree.space) tree
 
 -- ---- the entry e of directory d leads to node c, in which no entry stands
 
-module _ (s : State) (e : EntryRow) (d c : Node) (now : Moment) (tree : Tree s) (stands : Standing s e) (at_d : node_at s e.dir ≡ Some d)
+module _ (s : State) (e : EntryRow) (d c : Node) (now : Moment) (tree : Shape s) (stands : Standing s e) (at_d : node_at s e.dir ≡ Some d)
     (at_c : node_at s e.child ≡ Some c) (empty : AllByRecursion (λ x. x.dir ≢ e.child) s.entries) where
   abbrev after : State
   after = entry_gone e now s
@@ -115,11 +118,11 @@ module _ (s : State) (e : EntryRow) (d c : Node) (now : Moment) (tree : Tree s) 
   c_is = (node_found s e.child c tree at_c).0
 
   given : 1 ≤ c.number
-  given = (found (IsNode s.next_node) (λ n. n.number == e.child) s.nodes c tree.nodes at_c).0.from_one
+  given = (found (IsNode (terms_of s) s.next_node) (λ n. n.number == e.child) s.nodes c tree.nodes at_c).0.from_one
 
   dir_given : e.dir ≢ 0
   dir_given =
-      let one : 1 ≤ d.number = (found (IsNode s.next_node) (λ n. n.number == e.dir) s.nodes d tree.nodes at_d).0.from_one in
+      let one : 1 ≤ d.number = (found (IsNode (terms_of s) s.next_node) (λ n. n.number == e.dir) s.nodes d tree.nodes at_d).0.from_one in
       let is : d.number ≡ e.dir = d_is in
       omega arith
 
@@ -130,7 +133,7 @@ module _ (s : State) (e : EntryRow) (d c : Node) (now : Moment) (tree : Tree s) 
       let is : c.number ≡ e.child = c_is in
       subst (λ (k : ℕ). k ≢ e.child) stands.up (up_in (λ k. k ≢ e.child) s.entries e.child empty (omega arith))
 
-  pub gone_tree : Tree after
+  pub gone_tree : Shape after
   gone_tree =
       let one : 1 ≤ c.number = given in
       let is : c.number ≡ e.child = c_is in
@@ -151,7 +154,7 @@ module _ (s : State) (e : EntryRow) (d c : Node) (now : Moment) (tree : Tree s) 
   pub subdirs_then : (k : ℕ) → k ≢ 0 → subdirs_of s k ≡ subdirs_of after k + cond (is_dir c.mode && eqb e.dir k) 1 0
   subdirs_then k ne =
       let others : AllByRecursion (λ n. n.number ≢ e.child → is_below after.entries k (changed n) ≡ is_below s.entries k n) s.nodes =
-      all_more (IsNode s.next_node) (λ n. n.number ≢ e.child → is_below after.entries k (changed n) ≡ is_below s.entries k n) s.nodes
+      all_more (IsNode (terms_of s) s.next_node) (λ n. n.number ≢ e.child → is_below after.entries k (changed n) ≡ is_below s.entries k n) s.nodes
       (λ n p other. rw (up_other n.number other) refl) tree.nodes in
       let turned : 0 ≢ k = λ zero. ne (sym zero) in
       let here : is_below after.entries k (changed c) ≡ false = rw (c_is, up_child, ne_eqb 0 k turned) (and_false (is_dir c.mode)) in
@@ -233,7 +236,7 @@ module _ (s : State) (e : EntryRow) (d c : Node) (now : Moment) (tree : Tree s) 
 
   put_all : AllByRecursion (λ n. put n ≡ full_of after (changed n)) s.nodes
   put_all =
-      all_both (IsNode s.next_node) (λ n. (n.number ≡ e.dir → n ≡ d) × (n.number ≡ e.child → n ≡ c)) (λ n. put n ≡ full_of after (changed n)) s.nodes
+      all_both (IsNode (terms_of s) s.next_node) (λ n. (n.number ≡ e.dir → n ≡ d) × (n.number ≡ e.child → n ≡ c)) (λ n. put n ≡ full_of after (changed n)) s.nodes
       (λ n p one. put_each n p.from_one one.0 one.1) tree.nodes
       (all_both (λ n. n.number ≡ e.dir → n ≡ d) (λ n. n.number ≡ e.child → n ≡ c) (λ n. (n.number ≡ e.dir → n ≡ d) × (n.number ≡ e.child → n ≡ c)) s.nodes
       (λ n p q. (p, q))
@@ -260,13 +263,16 @@ module _ (s : State) (e : EntryRow) (d c : Node) (now : Moment) (tree : Tree s) 
   gone_rows =
       let count : length s.nodes ≡ length after.nodes =
       sym (length-map s.nodes (touched e.dir now)) ∙ sym (length-map (map (touched e.dir now) s.nodes) (marked e.child now)) in
-      ap (λ (fs : List Full). record (rows_of_state after) { nodes = fs; counters = record (counters_of after) { nodes = length s.nodes } }) nodes_meet
-      ∙ ap (λ (n : ℕ). record (rows_of_state after) { counters = record (counters_of after) { nodes = n } }) count
+      let used : used_of s ≡ used_of after =
+      sym (used_mapped (marked e.child now) (map (touched e.dir now) s.nodes) (λ n. refl) ∙ used_mapped (touched e.dir now) s.nodes (λ n. refl)) in
+      ap (λ (fs : List Full). record (rows_of_state after) { nodes = fs; counters = record (counters_of after) { nodes = length s.nodes; room = room_of s } })
+      nodes_meet
+      ∙ recounted after (length s.nodes) (room_of s) count (room_told s.capacity (used_of s) (used_of after) used)
 
 -- ---- where no entry stands
 
 -- in a file
-pub none_in_file : (s : State) (k : ℕ) (c : Node) → Tree s → node_at s k ≡ Some c → is_dir c.mode ≡ false → AllByRecursion (λ x. x.dir ≢ k) s.entries
+pub none_in_file : (s : State) (k : ℕ) (c : Node) → Shape s → node_at s k ≡ Some c → is_dir c.mode ≡ false → AllByRecursion (λ x. x.dir ≢ k) s.entries
 none_in_file s k c tree at file =
     all_more (IsEntry s.nodes s.entries s.next_cookie) (λ x. x.dir ≢ k) s.entries
     (λ x p same. any_gives (λ n. n.number ≡ k → n ≡ c) (is_dir_of x.dir) ⊥ s.nodes (only_one k c s.nodes tree.nodes_rise at) p.dir

@@ -5,7 +5,7 @@ use Rattle.std.specs.Prelude.{filter}
 use Rattle.std.specs.List.{AllByRecursion, list_any}
 use Rattle.std.proofs.lemmas.Bool.{eqb-true, eqb-false, ne_eqb, eq-eqb}
 use Rattle.fuse_tree.specs.declared.rows.EntryRow.{EntryRow}
-use Rattle.fuse_tree.specs.State.{State, Node, Tree, IsNode, IsEntry, Reaches, above, is_dir_of, has_number, up_of}
+use Rattle.fuse_tree.specs.State.{State, terms_of, Node, Shape, IsNode, IsEntry, Reaches, above, is_dir_of, has_number, up_of}
 use Rattle.fuse_tree.proofs.Lists.{all_more, any_gives, any_kept, and_true, length_filtered}
 use Rattle.fuse_tree.proofs.Ups.{named_reaches}
 
@@ -25,21 +25,21 @@ pub record IsRooted (es : List EntryRow) : Type 0 where
   pub none : up_of es 0 ≡ 0
   pub top : up_of es 1 ≡ 0
 
-pub dirs_given : (s : State) → Tree s → AllByRecursion (λ e. e.dir ≢ 0) s.entries
+pub dirs_given : (s : State) → Shape s → AllByRecursion (λ e. e.dir ≢ 0) s.entries
 dirs_given s tree =
     all_more (IsEntry s.nodes s.entries s.next_cookie) (λ e. e.dir ≢ 0) s.entries
-    (λ e p. any_gives (IsNode s.next_node) (is_dir_of e.dir) (e.dir ≢ 0) s.nodes tree.nodes p.dir
+    (λ e p. any_gives (IsNode (terms_of s) s.next_node) (is_dir_of e.dir) (e.dir ≢ 0) s.nodes tree.nodes p.dir
     (λ n q is. let at : n.number ≡ e.dir = eqb-true n.number e.dir (and_true _ _ is).0 in let one : 1 ≤ n.number = q.from_one in omega arith))
     tree.entries
 
-pub children_given : (s : State) → Tree s → AllByRecursion (λ e. e.child ≢ 0) s.entries
+pub children_given : (s : State) → Shape s → AllByRecursion (λ e. e.child ≢ 0) s.entries
 children_given s tree =
     all_more (IsEntry s.nodes s.entries s.next_cookie) (λ e. e.child ≢ 0) s.entries
-    (λ e p. any_gives (IsNode s.next_node) (has_number e.child) (e.child ≢ 0) s.nodes tree.nodes p.child
+    (λ e p. any_gives (IsNode (terms_of s) s.next_node) (has_number e.child) (e.child ≢ 0) s.nodes tree.nodes p.child
     (λ n q is. let at : n.number ≡ e.child = eqb-true n.number e.child is in let one : 1 ≤ n.number = q.from_one in omega arith))
     tree.entries
 
-pub rooted : (s : State) → Tree s → IsRooted s.entries
+pub rooted : (s : State) → Shape s → IsRooted s.entries
 rooted s tree = record {
   none = up_none s.entries 0 (children_given s tree);
   top = up_none s.entries 1 (all_more (IsEntry s.nodes s.entries s.next_cookie) (λ e. e.child ≢ 1) s.entries (λ e p. p.not_root) tree.entries);
@@ -85,7 +85,7 @@ any_more p q (x ∷ xs) more is =
     or_true false = refl
 
 -- from where going up reaches the root, there is a node
-pub climber_there : (s : State) → Tree s → (i k : ℕ) → above s.entries i k ≡ 1 → list_any (has_number k) s.nodes ≡ true
+pub climber_there : (s : State) → Shape s → (i k : ℕ) → above s.entries i k ≡ 1 → list_any (has_number k) s.nodes ≡ true
 climber_there s tree zero k at =
     any_more (is_dir_of 1) (has_number k) s.nodes (λ n is. eq-eqb n.number k (eqb-true n.number 1 (and_true _ _ is).0 ∙ sym at)) tree.root
 climber_there s tree (suc i) k at =
@@ -123,7 +123,7 @@ pigeons test one (suc n) xs all =
     fails i x lt is false at = refl
 
 -- a way up to the root passes as many nodes as it has steps, and one more
-few_steps : (s : State) → Tree s → (m k : ℕ) → above s.entries m k ≡ 1 → m < length s.nodes
+few_steps : (s : State) → Shape s → (m k : ℕ) → above s.entries m k ≡ 1 → m < length s.nodes
 few_steps s tree m k at =
     let root = rooted s tree in
     let each : (i : ℕ) → i < suc m → list_any (λ (n : Node). eqb (above s.entries i n.number) 1) s.nodes ≡ true =
@@ -140,7 +140,7 @@ few_steps s tree m k at =
     omega arith
 
 -- each way up ends within as many steps as there are nodes
-pub ends_within : (s : State) → Tree s → (k : ℕ) → above s.entries (length s.nodes) k ≡ 0
+pub ends_within : (s : State) → Shape s → (k : ℕ) → above s.entries (length s.nodes) k ≡ 0
 ends_within s tree k = step (eqb (up_of s.entries k) 0) refl
   where
     root : IsRooted s.entries

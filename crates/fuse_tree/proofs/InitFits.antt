@@ -5,6 +5,7 @@ use Rattle.fuse_request.specs.declared.request.InitIn.{InitIn}
 use Rattle.fuse_answer.specs.declared.init_out.InitOut.{InitOut}
 use Rattle.fuse_answer.specs.Laws.{ReadBack, RecordSizes}
 use Rattle.fuse_answer.specs.Replies.{AnInit}
+use Rattle.fuse_init.specs.declared.profile.Profile.{Profile}
 use Rattle.fuse_init.specs.Agree.{agree, is_older}
 use Rattle.fuse_init.specs.declared.negotiation.Negotiated.{Negotiated}
 use Rattle.fuse_init.specs.declared.negotiation.Negotiated.TheVariants.{Agreed, Again, Refused}
@@ -18,8 +19,8 @@ init_fits sizes s (Agreed out settings) = answered (record s { settings = Some s
 init_fits sizes s (Again out) = answered s _ (omega (arith, sizes.4 out))
 init_fits sizes s (Refused errno) = refused s errno
 
-pub init_reads : ReadBack → (s : State) (offer : InitIn) → Reads AnInit (init s (agree offer))
-init_reads back s offer = either (is_older offer) (nat_lt 7 offer.major) _ _ _
+pub init_reads : ReadBack → (s : State) (p : Profile) (offer : InitIn) → Reads AnInit (init s (agree p offer))
+init_reads back s p offer = either (is_older offer) (nat_lt 7 offer.major) _ _ _
   where
     either : (older newer : Bool) (again out : InitOut) (settings : Settings)
         → Reads AnInit (init s (if older then Refused eproto else if newer then Again again else Agreed out settings))

@@ -1,5 +1,5 @@
 pub mod Agreeing
-mod Agreement
+mod Agrees
 pub mod Bounds
 mod BytesKept
 pub mod Changing
@@ -14,6 +14,10 @@ mod Prefixes
 mod GoneFirst
 pub mod GoneRows
 pub mod Heights
+pub mod KeptNodes
+pub mod KeptStates
+pub mod Sweeping
+pub mod RemovalAgrees
 mod InitAgrees
 mod InitFits
 mod Lengths
@@ -25,7 +29,7 @@ pub mod Making
 mod MakingAgrees
 mod MakingFits
 mod Modes
-mod Mounts
+pub mod Mounts
 pub mod MovedCounts
 pub mod MovedRows
 pub mod MovedTrees
@@ -49,7 +53,10 @@ mod RowsOfTrees
 mod SettingAgrees
 mod SettingFits
 mod Shown
+mod SizesFit
 mod SmallRows
+pub mod Blocks
+mod Most
 pub mod Telling
 pub mod Trees
 mod Under

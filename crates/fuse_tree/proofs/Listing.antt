@@ -9,7 +9,7 @@ use Rattle.std.proofs.lemmas.List.{take-map}
 use Rattle.std.proofs.lemmas.List.Elements.{filter-append}
 use Rattle.fuse_answer.specs.Entries.{Entry, IsNamed}
 use Rattle.fuse_tree.specs.declared.rows.EntryRow.{EntryRow}
-use Rattle.fuse_tree.specs.State.{State, Node, Tree, Apart, IsEntry, AreApart, node_at}
+use Rattle.fuse_tree.specs.State.{State, Node, Shape, Apart, IsEntry, AreApart, node_at}
 use Rattle.fuse_tree.specs.Rows.{rows_of_state, row_of, is_after}
 use Rattle.fuse_tree.specs.Listing.{dots, above_or_root, kind_of, told_entry, entries_in, is_following, entries_following, longest_prefix, first_fits}
 use Rattle.fuse_tree.specs.Listing.{ListingIsLongest}
@@ -77,7 +77,7 @@ all_told s [] all = tt
 all_told s (e ∷ es) all = (all.0, all_told s es all.1)
 
 -- of a directory in a tree, each entry has a name
-pub all_named : (s : State) (dir offset : ℕ) → Tree s → AllByRecursion IsNamed (entries_following s dir offset)
+pub all_named : (s : State) (dir offset : ℕ) → Shape s → AllByRecursion IsNamed (entries_following s dir offset)
 all_named s dir offset tree =
     let each : AllByRecursion (λ e. IsNamed (told_entry s e)) s.entries =
     all_more (IsEntry s.nodes s.entries s.next_cookie) (λ e. IsNamed (told_entry s e)) s.entries
@@ -90,7 +90,7 @@ all_named s dir offset tree =
 past : (size n : ℕ) → size < 32 * (n + enough size)
 past size n = omega arith
 
-pub same_prefix : (s : State) (d : Node) (offset size : ℕ) → Tree s
+pub same_prefix : (s : State) (d : Node) (offset size : ℕ) → Shape s
     → longest_prefix (rows_after offset size (row_of s d) (rows_of_state s)) size ≡ longest_prefix (entries_following s d.number offset) size
 same_prefix s d offset size tree =
     ap (λ (es : List Entry). longest_prefix es size) (rows_cut s d offset size)
@@ -122,11 +122,11 @@ listing_is_longest s dir offset size tree =
     let here : List EntryRow = filter (λ e. e.dir == dir) s.entries in
     let cookies : AllByRecursion (λ e. 3 ≤ e.cookie) here =
     all_kept (λ e. 3 ≤ e.cookie) (λ e. e.dir == dir) s.entries
-    (all_more (IsEntry s.nodes s.entries s.next_cookie) (λ e. 3 ≤ e.cookie) s.entries (λ e p. p.from_three) tree.entries) in
+    (all_more (IsEntry s.nodes s.entries s.next_cookie) (λ e. 3 ≤ e.cookie) s.entries (λ e p. p.from_three) tree.shape.entries) in
     record {
       rise = (
         (omega arith, all_above s 1 here (omega arith) cookies),
-        (all_above s 2 here (omega arith) cookies, apart_told s here (apart_filtered AreApart (λ e. e.dir == dir) s.entries tree.entries_apart)),
+        (all_above s 2 here (omega arith) cookies, apart_told s here (apart_filtered AreApart (λ e. e.dir == dir) s.entries tree.shape.entries_apart)),
       );
       longest = longest (entries_following s dir offset) size;
     }

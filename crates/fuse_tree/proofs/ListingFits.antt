@@ -7,7 +7,7 @@ use Rattle.fuse_answer.specs.Entries.{Entry, IsNamed}
 use Rattle.fuse_answer.specs.Laws.{ReadBack, RecordSizes}
 use Rattle.fuse_answer.specs.Replies.{Directory}
 use Rattle.fuse_tree.specs.Bounds.{read_limit}
-use Rattle.fuse_tree.specs.State.{State, Node, Tree, is_dir, is_named}
+use Rattle.fuse_tree.specs.State.{State, Node, Shape, is_dir, is_named}
 use Rattle.fuse_tree.specs.Handles.{is_open}
 use Rattle.fuse_tree.specs.Listing.{entries_following, first_fits, longest_prefix, list_prefix, read_dir}
 use Rattle.fuse_tree.proofs.Fit.{Fits, Reads, refused, answered, chosen, chosen_then, refused_reads, answered_reads, chosen_reads}
@@ -35,7 +35,7 @@ list_reads back s es size named =
     chosen_reads (not (first_fits es size)) _ _ (refused_reads s _ refl)
     (answered_reads s _ (back.listing (longest_prefix es size) (all_taken IsNamed _ es named)))
 
-pub read_dir_reads : ReadBack → (s : State) (asked : ReadIn) (n : Node) → Tree s → Reads Directory (read_dir s asked n)
+pub read_dir_reads : ReadBack → (s : State) (asked : ReadIn) (n : Node) → Shape s → Reads Directory (read_dir s asked n)
 read_dir_reads back s asked n tree =
     chosen_reads (not (is_open s.handles asked.fh n.number)) _ _ (refused_reads s _ refl)
     (chosen_reads (not (is_dir n.mode)) _ _ (refused_reads s _ refl)

@@ -1,9 +1,10 @@
 -- The modes of new nodes, and of nodes whose permissions are set.
-use Rattle.std.proofs.Common.{◌≡◌, ◌<◌, ◌+◌, ◌*◌, ◌/◌, ◌%◌, ◌||◌, ℕ, Bool, true, false, cond, eqb, refl, sym, ap, ◌∙◌, arith}
+use Rattle.std.proofs.Common.{◌≡◌, ◌<◌, ◌+◌, ◌*◌, ◌/◌, ◌%◌, ◌==◌, ◌&&◌, ◌||◌, ℕ, Bool, true, false, cond, eqb, refl, sym, ap, ◌∙◌, arith}
 use Rattle.std.proofs.lemmas.Bool.{eqb-true}
 use Rattle.std.proofs.lemmas.Nat.{div-mul-add}
-use Rattle.fuse_tree.specs.State.{HasMode, type_of, type_bits, is_type, is_device}
-use Rattle.fuse_tree.specs.Making.{dir_mode, may_make, node_mode, node_rdev}
+use Rattle.fuse_tree.proofs.Lists.{and_true}
+use Rattle.fuse_tree.specs.State.{HasMode, is_dir, type_of, type_bits, is_type, is_device}
+use Rattle.fuse_tree.specs.Making.{mode_in, dir_mode, may_make, node_mode, node_rdev}
 
 -- ---- new nodes
 
@@ -46,6 +47,24 @@ made_node mode rdev may =
     let lt : type_of mode < 16 = omega arith in
     let low : mode % 4096 < 4096 = omega arith in
     mode_made (type_of mode) (mode % 4096) rdev (eqb (type_of mode * 4096) 0) refl lt low may
+
+-- ---- what is made in a directory that gives its group
+
+group_added : (mode rdev : ℕ) (b : Bool) → (is_dir mode && (mode / 1024 % 2 == 0)) ≡ b → HasMode mode rdev → HasMode (cond b (mode + 1024) mode) rdev
+group_added mode rdev true is p =
+    let none : mode / 1024 % 2 ≡ 0 = eqb-true _ 0 (and_true (is_dir mode) _ is).1 in
+    let small : mode < 65536 = p.no_more in
+    let same : type_of (mode + 1024) ≡ type_of mode = ap (λ (k : ℕ). k % 16) (let e : (mode + 1024) / 4096 ≡ mode / 4096 = omega (arith, none) in e) in
+    record {
+      typed = ap (λ (k : ℕ). is_type (k * 4096)) same ∙ p.typed;
+      no_more = omega (arith, none, small);
+      no_device = λ no. p.no_device (ap (λ (k : ℕ). is_device (k * 4096)) (sym same) ∙ no);
+    }
+group_added mode rdev false is p = p
+
+pub mode_stays_in : (gives : Bool) (mode rdev : ℕ) → HasMode mode rdev → HasMode (mode_in gives mode) rdev
+mode_stays_in true mode rdev p = group_added mode rdev (is_dir mode && (mode / 1024 % 2 == 0)) refl p
+mode_stays_in false mode rdev p = p
 
 -- ---- permissions that are set
 

@@ -1,21 +1,26 @@
 -- What is left of a tree at a new mount.
 use Rattle.std.proofs.Common.{◌≡◌, ◌≢◌, ◌<◌, ◌≤◌, ◌||◌, ℕ, zero, suc, Bool, true, false, not, cond, eqb, List, [], ◌∷◌, length, map, refl, sym, ap, subst, ◌∙◌}
-use Rattle.std.proofs.Common.{arith}
+use Rattle.std.proofs.Common.{◌-◌, Option, Some, None, arith}
 use Rattle.std.specs.Prelude.{filter}
-use Rattle.std.specs.List.{AllByRecursion, list_any}
+use Rattle.std.specs.Option.{option_map}
+use Rattle.std.specs.List.{AllByRecursion, list_any, sum_by}
 use Rattle.std.proofs.lemmas.Bool.{eqb-true, ne_eqb, eq-eqb}
 use Rattle.std.proofs.lemmas.List.{length-map}
+use Rattle.std.proofs.lemmas.List.Sums.{sum_by-cons}
 use Rattle.fuse_tree.specs.declared.rows.EntryRow.{EntryRow}
-use Rattle.fuse_tree.specs.State.{State, Node, Tree, IsNode, IsEntry, Reaches, above, is_dir, is_dir_of, has_number, is_below, is_named, subdirs_of, up_of}
+use Rattle.fuse_tree.specs.declared.rows.Full.{Full}
+use Rattle.fuse_tree.specs.State.{State, terms_of, Node, Shape, IsNode, IsEntry, Reaches, above, is_dir, is_dir_of, has_number, is_below, is_named, is_kept, subdirs_of, up_of, blocks_for, used_of}
 use Rattle.fuse_tree.specs.Rows.{rowed, full_of}
-use Rattle.fuse_tree.specs.Clearing.{cleared, is_named_row, cleared_rows, Clearing}
-use Rattle.fuse_tree.proofs.Lists.{all_more, all_both, all_kept, any_kept, apart_filtered, length_filtered, and_true}
+use Rattle.fuse_tree.specs.Space.{room_of}
+use Rattle.fuse_tree.specs.Clearing.{cleared, is_named_row, blocks_freed, cleared_room, cleared_rows, Clearing}
+use Rattle.fuse_tree.proofs.Lists.{all_more, all_both, all_kept, all_filtered, all_always, any_kept, apart_filtered, length_filtered, and_true}
 use Rattle.fuse_tree.proofs.Heights.{rooted, stays_none, dirs_given}
+use Rattle.fuse_tree.proofs.Blocks.{blocks_of, room_with, space_less, used_without}
 
 -- ---- lists of which elements go
 
 -- those that pass the test are the same where the test keeps them
-filter_twice : {A : Type 0} (test kept : A → Bool) (xs : List A) → ((x : A) → test x ≡ true → kept x ≡ true) → filter test (filter kept xs) ≡ filter test xs
+pub filter_twice : {A : Type 0} (test kept : A → Bool) (xs : List A) → ((x : A) → test x ≡ true → kept x ≡ true) → filter test (filter kept xs) ≡ filter test xs
 filter_twice test kept [] keeps = refl
 filter_twice test kept (x ∷ xs) keeps =
     let rest = filter_twice test kept xs keeps in
@@ -36,7 +41,7 @@ filter_twice test kept (x ∷ xs) keeps =
 -- ---- entries, and who is named
 
 -- each entry's child is the child of an entry
-each_child : (es : List EntryRow) → AllByRecursion (λ e. list_any (λ x. eqb x.child e.child) es ≡ true) es
+pub each_child : (es : List EntryRow) → AllByRecursion (λ e. list_any (λ x. eqb x.child e.child) es ≡ true) es
 each_child [] = tt
 each_child (e ∷ es) = (
   rw (eq-eqb e.child e.child refl) refl,
@@ -49,26 +54,26 @@ each_child (e ∷ es) = (
     or_true false = refl
 
 -- a child has a directory above
-child_up : (es : List EntryRow) (k : ℕ) → AllByRecursion (λ e. e.dir ≢ 0) es → list_any (λ x. eqb x.child k) es ≡ true → up_of es k ≢ 0
+pub child_up : (es : List EntryRow) (k : ℕ) → AllByRecursion (λ e. e.dir ≢ 0) es → list_any (λ x. eqb x.child k) es ≡ true → up_of es k ≢ 0
 child_up [] k dirs is = absurd cc
 child_up (e ∷ es) k dirs is =
     let step : (b : Bool) → (b || list_any (λ x. eqb x.child k) es) ≡ true → cond b e.dir (up_of es k) ≢ 0 =
     elim [ true ↦ λ here. dirs.0 | false ↦ λ there. child_up es k dirs.1 there ] in
     step (eqb e.child k) is
 
-named_by_up : (b : Bool) (up : ℕ) → up ≢ 0 → (b || not (eqb up 0)) ≡ true
+pub named_by_up : (b : Bool) (up : ℕ) → up ≢ 0 → (b || not (eqb up 0)) ≡ true
 named_by_up true up ne = refl
 named_by_up false up ne = rw (ne_eqb up 0 ne) refl
 
 -- from where going up reaches the root, there is a name
-reaches_named : (s : State) (k : ℕ) → up_of s.entries 0 ≡ 0 → Reaches s.entries k → is_named s k ≡ true
+pub reaches_named : (s : State) (k : ℕ) → up_of s.entries 0 ≡ 0 → Reaches s.entries k → is_named s k ≡ true
 reaches_named s k none (zero, at) = rw (eq-eqb k 1 at) refl
 reaches_named s k none (suc steps, at) =
     named_by_up (eqb k 1) (up_of s.entries k) (λ zero_up. let e = stays_none s.entries none steps in let f = ap (above s.entries steps) zero_up in absurd cc)
 
 -- ---- the tree that is left
 
-entry_left : (s : State) (e : EntryRow) → Tree s → IsEntry s.nodes s.entries s.next_cookie e → list_any (λ x. eqb x.child e.child) s.entries ≡ true
+entry_left : (s : State) (e : EntryRow) → Shape s → IsEntry s.nodes s.entries s.next_cookie e → list_any (λ x. eqb x.child e.child) s.entries ≡ true
     → IsEntry (cleared s).nodes s.entries s.next_cookie e
 entry_left s e tree p child =
     let named_dir : is_named s e.dir ≡ true = reaches_named s e.dir (rooted s tree).none p.reaches in
@@ -88,10 +93,10 @@ entry_left s e tree p child =
       below = p.below;
     }
 
-tree_left : (s : State) → Tree s → Tree (cleared s)
+tree_left : (s : State) → Shape s → Shape (cleared s)
 tree_left s tree = record {
   root = any_kept (is_dir_of 1) (λ n. is_named s n.number) s.nodes (λ n is. rw ((and_true (eqb n.number 1) (is_dir n.mode) is).0) refl) tree.root;
-  nodes = all_kept (IsNode s.next_node) (λ n. is_named s n.number) s.nodes tree.nodes;
+  nodes = all_kept (IsNode (terms_of s) s.next_node) (λ n. is_named s n.number) s.nodes tree.nodes;
   nodes_rise = apart_filtered (λ n later. n.number < later.number) (λ n. is_named s n.number) s.nodes tree.nodes_rise;
   entries =
       all_both (IsEntry s.nodes s.entries s.next_cookie) (λ e. list_any (λ x. eqb x.child e.child) s.entries ≡ true)
@@ -109,6 +114,7 @@ tree_left s tree = record {
     fh_from_one = tree.limits.fh_from_one;
     cookie_from_three = tree.limits.cookie_from_three;
   };
+  space = space_less s (cleared s) s.capacity (let whole = used_without (λ n. is_named s n.number) s.nodes in omega (arith, whole)) tree.space;
 }
 
 -- ---- the rows that are left
@@ -137,14 +143,46 @@ nodes_left s (n ∷ ns) same =
       | false ↦ rest
     ]
 
-rows_left : (s : State) → Tree s → rowed (cleared s) ≡ cleared_rows (rowed s)
+-- the blocks of the nodes that go
+freed : (s : State) (ns : List Node) → blocks_freed (map (full_of s) ns) ≡ sum_by blocks_of (filter (λ n. not (is_named s n.number)) ns)
+freed s [] = refl
+freed s (n ∷ ns) = step (is_named s n.number) (freed s ns)
+  where
+    step : (b : Bool) → blocks_freed (map (full_of s) ns) ≡ sum_by blocks_of (filter (λ m. not (is_named s m.number)) ns)
+        → sum_by (λ (f : Full). blocks_for f.row.size)
+        (cond (not b) (full_of s n ∷ filter (λ f. not (is_named_row f)) (map (full_of s) ns)) (filter (λ f. not (is_named_row f)) (map (full_of s) ns)))
+        ≡ sum_by blocks_of (cond (not b) (n ∷ filter (λ m. not (is_named s m.number)) ns) (filter (λ m. not (is_named s m.number)) ns))
+    step true rest = rest
+    step false rest =
+        omega (
+          arith,
+          rest,
+          sum_by-cons (λ (f : Full). blocks_for f.row.size) (full_of s n) (filter (λ f. not (is_named_row f)) (map (full_of s) ns)),
+          sum_by-cons blocks_of n (filter (λ m. not (is_named s m.number)) ns),
+        )
+
+used_left : (s : State) → used_of (cleared s) ≡ used_of s - blocks_freed (map (full_of s) s.nodes)
+used_left s = let whole = used_without (λ n. is_named s n.number) s.nodes in let gone = freed s s.nodes in omega (arith, whole, gone)
+
+room_left : (s : State) (o : Option ℕ)
+    → option_map (room_with (used_of (cleared s))) o ≡ cleared_room (map (full_of s) s.nodes) (option_map (room_with (used_of s)) o)
+room_left s None = refl
+room_left s (Some c) = ap (λ (u : ℕ). Some (room_with u c)) (used_left s)
+
+rows_left : (s : State) → Shape s → rowed (cleared s) ≡ cleared_rows (rowed s)
 unfolding rowed
 rows_left s tree =
     let nodes : map (full_of (cleared s)) (cleared s).nodes ≡ filter is_named_row (map (full_of s) s.nodes) =
-    nodes_left s s.nodes (all_more (IsNode s.next_node) (λ n. full_of (cleared s) n ≡ full_of s n) s.nodes (λ n p. full_left s n p.from_one) tree.nodes) in
+    nodes_left s s.nodes (all_more (IsNode (terms_of s) s.next_node) (λ n. full_of (cleared s) n ≡ full_of s n) s.nodes (λ n p. full_left s n p.from_one) tree.nodes) in
+    let room : room_of (cleared s) ≡ cleared_room (map (full_of s) s.nodes) (room_of s) = room_left s s.capacity in
     let count : length (cleared s).nodes ≡ length (filter is_named_row (map (full_of s) s.nodes)) =
     sym (length-map (cleared s).nodes (full_of (cleared s))) ∙ ap length nodes in
     cc
 
 pub clearing : Clearing
-clearing s tree = (tree_left s tree, rows_left s tree)
+clearing s tree = (record { shape = tree_left s tree.shape; kept = λ _. named_left s s.nodes }, rows_left s tree.shape)
+  where
+    named_left : (s : State) (ns : List Node) → AllByRecursion (λ n. is_kept (cleared s) n.number ≡ true) (filter (λ n. is_named s n.number) ns)
+    named_left s ns =
+        all_more (λ n. n.number ≡ n.number × (is_named s n.number ≡ true)) (λ n. is_kept (cleared s) n.number ≡ true) (filter (λ n. is_named s n.number) ns)
+        (λ n p. rw p.1 refl) (all_filtered (λ n. n.number ≡ n.number) (λ n. is_named s n.number) ns (all_always (λ n. n.number ≡ n.number) ns (λ n. refl)))

@@ -7,7 +7,7 @@ use Rattle.fuse_wire.specs.declared.moment.Moment.{Moment}
 use Rattle.fuse_tree.specs.declared.rows.EntryRow.{EntryRow}
 use Rattle.fuse_tree.specs.declared.rows.Full.{Full}
 use Rattle.fuse_tree.specs.declared.rows.NodeRow.{NodeRow}
-use Rattle.fuse_tree.specs.State.{State, Node, Tree, has_number, is_dir, is_below, node_at, up_of, subdirs_of}
+use Rattle.fuse_tree.specs.State.{State, Node, Shape, has_number, is_dir, is_below, node_at, up_of, subdirs_of}
 use Rattle.fuse_tree.specs.Rows.{full_of, row_of, with_row, put_node}
 use Rattle.fuse_tree.proofs.Lists.{all_both, all_more, any_found, count_mapped}
 use Rattle.fuse_tree.proofs.Trees.{SamePlace}
@@ -26,7 +26,7 @@ abbrev pub IsRowOf : State → (Node → Full) → NodeRow → Type 0
 IsRowOf s G row = (d : Node) × (node_at s row.node ≡ Some d) × (G d ≡ record { row = row; content = d.content })
 
 -- where each row is that of its node by G, and the other nodes' rows are those by G before
-pub puts_meet : (s : State) (G H : Node → Full) (rows : List NodeRow) → Tree s → ((n : Node) → (H n).row.node ≡ n.number)
+pub puts_meet : (s : State) (G H : Node → Full) (rows : List NodeRow) → Shape s → ((n : Node) → (H n).row.node ≡ n.number)
     → ((n : Node) → (H n).content ≡ n.content)
     → AllByRecursion (IsRowOf s G) rows → AllByRecursion (λ n. list_any (λ row. n.number == row.node) rows ≡ false → H n ≡ G n) s.nodes → puts rows
     (map H s.nodes) ≡ map G s.nodes
@@ -102,7 +102,7 @@ module _ (s : State) (D C : ℕ → Bool) (now : Moment) (fs : List EntryRow) (n
       always (m ∷ ms) = (refl, always ms)
 
   -- where x alone comes to stand elsewhere
-  pub one_shifted : (x : ℕ) (c : Node) (was is k : ℕ) → Tree s → node_at s x ≡ Some c → up_of s.entries x ≡ was → up_of fs x ≡ is
+  pub one_shifted : (x : ℕ) (c : Node) (was is k : ℕ) → Shape s → node_at s x ≡ Some c → up_of s.entries x ≡ was → up_of fs x ≡ is
       → ((j : ℕ) → j ≢ x → up_of fs j ≡ up_of s.entries j)
       → subdirs_of (shifted D C now fs next s) k + one_if (is_dir c.mode && eqb was k) ≡ subdirs_of s k + one_if (is_dir c.mode && eqb is k)
   one_shifted x c was is k tree at up_was up_is others =
@@ -117,7 +117,7 @@ module _ (s : State) (D C : ℕ → Bool) (now : Moment) (fs : List EntryRow) (n
       differ (n ∷ ns) = (λ ne. rw (others n.number ne) refl, differ ns)
 
   -- where x and y come to stand elsewhere
-  pub two_shifted : (x y : ℕ) (c o : Node) (x_was x_is y_was y_is k : ℕ) → Tree s → node_at s x ≡ Some c → node_at s y ≡ Some o → x ≢ y
+  pub two_shifted : (x y : ℕ) (c o : Node) (x_was x_is y_was y_is k : ℕ) → Shape s → node_at s x ≡ Some c → node_at s y ≡ Some o → x ≢ y
       → up_of s.entries x ≡ x_was → up_of fs x ≡ x_is → up_of s.entries y ≡ y_was → up_of fs y ≡ y_is
       → ((j : ℕ) → j ≢ x → j ≢ y → up_of fs j ≡ up_of s.entries j)
       → subdirs_of (shifted D C now fs next s) k + one_if (is_dir c.mode && eqb x_was k) + one_if (is_dir o.mode && eqb y_was k) ≡ subdirs_of s k + one_if

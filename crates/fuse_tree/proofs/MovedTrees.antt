@@ -1,22 +1,23 @@
 -- A tree of which entries go, move or change places is a tree.
-use Rattle.std.proofs.Common.{◌≡◌, ◌≢◌, ◌<◌, ◌≤◌, ◌+◌, ℕ, suc, Bool, true, false, List, [], ◌∷◌, ◌++◌, Some, None, sym, ap, subst, ◌∙◌, ◌⊎◌, inl, inr, arith}
+use Rattle.std.proofs.Common.{◌≡◌, ◌≢◌, ◌<◌, ◌≤◌, ◌+◌, ℕ, suc, Bool, true, false, List, [], ◌∷◌, ◌++◌, Some, None, refl, sym, ap, subst, ◌∙◌, ◌⊎◌, inl, inr, arith}
 use Rattle.std.specs.Prelude.{find, filter}
 use Rattle.std.specs.List.{AllByRecursion, list_any}
 use Rattle.std.proofs.lemmas.Bool.Decides.{eqb_tells}
 use Rattle.fuse_tree.specs.Bounds.{number_end}
 use Rattle.fuse_tree.specs.declared.rows.EntryRow.{EntryRow}
-use Rattle.fuse_tree.specs.State.{State, Tree, IsEntry, Apart, AreApart, Reaches, above, up_of, is_dir_of, is_entry, name_fault}
+use Rattle.fuse_tree.specs.State.{State, Shape, IsEntry, Apart, AreApart, Reaches, above, up_of, is_dir_of, is_entry, name_fault}
 use Rattle.fuse_tree.specs.Removing.{without}
 use Rattle.fuse_tree.specs.Renaming.{placed}
 use Rattle.fuse_tree.proofs.Lists.{all_more, all_both, all_kept, all_grown, apart_filtered, apart_grown, found}
 use Rattle.fuse_tree.proofs.Ups.{up_more, reaches_same}
 use Rattle.fuse_tree.proofs.Heights.{rooted, not_under_own}
+use Rattle.fuse_tree.proofs.Blocks.{space_same}
 use Rattle.fuse_tree.proofs.Trees.{entry_moved}
 use Rattle.fuse_tree.proofs.Moving.{Differs, others_differ, keeps, kept_differ, up_found, up_kept, up_last, reaches_on}
 
 -- the entries of a tree, in other places
 pub tree_entries : (s : State) (fs : List EntryRow) (next : ℕ) → AllByRecursion (IsEntry s.nodes fs next) fs → Apart AreApart fs → s.next_cookie ≤ next
-    → next ≤ number_end → Tree s → Tree (record s { entries = fs; next_cookie = next })
+    → next ≤ number_end → Shape s → Shape (record s { entries = fs; next_cookie = next })
 tree_entries s fs next entries apart more few tree = record {
   root = tree.root;
   nodes = tree.nodes;
@@ -34,11 +35,12 @@ tree_entries s fs next entries apart more few tree = record {
     fh_from_one = tree.limits.fh_from_one;
     cookie_from_three = (let three : 3 ≤ s.next_cookie = tree.limits.cookie_from_three in omega arith);
   };
+  space = space_same s (record s { entries = fs; next_cookie = next }) s.capacity refl tree.space;
 }
 
 -- ---- an entry moves
 
-module _ (s : State) (test : EntryRow → Bool) (e : EntryRow) (to : ℕ) (name : List ℕ) (tree : Tree s) (at : find test s.entries ≡ Some e) where
+module _ (s : State) (test : EntryRow → Bool) (e : EntryRow) (to : ℕ) (name : List ℕ) (tree : Shape s) (at : find test s.entries ≡ Some e) where
   others : AllByRecursion (λ z. (z ≡ e) ⊎ Differs e z) s.entries
   others = others_differ test s.entries e tree.entries_apart at
 
@@ -72,7 +74,7 @@ module _ (s : State) (test : EntryRow → Bool) (e : EntryRow) (to : ℕ) (name 
 
   -- into a directory that isn't under its child
   pub tree_moved : list_any (is_dir_of to) s.nodes ≡ true → Reaches s.entries to → ((n : ℕ) → above s.entries n to ≢ e.child) → name_fault name ≡ None
-      → AllByRecursion (λ z. is_entry to name z ≡ false) left → s.next_cookie < number_end → Tree (placed to name e.child (without e.cookie s))
+      → AllByRecursion (λ z. is_entry to name z ≡ false) left → s.next_cookie < number_end → Shape (placed to name e.child (without e.cookie s))
   tree_moved dir climb apart name_ok free room =
       let was : IsEntry s.nodes s.entries s.next_cookie e = (found (IsEntry s.nodes s.entries s.next_cookie) test s.entries e tree.entries at).0 in
       let three : 3 ≤ s.next_cookie = tree.limits.cookie_from_three in
@@ -102,7 +104,7 @@ module _ (s : State) (test : EntryRow → Bool) (e : EntryRow) (to : ℕ) (name 
 
 -- ---- two children change places
 
-module _ (s : State) (one two : EntryRow → Bool) (e f : EntryRow) (dir to : ℕ) (old new : List ℕ) (tree : Tree s) (at_e : find one s.entries ≡ Some e)
+module _ (s : State) (one two : EntryRow → Bool) (e f : EntryRow) (dir to : ℕ) (old new : List ℕ) (tree : Shape s) (at_e : find one s.entries ≡ Some e)
     (at_f : find two s.entries ≡ Some f) (apart : e.cookie ≢ f.cookie) where
   others_e : AllByRecursion (λ z. (z ≡ e) ⊎ Differs e z) s.entries
   others_e = others_differ one s.entries e tree.entries_apart at_e
@@ -185,7 +187,7 @@ module _ (s : State) (one two : EntryRow → Bool) (e f : EntryRow) (dir to : �
   -- where neither directory is under the child that comes into it
   pub tree_exchanged : e.dir ≡ dir → f.dir ≡ to → e.name ≡ old → f.name ≡ new → ((n : ℕ) → above s.entries n to ≢ e.child)
       → ((n : ℕ) → above s.entries n dir ≢ f.child) → s.next_cookie + 2 ≤ number_end
-      → Tree (placed to new e.child (placed dir old f.child (without f.cookie (without e.cookie s))))
+      → Shape (placed to new e.child (placed dir old f.child (without f.cookie (without e.cookie s))))
   tree_exchanged e_dir f_dir e_name f_name apart_e apart_f room =
       let P = IsEntry s.nodes s.entries s.next_cookie in
       let Q = IsEntry s.nodes after (s.next_cookie + 2) in
@@ -233,7 +235,7 @@ module _ (s : State) (one two : EntryRow → Bool) (e f : EntryRow) (dir to : �
       let place_f : (z : EntryRow) → is_entry f.dir f.name z ≡ false → is_entry to new z ≡ false =
       λ z no. subst (λ (n : List ℕ). is_entry to n z ≡ false) f_name (subst (λ (k : ℕ). is_entry k f.name z ≡ false) f_dir no) in
       let place_there : is_entry to new there_f ≡ false = rw (sym e_dir, sym e_name) (place_f e e_differs.place) in
-      subst (λ (n : ℕ). Tree (record s { entries = after; next_cookie = n })) next
+      subst (λ (n : ℕ). Shape (record s { entries = after; next_cookie = n })) next
       (tree_entries s after (s.next_cookie + 2)
       (all_grown Q (rest ++ there_f ∷ []) there_e (all_grown Q rest there_f kept_ones first) second)
       (apart_grown AreApart (rest ++ there_f ∷ []) there_e

@@ -9,13 +9,14 @@ use Rattle.fuse_wire.specs.declared.access_mode.AccessMode.{AccessMode}
 use Rattle.fuse_wire.specs.Errnos.{enfile, enospc}
 use Rattle.fuse_tree.specs.Bounds.{handle_limit, number_end}
 use Rattle.fuse_tree.specs.declared.rows.HandleRow.{HandleRow}
-use Rattle.fuse_tree.specs.State.{State, Node, Tree, Apart, IsHandle, is_open_at}
+use Rattle.fuse_tree.specs.State.{State, Node, Shape, Apart, IsHandle, is_open_at}
 use Rattle.fuse_tree.specs.Rows.{rows_of_state, counters_of, handle_at, apply}
 use Rattle.fuse_tree.specs.Handles.{access_in, is_open}
 use Rattle.fuse_tree.specs.Opening.{open_fault, new_handle, opened, closed}
-use Rattle.fuse_tree.specs.inner.PlanOpening.{opened_changes, plan_closed}
-use Rattle.fuse_tree.proofs.Agreement.{no_fault}
+use Rattle.fuse_tree.specs.inner.PlanOpening.{opened_changes, closed_changes}
+use Rattle.fuse_tree.proofs.Agrees.{no_fault}
 use Rattle.fuse_tree.proofs.Lists.{or_true, all_more, all_grown, all_kept, apart_grown, apart_filtered, length_filtered, cond_found}
+use Rattle.fuse_tree.proofs.Blocks.{space_same}
 use Rattle.fuse_tree.proofs.Trees.{handle_moved}
 
 -- ---- a handle more
@@ -47,8 +48,8 @@ open_rows s access node =
 one_more : (a b : ℕ) → a < b → a + 1 ≤ b
 one_more a b lt = omega arith
 
-pub tree_opened : (s : State) (node : ℕ) (access : AccessMode) → list_any (is_open_at (new_handle s.next_fh node access)) s.nodes ≡ true → Room s → Tree s
-    → Tree (opened s node access)
+pub tree_opened : (s : State) (node : ℕ) (access : AccessMode) → list_any (is_open_at (new_handle s.next_fh node access)) s.nodes ≡ true → Room s → Shape s
+    → Shape (opened s node access)
 tree_opened s node access there left tree =
     let h = new_handle s.next_fh node access in
     let from_one : 1 ≤ s.next_fh = tree.limits.fh_from_one in
@@ -74,11 +75,12 @@ tree_opened s node access there left tree =
         fh_from_one = omega arith;
         cookie_from_three = tree.limits.cookie_from_three;
       };
+      space = space_same s (opened s node access) s.capacity refl tree.space;
     }
 
 -- ---- a handle less
 
-pub tree_closed : (s : State) (fh : ℕ) → Tree s → Tree (closed s fh)
+pub tree_closed : (s : State) (fh : ℕ) → Shape s → Shape (closed s fh)
 tree_closed s fh tree =
     let stays : HandleRow → Bool = λ h. not (h.fh == fh) in
     record {
@@ -98,6 +100,7 @@ tree_closed s fh tree =
         fh_from_one = tree.limits.fh_from_one;
         cookie_from_three = tree.limits.cookie_from_three;
       };
+      space = space_same s (closed s fh) s.capacity refl tree.space;
     }
 
 all_stay : (fh : ℕ) (hs : List HandleRow) → AllByRecursion (λ i. fh < i.fh) hs → filter (λ h. not (h.fh == fh)) hs ≡ hs
@@ -125,8 +128,8 @@ open_there : (node : ℕ) (o : Option HandleRow) → is_some (access_in node o) 
 open_there node None is = is
 open_there node (Some h) is = refl
 
-pub close_rows : (s : State) (fh node : ℕ) → Tree s → is_open s.handles fh node ≡ true
-    → apply (rows_of_state s) (plan_closed (counters_of s) fh).changes ≡ rows_of_state (closed s fh)
+pub close_rows : (s : State) (fh node : ℕ) → Shape s → is_open s.handles fh node ≡ true
+    → apply (rows_of_state s) (closed_changes (counters_of s) fh) ≡ rows_of_state (closed s fh)
 close_rows s fh node tree is =
     let less = one_less fh s.handles tree.handles_rise (open_there node (handle_at s.handles fh) is) in
     let count : length s.handles - 1 ≡ length (closed s fh).handles = omega arith in

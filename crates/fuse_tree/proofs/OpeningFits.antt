@@ -8,21 +8,22 @@ use Rattle.fuse_wire.specs.Errnos.{enotdir, eisdir, enfile, enospc}
 use Rattle.fuse_wire.specs.Flags.{access_of}
 use Rattle.fuse_answer.specs.Laws.{ReadBack, RecordSizes}
 use Rattle.fuse_answer.specs.Replies.{AnOpen, Nothing}
+use Rattle.fuse_tree.specs.Removal.{tidied}
 use Rattle.fuse_tree.specs.Bounds.{handle_limit, number_end}
-use Rattle.fuse_tree.specs.State.{State, Node, is_dir, is_file}
+use Rattle.fuse_tree.specs.State.{State, terms_of, Node, is_dir, is_file}
 use Rattle.fuse_tree.specs.Handles.{is_open}
 use Rattle.fuse_tree.specs.Done.{Done, refuse_for, answer}
 use Rattle.fuse_tree.specs.Opening.{open_fault, opened, open_of, open_node, open_for, open_file, open_dir, closed, close, release, release_dir, not_for_dirs}
 use Rattle.fuse_tree.specs.Opening.{for_dirs_alone}
 use Rattle.fuse_tree.proofs.Fit.{Fits, Reads, refused, answered, chosen, refused_for, refused_reads, answered_reads, chosen_reads, no_body}
 
-open_node_fits : RecordSizes → (s : State) (access : AccessMode) (n : Node) → Fits (open_node s access n)
-open_node_fits sizes s access n =
-    refused_for s (open_fault (length s.handles) s.next_fh) _ (answered (opened s n.number access) _ (omega (arith, sizes.2 (open_of s.next_fh))))
+open_node_fits : RecordSizes → (s : State) (flags : ℕ) (access : AccessMode) (n : Node) → Fits (open_node s flags access n)
+open_node_fits sizes s flags access n =
+    refused_for s (open_fault (length s.handles) s.next_fh) _ (answered (opened s n.number access) _ (omega (arith, sizes.2 (open_of flags s.next_fh))))
 
 open_for_fits : RecordSizes → (s : State) (access : Option AccessMode) (n : Node) → Fits (open_for s access n)
 open_for_fits sizes s None n = refused s _
-open_for_fits sizes s (Some access) n = open_node_fits sizes s access n
+open_for_fits sizes s (Some access) n = open_node_fits sizes s (terms_of s).open_flags access n
 
 pub open_fits : RecordSizes → (s : State) (flags : ℕ) (n : Node) → Fits (open_file s flags n)
 open_fits sizes s flags n =
@@ -30,12 +31,12 @@ open_fits sizes s flags n =
     (chosen (not (is_file n.mode)) _ _ (refused s _) (open_for_fits sizes s (access_of flags) n))
 
 pub open_dir_fits : RecordSizes → (s : State) (n : Node) → Fits (open_dir s n)
-open_dir_fits sizes s n = chosen (not (is_dir n.mode)) _ _ (refused s _) (open_node_fits sizes s ReadOnly n)
+open_dir_fits sizes s n = chosen (not (is_dir n.mode)) _ _ (refused s _) (open_node_fits sizes s 0 ReadOnly n)
 
 close_fits : (s : State) (fh : ℕ) (kind_fault : Option Errno) (n : Node) → Fits (close s fh kind_fault n)
 close_fits s fh kind_fault n =
     chosen (not (is_open s.handles fh n.number)) _ _ (refused s _)
-    (refused_for s kind_fault _ (answered (closed s fh) [] (omega arith)))
+    (refused_for s kind_fault _ (answered (tidied (closed s fh)) [] (omega arith)))
 
 pub release_fits : (s : State) (fh : ℕ) (n : Node) → Fits (release s fh n)
 release_fits s fh n = close_fits s fh (not_for_dirs n.mode) n
@@ -51,14 +52,14 @@ open_fault_reads s true ended d so = refused_reads s enfile refl
 open_fault_reads s false true d so = refused_reads s enospc refl
 open_fault_reads s false false d so = so
 
-open_node_reads : ReadBack → (s : State) (access : AccessMode) (n : Node) → Reads AnOpen (open_node s access n)
-open_node_reads back s access n =
+open_node_reads : ReadBack → (s : State) (flags : ℕ) (access : AccessMode) (n : Node) → Reads AnOpen (open_node s flags access n)
+open_node_reads back s flags access n =
     open_fault_reads s (nat_le handle_limit (length s.handles)) (nat_le number_end s.next_fh) _
-    (answered_reads (opened s n.number access) _ (back.opened (open_of s.next_fh)))
+    (answered_reads (opened s n.number access) _ (back.opened (open_of flags s.next_fh)))
 
 open_for_reads : ReadBack → (s : State) (access : Option AccessMode) (n : Node) → Reads AnOpen (open_for s access n)
 open_for_reads back s None n = refused_reads s _ refl
-open_for_reads back s (Some access) n = open_node_reads back s access n
+open_for_reads back s (Some access) n = open_node_reads back s (terms_of s).open_flags access n
 
 pub open_reads : ReadBack → (s : State) (flags : ℕ) (n : Node) → Reads AnOpen (open_file s flags n)
 open_reads back s flags n =
@@ -66,9 +67,9 @@ open_reads back s flags n =
     (chosen_reads (not (is_file n.mode)) _ _ (refused_reads s _ refl) (open_for_reads back s (access_of flags) n))
 
 pub open_dir_reads : ReadBack → (s : State) (n : Node) → Reads AnOpen (open_dir s n)
-open_dir_reads back s n = chosen_reads (not (is_dir n.mode)) _ _ (refused_reads s _ refl) (open_node_reads back s ReadOnly n)
+open_dir_reads back s n = chosen_reads (not (is_dir n.mode)) _ _ (refused_reads s _ refl) (open_node_reads back s 0 ReadOnly n)
 
-close_reads : (s : State) (fh : ℕ) (n : Node) (kind_fault : Option Errno) → Reads Nothing (refuse_for s kind_fault (answer (closed s fh) []))
+close_reads : (s : State) (fh : ℕ) (n : Node) (kind_fault : Option Errno) → Reads Nothing (refuse_for s kind_fault (answer (tidied (closed s fh)) []))
     → Reads Nothing (close s fh kind_fault n)
 close_reads s fh n kind_fault so = chosen_reads (not (is_open s.handles fh n.number)) _ _ (refused_reads s _ refl) so
 
@@ -77,11 +78,11 @@ not_for_dirs_reads s true d so = refused_reads s eisdir refl
 not_for_dirs_reads s false d so = so
 
 pub release_reads : (s : State) (fh : ℕ) (n : Node) → Reads Nothing (release s fh n)
-release_reads s fh n = close_reads s fh n _ (not_for_dirs_reads s (is_dir n.mode) _ (answered_reads (closed s fh) [] no_body))
+release_reads s fh n = close_reads s fh n _ (not_for_dirs_reads s (is_dir n.mode) _ (answered_reads (tidied (closed s fh)) [] no_body))
 
 for_dirs_reads : (s : State) (dir : Bool) (d : Done) → Reads Nothing d → Reads Nothing (refuse_for s (if dir then None else Some enotdir) d)
 for_dirs_reads s true d so = so
 for_dirs_reads s false d so = refused_reads s enotdir refl
 
 pub release_dir_reads : (s : State) (fh : ℕ) (n : Node) → Reads Nothing (release_dir s fh n)
-release_dir_reads s fh n = close_reads s fh n _ (for_dirs_reads s (is_dir n.mode) _ (answered_reads (closed s fh) [] no_body))
+release_dir_reads s fh n = close_reads s fh n _ (for_dirs_reads s (is_dir n.mode) _ (answered_reads (tidied (closed s fh)) [] no_body))

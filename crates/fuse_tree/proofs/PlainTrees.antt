@@ -1,34 +1,60 @@
 -- The tree's plans and mounts, as a file system's.
-use Rattle.std.proofs.Common.{◌≡◌, refl, sym, ap, ◌∙◌}
-use Rattle.fuse_tree.specs.State.{State, Tree}
-use Rattle.fuse_tree.specs.Plan.{TreeKept, NewStoreIsTree, AnswersFit}
-use Rattle.fuse_tree.specs.Rows.{Rows, rowed}
+use Rattle.std.proofs.Common.{◌≡◌, ℕ, refl, sym, ap, ◌∙◌, arith}
+use Rattle.fuse_tree.specs.State.{State, Tree, profile_for, profile_of, new_store}
+use Rattle.fuse_wire.specs.declared.moment.Moment.{Moment}
+use Rattle.fuse_tree.specs.Bounds.{default_capacity}
+use Rattle.fuse_tree.specs.Do.{done}
+use Rattle.fuse_tree.specs.declared.rows.Planned.{Planned}
+use Rattle.fuse_tree.specs.Plan.{Meets, TreeKept, NewStoreIsTree, AnswersFit}
+use Rattle.fuse_tree.specs.Rows.{Rows, rowed, apply}
 use Rattle.fuse_tree.specs.declared.planning.fault.PlanFault.{PlanFault}
 use Rattle.fuse_tree.specs.declared.planning.fault.PlanFault.TheVariants as plans
 use Rattle.fuse_tree.specs.Clearing.{cleared_rows, Clearing}
 use Rattle.fuse_keeper.specs.Model.{IsRowed, IsSoundModel}
-use Rattle.fuse_keeper.specs.Taking.{Clears}
+use Rattle.fuse_keeper.specs.History.{Entry}
+use Rattle.fuse_keeper.specs.Taking.{ActedOn, Clears}
 use Rattle.fuse_keeper.specs.declared.fault.StoreFault.{StoreFault}
 use Rattle.fuse_keeper.specs.declared.fault.StoreFault.TheVariants.{Memory}
-use Rattle.fuse_tree.specs.TheTree.{the_tree}
+use Rattle.fuse_init.specs.declared.profile.Profile.{Profile}
+use Rattle.fuse_init.specs.declared.profile.Profile.TheVariants.{Plain, Everyday}
+use Rattle.fuse_tree.specs.TheTree.{IsGood, tree_of}
 use Rattle.fuse_tree.specs.inner.Causing.{CausedBy}
 
 -- over the rows of a tree the only fault of a plan in lists is out of memory
-pub caused : (fault : PlanFault) (f : StoreFault) (rows : Rows) → CausedBy fault f → (fault ≡ plans.NotATree → (s : State) → Tree s → rows ≡ rowed s → ⊥)
-    → IsRowed the_tree rows → f ≡ Memory
-caused (plans.Look look) f rows is isnt of_tree = is
-caused plans.Memory f rows is isnt of_tree = is
-caused plans.NotATree f rows is isnt of_tree = unfold IsRowed in absurd (isnt refl of_tree.0 of_tree.1 of_tree.2)
+pub caused : (p : Profile) (fault : PlanFault) (f : StoreFault) (rows : Rows) → CausedBy fault f
+    → (fault ≡ plans.NotATree → (s : State) → Tree s → rows ≡ rowed s → ⊥)
+    → IsRowed (tree_of p) rows → f ≡ Memory
+caused p (plans.Look look) f rows is isnt of_tree = is
+caused p plans.Memory f rows is isnt of_tree = is
+caused p plans.NotATree f rows is isnt of_tree = unfold IsRowed in absurd (isnt refl of_tree.0 of_tree.1.tree of_tree.2)
+
+-- what a plan makes of the rows of a tree
+pub acted : (p : Profile) (s : State) (e : Entry) (rows' : Rows) (planned : Planned) → TreeKept → IsGood p s → Meets s planned (done s e.asked e.moment)
+    → rows' ≡ apply (rowed s) planned.changes → ActedOn (tree_of p) s e rows' planned.answer
+acted p s e rows' planned kept good meets is =
+    let after = kept s e.asked e.moment good.tree in
+    record {
+      answer_is = meets.answer;
+      rows_are = is ∙ meets.rows;
+      tree = record { tree = after.0; profile = ap profile_for after.1 ∙ good.profile };
+    }
 
 -- a mount of the tree begins
-pub tree_clears : (rows rows' : Rows) → Clearing → rows' ≡ cleared_rows rows → Clears the_tree rows rows'
-tree_clears rows rows' clearing is s tree are = let clear = clearing s tree in (clear.0, is ∙ ap cleared_rows are ∙ sym clear.1)
+pub tree_clears : (p : Profile) (rows rows' : Rows) → Clearing → rows' ≡ cleared_rows rows → Clears (tree_of p) rows rows'
+tree_clears p rows rows' clearing is s good are =
+    let clear = clearing s good.tree in
+    (record { tree = clear.0; profile = good.profile }, is ∙ ap cleared_rows are ∙ sym clear.1)
+
+-- a new store is of the profile that is asked for
+new_of : (p : Profile) (capacity : ℕ) (now : Moment) → profile_of (new_store p capacity now) ≡ p
+new_of Plain capacity now = refl
+new_of Everyday capacity now = refl
 
 -- the model is sound
-pub tree_is_sound : AnswersFit → NewStoreIsTree → TreeKept → Clearing → IsSoundModel the_tree
-tree_is_sound fit new kept clearing = record {
+pub tree_is_sound : (p : Profile) → AnswersFit → NewStoreIsTree → TreeKept → Clearing → IsSoundModel (tree_of p)
+tree_is_sound p fit new kept clearing = record {
   fits = fit;
-  starts = new;
-  goes_on = λ s asked now is good. kept s asked now good;
-  clears = λ s good. (clearing s good).0;
+  starts = λ now. record { tree = new p default_capacity now (omega arith); profile = new_of p default_capacity now };
+  goes_on = λ s asked now is good. let after = kept s asked now good.tree in record { tree = after.0; profile = ap profile_for after.1 ∙ good.profile };
+  clears = λ s good. record { tree = (clearing s good.tree).0; profile = good.profile };
 }

@@ -6,7 +6,7 @@ use Rattle.std.specs.Option.{option_map}
 use Rattle.std.specs.List.{AllByRecursion, list_any}
 use Rattle.std.proofs.lemmas.Bool.{ne_eqb, eqb-true, eqb-false}
 use Rattle.fuse_tree.specs.declared.rows.NodeRow.{NodeRow}
-use Rattle.fuse_tree.specs.State.{State, Node, Tree, Apart, node_at, is_dir_of, is_dir}
+use Rattle.fuse_tree.specs.State.{State, Node, Shape, Apart, node_at, is_dir_of, is_dir}
 use Rattle.fuse_tree.specs.declared.rows.Full.{Full}
 use Rattle.fuse_tree.specs.Rows.{full_of, rows_of_state, row_at, with_row, put_node}
 use Rattle.fuse_tree.proofs.Lists.{cond_found, any_found, found}
@@ -30,7 +30,7 @@ pub row_found : (s : State) (k : ℕ) → row_at (rows_of_state s) k ≡ option_
 row_found s k = ap (option_map (λ f. f.row)) (find_full s k s.nodes) ∙ map_twice s (node_at s k)
 
 -- the node that is found has the number, and the number is given out
-pub node_found : (s : State) (k : ℕ) (d : Node) → Tree s → node_at s k ≡ Some d → (d.number ≡ k) × (k < s.next_node)
+pub node_found : (s : State) (k : ℕ) (d : Node) → Shape s → node_at s k ≡ Some d → (d.number ≡ k) × (k < s.next_node)
 node_found s k d tree e =
     let q : (d.number < s.next_node) × (eqb d.number k ≡ true) = found (λ n. n.number < s.next_node) (λ n. n.number == k) s.nodes d (nodes_below s tree) e in
     let lt : d.number < s.next_node = q.0 in
@@ -73,7 +73,7 @@ put_there s row d e =
     rw there refl
 
 -- a row in the place of a node's own: the rows are those by G, where G differs at this node alone
-pub put_changed : (s : State) (G : Node → Full) (row : NodeRow) (d : Node) → Tree s → node_at s row.node ≡ Some d
+pub put_changed : (s : State) (G : Node → Full) (row : NodeRow) (d : Node) → Shape s → node_at s row.node ≡ Some d
     → ((n : Node) → n.number < s.next_node → n.number ≢ row.node → G n ≡ full_of s n) → G d ≡ record { row = row; content = d.content }
     → put_node row (map (full_of s) s.nodes) ≡ map G s.nodes
 put_changed s G row d tree e other here =

@@ -1,5 +1,5 @@
 -- The plans of an entry gone agree with what is done.
-use Rattle.std.proofs.Common.{◌≡◌, ◌≢◌, ℕ, not, List, [], Option, Some, None, refl, sym, subst}
+use Rattle.std.proofs.Common.{◌≡◌, ◌≢◌, ◌&&◌, ◌==◌, ℕ, Bool, not, List, [], map, Option, Some, None, refl, sym, ap, subst, ◌∙◌}
 use Rattle.std.specs.Option.{option_map}
 use Rattle.std.specs.List.{AllByRecursion}
 use Rattle.std.proofs.lemmas.Bool.{eqb-true}
@@ -8,15 +8,20 @@ use Rattle.fuse_wire.specs.declared.moment.Moment.{Moment}
 use Rattle.fuse_tree.specs.declared.planning.finding.Link.{Link}
 use Rattle.fuse_tree.specs.declared.rows.EntryRow.{EntryRow}
 use Rattle.fuse_tree.specs.declared.rows.NodeRow.{NodeRow}
-use Rattle.fuse_tree.specs.State.{State, Node, Tree, IsEntry, is_dir, is_entry, node_at, is_named, name_fault}
-use Rattle.fuse_tree.specs.Rows.{row_of, rows_of_state, entry_at}
-use Rattle.fuse_tree.specs.Done.{answer}
-use Rattle.fuse_tree.specs.Removing.{entry_gone, has_entries, unlink_child, unlink_entry, unlink, rmdir_child, rmdir_entry, rmdir}
-use Rattle.fuse_tree.specs.inner.PlanRemoving.{link_of, plan_gone, plan_unlink_link, plan_unlink, plan_rmdir_link, plan_rmdir}
-use Rattle.fuse_tree.proofs.Agreement.{Agrees, refused_agrees, both, both_for}
+use Rattle.fuse_tree.specs.State.{State, Node, Shape, IsEntry, profile_of, terms_of, is_dir, is_entry, node_at, is_named, name_fault}
+use Rattle.fuse_tree.specs.Rows.{Rows, row_of, rows_of_state, counters_of, entry_at}
+use Rattle.fuse_tree.specs.State.{is_used, is_kept, NodesAreKept}
+use Rattle.fuse_tree.specs.Removal.{tidied}
+use Rattle.fuse_tree.specs.Done.{answer, touched}
+use Rattle.fuse_tree.specs.Removing.{marked, entry_gone, has_entries, unlink_child, unlink_entry, unlink, rmdir_child, rmdir_entry, rmdir}
+use Rattle.fuse_tree.specs.inner.PlanRemoving.{link_of, gone_changes, plan_gone, plan_unlink_link, plan_unlink, plan_rmdir_link, plan_rmdir}
+use Rattle.fuse_tree.proofs.Agrees.{Agrees, refused_agrees, both, both_for}
 use Rattle.fuse_tree.proofs.Lists.{found, and_true}
 use Rattle.fuse_tree.proofs.Puts.{row_found, node_found}
-use Rattle.fuse_tree.proofs.EntryGone.{standing}
+use Rattle.fuse_tree.specs.inner.PlanRemoval.{goes_unnamed}
+use Rattle.fuse_tree.proofs.EntryGone.{standing, up_gone, left_others}
+use Rattle.fuse_tree.proofs.KeptStates.{all_kept_in, kept_gone}
+use Rattle.fuse_tree.proofs.RemovalAgrees.{tidied_rows, found_mapped, tree_tidied, same_tidied, kept_tidied, unnamed_goes}
 use Rattle.fuse_tree.proofs.GoneRows.{gone_rows, gone_tree, none_in_file, none_in_empty}
 
 -- the entry of this cookie, with its child's row
@@ -24,37 +29,56 @@ abbrev linked : EntryRow → Option NodeRow → Option Link
 linked e row = option_map (λ child. record { cookie = e.cookie; child = child }) row
 
 -- an entry gone from directory d, where no entry stands in its child c
-gone_agrees : (s : State) (name : List ℕ) (now : Moment) (d : Node) (e : EntryRow) (c : Node) → Tree s → node_at s d.number ≡ Some d
-    → entry_at s.entries d.number name ≡ Some e → node_at s e.child ≡ Some c
-    → AllByRecursion (λ x. x.dir ≢ e.child) s.entries → Agrees s (plan_gone now (record { cookie = e.cookie; child = row_of s c }) (row_of s d))
-    (answer (entry_gone e now s) [])
-gone_agrees s name now d e c tree at_d at_e at_c empty =
+gone_agrees : (s : State) (name : List ℕ) (now : Moment) (d : Node) (e : EntryRow) (c : Node) → Shape s → NodesAreKept s → node_at s d.number ≡ Some d
+    → entry_at s.entries d.number name ≡ Some e → node_at s e.child ≡ Some c → AllByRecursion (λ x. x.dir ≢ e.child) s.entries
+    → Agrees s (plan_gone (profile_of s) now (record { cookie = e.cookie; child = row_of s c }) (row_of s d) (rows_of_state s))
+    (answer (tidied (entry_gone e now s)) [])
+gone_agrees s name now d e c tree kept at_d at_e at_c empty =
     let stands = standing s (is_entry d.number name) e tree at_e in
     let test = (found (IsEntry s.nodes s.entries s.next_cookie) (is_entry d.number name) s.entries e tree.entries at_e).1 in
     let dir : e.dir ≡ d.number = eqb-true e.dir d.number (and_true _ _ test).0 in
     let there : node_at s e.dir ≡ Some d = subst (λ (k : ℕ). node_at s k ≡ Some d) (sym dir) at_d in
-    record { answer = refl; rows = gone_rows s e d c now tree stands there at_c empty; tree = gone_tree s e d c now tree stands there at_c empty }
+    let t = entry_gone e now s in
+    let after : Shape t = gone_tree s e d c now tree stands there at_c empty in
+    let rows = gone_rows s e d c now tree stands there at_c empty in
+    let c_is : c.number ≡ e.child = (node_found s e.child c tree at_c).0 in
+    let lost : is_kept t e.child ≡ is_used s.handles e.child =
+    unnamed_goes t e.child stands.entry.not_root (up_gone (λ x. not (x.cookie == e.cookie)) s.entries e.child (left_others e s.entries stands.only)) in
+    let goes : goes_unnamed (profile_of s) c.number (rows_of_state s) ≡ ((terms_of s).removes && not (is_kept t e.child)) =
+    ap (λ (k : ℕ). (terms_of s).removes && not (is_used s.handles k)) c_is ∙ ap (λ (b : Bool). (terms_of s).removes && not b) (sym lost) in
+    record {
+      answer = refl;
+      rows =
+          tidied_rows s t e.child (marked e.child now (touched e.dir now c)) (row_of s c) (goes_unnamed (profile_of s) c.number (rows_of_state s))
+          (counters_of s) (gone_changes now (record { cookie = e.cookie; child = row_of s c }) (row_of s d)) after rows (ap (λ (r : Rows). r.counters) rows)
+          (found_mapped (marked e.child now) e.child (touched e.dir now c) (map (touched e.dir now) s.nodes) (λ n. refl)
+          (found_mapped (touched e.dir now) e.child c s.nodes (λ n. refl) at_c)) c_is refl
+          (λ removes. kept_gone s e now stands.only (all_kept_in s kept removes)) goes;
+      tree = tree_tidied t after;
+      same = same_tidied t;
+      kept = λ _. kept_tidied t;
+    }
 
 -- ---- in directory d
 
-module _ (s : State) (name : List ℕ) (now : Moment) (d : Node) (tree : Tree s) (at_d : node_at s d.number ≡ Some d) where
+module _ (s : State) (name : List ℕ) (now : Moment) (d : Node) (tree : Shape s) (kept : NodesAreKept s) (at_d : node_at s d.number ≡ Some d) where
   -- ---- UNLINK
 
   unlink_child_agrees : (e : EntryRow) (o : Option Node) → entry_at s.entries d.number name ≡ Some e → node_at s e.child ≡ o
-      → Agrees s (plan_unlink_link now (row_of s d) (linked e (option_map (row_of s) o))) (unlink_child s e now o)
+      → Agrees s (plan_unlink_link (profile_of s) now (row_of s d) (rows_of_state s) (linked e (option_map (row_of s) o))) (unlink_child s e now o)
   unlink_child_agrees e None at_e at_c = refused_agrees s tree enoent
   unlink_child_agrees e (Some c) at_e at_c =
       both s (is_dir c.mode) _ _ _ _ (λ _. refused_agrees s tree eisdir) (λ file.
-      gone_agrees s name now d e c tree at_d at_e at_c (none_in_file s e.child c tree at_c file))
+      gone_agrees s name now d e c tree kept at_d at_e at_c (none_in_file s e.child c tree at_c file))
 
   unlink_entry_agrees : (o : Option EntryRow) → entry_at s.entries d.number name ≡ o
-      → Agrees s (plan_unlink_link now (row_of s d) (link_of (rows_of_state s) o)) (unlink_entry s now o)
+      → Agrees s (plan_unlink_link (profile_of s) now (row_of s d) (rows_of_state s) (link_of (rows_of_state s) o)) (unlink_entry s now o)
   unlink_entry_agrees None at_e = refused_agrees s tree enoent
   unlink_entry_agrees (Some e) at_e =
-      subst (λ (row : Option NodeRow). Agrees s (plan_unlink_link now (row_of s d) (linked e row)) (unlink_child s e now (node_at s e.child)))
+      subst (λ (row : Option NodeRow). Agrees s (plan_unlink_link (profile_of s) now (row_of s d) (rows_of_state s) (linked e row)) (unlink_child s e now (node_at s e.child)))
       (sym (row_found s e.child)) (unlink_child_agrees e (node_at s e.child) at_e refl)
 
-  pub unlink_agrees : Agrees s (plan_unlink name now (row_of s d) (rows_of_state s)) (unlink s name now d)
+  pub unlink_agrees : Agrees s (plan_unlink (profile_of s) name now (row_of s d) (rows_of_state s)) (unlink s name now d)
   unlink_agrees =
       both s (not (is_dir d.mode)) _ _ _ _ (λ _. refused_agrees s tree enotdir) (λ _.
       both_for s (name_fault name) _ _ tree (λ _.
@@ -64,22 +88,22 @@ module _ (s : State) (name : List ℕ) (now : Moment) (d : Node) (tree : Tree s)
   -- ---- RMDIR
 
   rmdir_child_agrees : (e : EntryRow) (o : Option Node) → entry_at s.entries d.number name ≡ Some e → node_at s e.child ≡ o
-      → Agrees s (plan_rmdir_link now (row_of s d) (rows_of_state s) (linked e (option_map (row_of s) o))) (rmdir_child s e now o)
+      → Agrees s (plan_rmdir_link (profile_of s) now (row_of s d) (rows_of_state s) (linked e (option_map (row_of s) o))) (rmdir_child s e now o)
   rmdir_child_agrees e None at_e at_c = refused_agrees s tree enoent
   rmdir_child_agrees e (Some c) at_e at_c =
       both s (not (is_dir c.mode)) _ _ _ _ (λ _. refused_agrees s tree enotdir) (λ _.
       both s (has_entries s.entries c.number) _ _ _ _ (λ _. refused_agrees s tree enotempty) (λ none.
-      gone_agrees s name now d e c tree at_d at_e at_c
+      gone_agrees s name now d e c tree kept at_d at_e at_c
       (subst (λ (k : ℕ). AllByRecursion (λ x. x.dir ≢ k) s.entries) (node_found s e.child c tree at_c).0 (none_in_empty s.entries c.number none))))
 
   rmdir_entry_agrees : (o : Option EntryRow) → entry_at s.entries d.number name ≡ o
-      → Agrees s (plan_rmdir_link now (row_of s d) (rows_of_state s) (link_of (rows_of_state s) o)) (rmdir_entry s now o)
+      → Agrees s (plan_rmdir_link (profile_of s) now (row_of s d) (rows_of_state s) (link_of (rows_of_state s) o)) (rmdir_entry s now o)
   rmdir_entry_agrees None at_e = refused_agrees s tree enoent
   rmdir_entry_agrees (Some e) at_e =
-      subst (λ (row : Option NodeRow). Agrees s (plan_rmdir_link now (row_of s d) (rows_of_state s) (linked e row)) (rmdir_child s e now (node_at s e.child)))
+      subst (λ (row : Option NodeRow). Agrees s (plan_rmdir_link (profile_of s) now (row_of s d) (rows_of_state s) (linked e row)) (rmdir_child s e now (node_at s e.child)))
       (sym (row_found s e.child)) (rmdir_child_agrees e (node_at s e.child) at_e refl)
 
-  pub rmdir_agrees : Agrees s (plan_rmdir name now (row_of s d) (rows_of_state s)) (rmdir s name now d)
+  pub rmdir_agrees : Agrees s (plan_rmdir (profile_of s) name now (row_of s d) (rows_of_state s)) (rmdir s name now d)
   rmdir_agrees =
       both s (not (is_dir d.mode)) _ _ _ _ (λ _. refused_agrees s tree enotdir) (λ _.
       both_for s (name_fault name) _ _ tree (λ _.

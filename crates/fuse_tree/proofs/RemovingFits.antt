@@ -2,6 +2,7 @@
 use Rattle.std.proofs.Common.{ℕ, not, List, [], Option, Some, None, refl, arith}
 use Rattle.fuse_wire.specs.declared.moment.Moment.{Moment}
 use Rattle.fuse_answer.specs.Replies.{Nothing}
+use Rattle.fuse_tree.specs.Removal.{tidied}
 use Rattle.fuse_tree.specs.declared.rows.EntryRow.{EntryRow}
 use Rattle.fuse_tree.specs.State.{State, Node, is_dir, node_at, is_named, name_fault}
 use Rattle.fuse_tree.specs.Rows.{entry_at}
@@ -10,7 +11,7 @@ use Rattle.fuse_tree.proofs.Fit.{Fits, Reads, refused, answered, chosen, refused
 
 unlink_child_fits : (s : State) (e : EntryRow) (now : Moment) (o : Option Node) → Fits (unlink_child s e now o)
 unlink_child_fits s e now None = refused s _
-unlink_child_fits s e now (Some c) = chosen (is_dir c.mode) _ _ (refused s _) (answered (entry_gone e now s) [] (omega arith))
+unlink_child_fits s e now (Some c) = chosen (is_dir c.mode) _ _ (refused s _) (answered (tidied (entry_gone e now s)) [] (omega arith))
 
 unlink_entry_fits : (s : State) (now : Moment) (o : Option EntryRow) → Fits (unlink_entry s now o)
 unlink_entry_fits s now None = refused s _
@@ -26,7 +27,7 @@ rmdir_child_fits : (s : State) (e : EntryRow) (now : Moment) (o : Option Node) �
 rmdir_child_fits s e now None = refused s _
 rmdir_child_fits s e now (Some c) =
     chosen (not (is_dir c.mode)) _ _ (refused s _)
-    (chosen (has_entries s.entries c.number) _ _ (refused s _) (answered (entry_gone e now s) [] (omega arith)))
+    (chosen (has_entries s.entries c.number) _ _ (refused s _) (answered (tidied (entry_gone e now s)) [] (omega arith)))
 
 rmdir_entry_fits : (s : State) (now : Moment) (o : Option EntryRow) → Fits (rmdir_entry s now o)
 rmdir_entry_fits s now None = refused s _
@@ -42,7 +43,7 @@ rmdir_fits s name now n =
 
 unlink_child_reads : (s : State) (e : EntryRow) (now : Moment) (o : Option Node) → Reads Nothing (unlink_child s e now o)
 unlink_child_reads s e now None = refused_reads s _ refl
-unlink_child_reads s e now (Some c) = chosen_reads (is_dir c.mode) _ _ (refused_reads s _ refl) (answered_reads (entry_gone e now s) [] no_body)
+unlink_child_reads s e now (Some c) = chosen_reads (is_dir c.mode) _ _ (refused_reads s _ refl) (answered_reads (tidied (entry_gone e now s)) [] no_body)
 
 unlink_entry_reads : (s : State) (now : Moment) (o : Option EntryRow) → Reads Nothing (unlink_entry s now o)
 unlink_entry_reads s now None = refused_reads s _ refl
@@ -58,7 +59,7 @@ rmdir_child_reads : (s : State) (e : EntryRow) (now : Moment) (o : Option Node) 
 rmdir_child_reads s e now None = refused_reads s _ refl
 rmdir_child_reads s e now (Some c) =
     chosen_reads (not (is_dir c.mode)) _ _ (refused_reads s _ refl)
-    (chosen_reads (has_entries s.entries c.number) _ _ (refused_reads s _ refl) (answered_reads (entry_gone e now s) [] no_body))
+    (chosen_reads (has_entries s.entries c.number) _ _ (refused_reads s _ refl) (answered_reads (tidied (entry_gone e now s)) [] no_body))
 
 rmdir_entry_reads : (s : State) (now : Moment) (o : Option EntryRow) → Reads Nothing (rmdir_entry s now o)
 rmdir_entry_reads s now None = refused_reads s _ refl

@@ -1,32 +1,47 @@
 -- The plan of RENAME and RENAME2 agrees with what is done.
-use Rattle.std.proofs.Common.{◌≡◌, ◌≢◌, ◌≤◌, ◌-◌, ◌==◌, ◌&&◌, ◌||◌, ℕ, zero, suc, Bool, true, false, cond, not, eqb, List, [], ◌∷◌, length, Option, Some, None}
+use Rattle.std.proofs.Common.{◌≡◌, ◌≢◌, ◌≤◌, ◌+◌, ◌-◌, ◌==◌, ◌&&◌, ◌||◌, ℕ, zero, suc, Bool, true, false, cond, not, eqb, List, [], ◌∷◌, ◌++◌, length, Option, Some, None}
 use Rattle.std.proofs.Common.{refl, sym, ap, subst, ◌∙◌, arith}
-use Rattle.std.specs.Prelude.{find, nat_eq, nat_le, nat_lt, is_some}
+use Rattle.std.specs.Prelude.{find, filter, nat_eq, nat_le, nat_lt, is_some}
 use Rattle.std.specs.Option.{option_map}
-use Rattle.std.specs.List.{list_any}
+use Rattle.std.specs.List.{AllByRecursion, list_any}
 use Rattle.std.specs.Cmp.Lexicographic.{pointwise, same_text}
 use Rattle.std.proofs.lemmas.Bool.{eqb-true, eqb-false, ne_eqb, leb-false, ltb-false}
 use Rattle.fuse_wire.specs.declared.errno.Errno.{Errno}
+use Rattle.fuse_init.specs.declared.profile.Profile.{Profile}
+use Rattle.fuse_init.specs.Profile.{terms}
 use Rattle.fuse_wire.specs.Errnos.{enoent, eexist, einval, enospc, estale}
 use Rattle.fuse_tree.specs.Bounds.{number_end}
 use Rattle.fuse_tree.specs.declared.planning.finding.Link.{Link}
 use Rattle.fuse_tree.specs.declared.rows.EntryRow.{EntryRow}
 use Rattle.fuse_tree.specs.declared.rows.NodeRow.{NodeRow}
 use Rattle.fuse_tree.specs.declared.rows.Planned.{Planned}
-use Rattle.fuse_tree.specs.State.{State, Node, Tree, IsNode, IsEntry, Reaches, is_dir, is_dir_of, has_number, is_entry, is_named, name_fault, node_at, above}
-use Rattle.fuse_tree.specs.Rows.{row_of, rows_of_state, row_at, entry_at}
-use Rattle.fuse_tree.specs.Done.{Done, refuse_for}
+use Rattle.fuse_tree.specs.State.{State, terms_of, profile_for, used_of, up_of, Node, Shape, IsNode, IsEntry, Reaches, is_dir, is_dir_of, has_number, is_entry, is_named, name_fault, node_at, above}
+use Rattle.fuse_tree.specs.declared.rows.Change.{Change}
+use Rattle.fuse_tree.specs.declared.rows.Change.TheVariants.{EntryGone, Node as NodePut, Counters as CountersPut}
+use Rattle.fuse_tree.specs.Rows.{Rows, row_of, rows_of_state, counters_of, row_at, entry_at, apply}
+use Rattle.fuse_tree.specs.Space.{room_of}
+use Rattle.fuse_tree.specs.State.{is_used, is_kept, NodesAreKept}
+use Rattle.fuse_tree.specs.Removal.{tidied}
+use Rattle.fuse_tree.specs.Done.{Done, refuse_for, touched}
 use Rattle.fuse_tree.specs.inner.Reading.{refused_for}
-use Rattle.fuse_tree.specs.Removing.{has_entries}
+use Rattle.fuse_tree.specs.Removing.{marked, has_entries}
 use Rattle.fuse_tree.specs.Renaming.{Renaming, is_exchange, is_no_replace, leads_to, lies_in, is_dir_at, holds, asked_fault, earlier, kinds_fault, place_fault}
-use Rattle.fuse_tree.specs.Renaming.{rename_entry, exchange_entry, rename_by, rename_from, rename_between, rename}
+use Rattle.fuse_tree.specs.Renaming.{renamed, exchanged, rename_entry, exchange_entry, rename_by, rename_from, rename_between, rename}
 use Rattle.fuse_tree.specs.inner.PlanRemoving.{link_of}
+use Rattle.fuse_tree.specs.inner.PlanRemoval.{goes_unnamed}
+use Rattle.fuse_tree.specs.inner.PlanRenaming.{lost_changes, dir_row, moved_row, entry_change, is_dir_link, rename_changes}
 use Rattle.fuse_tree.specs.inner.PlanRenaming.{row_holds, link_fault, other_at, new_dir_at, plan_rename_link, plan_exchange_link, plan_rename_by, plan_rename_from}
 use Rattle.fuse_tree.specs.inner.PlanRenaming.{plan_rename_between, plan_rename}
-use Rattle.fuse_tree.proofs.Agreement.{Agrees, refused_agrees, both, both_for}
-use Rattle.fuse_tree.proofs.Lists.{any_gives, found, and_true, and_false, or_false}
+use Rattle.fuse_tree.proofs.Agrees.{Agrees, refused_agrees, both, both_for}
+use Rattle.fuse_tree.proofs.Lists.{all_kept, any_gives, found, and_true, and_false, or_false}
 use Rattle.fuse_tree.proofs.Puts.{row_found, node_found, only_one, dir_there}
-use Rattle.fuse_tree.proofs.Heights.{rooted, not_under_own}
+use Rattle.fuse_tree.proofs.Heights.{rooted, dirs_given, not_under_own}
+use Rattle.fuse_tree.proofs.Ups.{up_more}
+use Rattle.fuse_tree.proofs.EntryGone.{IsOnly, Standing, standing, gone_only, left_others, up_less, up_gone}
+use Rattle.fuse_tree.proofs.Blocks.{room_with}
+use Rattle.fuse_tree.proofs.Most.{profile_mapped}
+use Rattle.fuse_tree.proofs.KeptStates.{all_kept_in, node_given, kept_by, kept_renamed, kept_over, kept_exchanged}
+use Rattle.fuse_tree.proofs.RemovalAgrees.{tidied_rows, tidied_whole, found_mapped, tree_tidied, same_tidied, kept_tidied, unnamed_goes}
 use Rattle.fuse_tree.proofs.GoneRows.{none_in_empty}
 use Rattle.fuse_tree.proofs.Moving.{up_found}
 use Rattle.fuse_tree.proofs.MovedTrees.{f_differs}
@@ -41,7 +56,7 @@ both_as : (s : State) (b b' : Bool) (p q : Planned) (d e : Done) → b' ≡ b �
     → Agrees s (cond b' p q) (cond b d e)
 both_as s b b' p q d e same there other = subst (λ (x : Bool). Agrees s (cond x p q) (cond b d e)) (sym same) (both s b p q d e there other)
 
-both_for_as : (s : State) (fault fault' : Option Errno) (p : Planned) (d : Done) → Tree s → fault' ≡ fault → (fault ≡ None → Agrees s p d)
+both_for_as : (s : State) (fault fault' : Option Errno) (p : Planned) (d : Done) → Shape s → fault' ≡ fault → (fault ≡ None → Agrees s p d)
     → Agrees s (refused_for fault' p) (refuse_for s fault d)
 both_for_as s fault fault' p d tree same other =
     subst (λ (x : Option Errno). Agrees s (refused_for x p) (refuse_for s fault d)) (sym same) (both_for s fault p d tree other)
@@ -92,12 +107,12 @@ record Found (s : State) (dir : ℕ) (name : List ℕ) (e : EntryRow) (c : Node)
   given : e.child ≢ 0
   link : link_of (rows_of_state s) (Some e) ≡ Some (record { cookie = e.cookie; child = row_of s c })
 
-found_entry : (s : State) (dir : ℕ) (name : List ℕ) (e : EntryRow) → Tree s → entry_at s.entries dir name ≡ Some e → (c : Node) × Found s dir name e c
+found_entry : (s : State) (dir : ℕ) (name : List ℕ) (e : EntryRow) → Shape s → entry_at s.entries dir name ≡ Some e → (c : Node) × Found s dir name e c
 found_entry s dir name e tree at =
     let p = found (IsEntry s.nodes s.entries s.next_cookie) (is_entry dir name) s.entries e tree.entries at in
     let place = and_true (eqb e.dir dir) _ p.1 in
     let c = there_found (has_number e.child) s.nodes p.0.child in
-    let one : 1 ≤ c.0.number = (found (IsNode s.next_node) (has_number e.child) s.nodes c.0 tree.nodes c.1).0.from_one in
+    let one : 1 ≤ c.0.number = (found (IsNode (terms_of s) s.next_node) (has_number e.child) s.nodes c.0 tree.nodes c.1).0.from_one in
     let is : c.0.number ≡ e.child = (node_found s e.child c.0 tree c.1).0 in (
       c.0,
       record {
@@ -110,7 +125,7 @@ found_entry s dir name e tree at =
       },
     )
 
-dir_at : (s : State) (k : ℕ) (n : Node) → Tree s → node_at s k ≡ Some n → is_dir_at s k ≡ is_dir n.mode
+dir_at : (s : State) (k : ℕ) (n : Node) → Shape s → node_at s k ≡ Some n → is_dir_at s k ≡ is_dir n.mode
 dir_at s k n tree at = step (is_dir n.mode) refl (is_dir_at s k) refl
   where
     step : (b : Bool) → is_dir n.mode ≡ b → (a : Bool) → is_dir_at s k ≡ a → a ≡ b
@@ -131,13 +146,13 @@ none_leads es (suc n) node dir never = rw (none_leads es n node dir never, ne_eq
 never_holds : (s : State) (node dir : ℕ) → ((i : ℕ) → above s.entries i dir ≢ node) → holds s node dir ≡ false
 never_holds s node dir never = ap (λ (b : Bool). is_dir_at s node && b) (none_leads s.entries (length s.nodes) node dir never) ∙ and_false (is_dir_at s node)
 
-held : (s : State) (k dir : ℕ) (n : Node) → Tree s → node_at s k ≡ Some n → (is_dir n.mode && lies_in s n.number dir) ≡ holds s k dir
+held : (s : State) (k dir : ℕ) (n : Node) → Shape s → node_at s k ≡ Some n → (is_dir n.mode && lies_in s n.number dir) ≡ holds s k dir
 held s k dir n tree at =
     ap (λ (i : ℕ). is_dir n.mode && lies_in s i dir) (node_found s k n tree at).0
     ∙ ap (λ (b : Bool). b && lies_in s k dir) (sym (dir_at s k n tree at))
 
 -- the child of an entry in a directory is never above it, so it isn't asked there
-same_holds : (s : State) (k from dir : ℕ) (n : Node) → Tree s → node_at s k ≡ Some n → ((i : ℕ) → above s.entries i from ≢ k)
+same_holds : (s : State) (k from dir : ℕ) (n : Node) → Shape s → node_at s k ≡ Some n → ((i : ℕ) → above s.entries i from ≢ k)
     → row_holds (rows_of_state s) (row_of s n) from dir ≡ holds s k dir
 same_holds s k from dir n tree at never = step (eqb from dir) refl
   where
@@ -146,7 +161,7 @@ same_holds s k from dir n tree at never = step (eqb from dir) refl
     step false is = held s k dir n tree at
 
 -- only directories have entries
-dirs_alone : (s : State) (k : ℕ) (n : Node) → Tree s → node_at s k ≡ Some n → (is_dir n.mode && has_entries s.entries n.number) ≡ has_entries s.entries k
+dirs_alone : (s : State) (k : ℕ) (n : Node) → Shape s → node_at s k ≡ Some n → (is_dir n.mode && has_entries s.entries n.number) ≡ has_entries s.entries k
 dirs_alone s k n tree at =
     ap (λ (i : ℕ). is_dir n.mode && has_entries s.entries i) (node_found s k n tree at).0 ∙ step (is_dir n.mode) refl (has_entries s.entries k) refl
   where
@@ -162,9 +177,9 @@ dirs_alone s k n tree at =
 
 -- ---- from directory d to directory t
 
-module _ (s : State) (r : Renaming) (d t : Node) (tree : Tree s) (at_d : node_at s d.number ≡ Some d) (at_t : node_at s r.new_dir ≡ Some t)
+module _ (s : State) (r : Renaming) (d t : Node) (tree : Shape s) (at_d : node_at s d.number ≡ Some d) (at_t : node_at s r.new_dir ≡ Some t)
     (dir_d : is_dir d.mode ≡ true) (dir_t : is_dir t.mode ≡ true)
-    (named : is_named s r.new_dir ≡ true) (name_ok : name_fault r.new_name ≡ None) where
+    (named : is_named s r.new_dir ≡ true) (name_ok : name_fault r.new_name ≡ None) (kept : NodesAreKept s) where
   abbrev link : EntryRow → Node → Link
   link e c = record { cookie = e.cookie; child = row_of s c }
 
@@ -184,6 +199,59 @@ module _ (s : State) (r : Renaming) (d t : Node) (tree : Tree s) (at_d : node_at
   not_own : (dir : ℕ) (name : List ℕ) (e : EntryRow) (c : Node) → Found s dir name e c → entry_at s.entries dir name ≡ Some e → e.child ≢ dir
   not_own dir name e c p at same = never_above dir name e c p at 0 (sym same)
 
+  to_given : r.new_dir ≢ 0
+  to_given = node_given s r.new_dir t tree at_t
+
+  -- ---- the node that loses its name
+
+  -- as it is then
+  abbrev lost_then : EntryRow → EntryRow → Node → Node
+  lost_then e f o = touched r.new_dir r.now (touched d.number r.now (marked e.child r.now (marked f.child r.now (touched f.dir r.now o))))
+
+  lost_found : (e f : EntryRow) (o : Node) → node_at s f.child ≡ Some o → node_at (renamed r d.number e (Some f) s) f.child ≡ Some (lost_then e f o)
+  lost_found e f o at =
+      let one = found_mapped (touched f.dir r.now) f.child o s.nodes (λ n. refl) at in
+      let two = found_mapped (marked f.child r.now) f.child _ _ (λ n. refl) one in
+      let three = found_mapped (marked e.child r.now) f.child _ _ (λ n. refl) two in
+      let four = found_mapped (touched d.number r.now) f.child _ _ (λ n. refl) three in
+      found_mapped (touched r.new_dir r.now) f.child _ _ (λ n. refl) four
+
+  -- the changes, by whether both directories are one
+  abbrev changes_by : Link → Link → Bool → List Change
+  changes_by source other b =
+      lost_changes r.now (Some other) ++ EntryGone source.cookie
+      ∷ (cond b (NodePut (dir_row r.now (is_dir_link other) false (row_of s d)) ∷ [])
+      (NodePut (dir_row r.now (is_dir_link source) false (row_of s d)) ∷ NodePut (dir_row r.now (is_dir_link other) (is_dir_link source) (row_of s t)) ∷ []))
+      ++ NodePut (moved_row r.now r.new_dir source.child)
+      ∷ entry_change r.new_dir r.new_name source.child s.next_cookie
+      ∷ CountersPut (record (counters_of s) { next_cookie = s.next_cookie + 1 }) ∷ []
+
+  -- the counters that they leave
+  counters_then : (source other : Link) (then : State)
+      → apply (rows_of_state s) (rename_changes r (counters_of s) (row_of s d) (row_of s t) source (Some other)) ≡ rows_of_state then
+      → record (counters_of s) { next_cookie = s.next_cookie + 1 } ≡ counters_of then
+  counters_then source other then = step (d.number == r.new_dir)
+    where
+      step : (b : Bool) → apply (rows_of_state s) (changes_by source other b) ≡ rows_of_state then
+          → record (counters_of s) { next_cookie = s.next_cookie + 1 } ≡ counters_of then
+      step true rows = ap (λ (x : Rows). x.counters) rows
+      step false rows = ap (λ (x : Rows). x.counters) rows
+
+  lost_goes : (e f : EntryRow) (o : Node) → Shape s → Standing s e → Standing s f → e.child ≢ f.child → o.number ≡ f.child
+      → goes_unnamed (profile_for (room_of s)) o.number (rows_of_state s) ≡ ((terms_of s).removes && not (is_kept (renamed r d.number e (Some f) s) f.child))
+  lost_goes e f o tree stands_e stands_f apart o_is =
+      let then = renamed r d.number e (Some f) s in
+      let left : List EntryRow = filter (λ x. not (x.cookie == f.cookie)) s.entries in
+      let only : AllByRecursion (IsOnly e) left = all_kept (IsOnly e) (λ x. not (x.cookie == f.cookie)) s.entries stands_e.only in
+      let there : EntryRow = record { dir = r.new_dir; name = r.new_name; child = e.child; cookie = s.next_cookie } in
+      let up : up_of then.entries f.child ≡ 0 =
+      up_more (filter (λ x. not (x.cookie == e.cookie)) left) there f.child apart
+      ∙ up_less (λ x. not (x.cookie == e.cookie)) left e.child f.child (gone_only e left only) (λ same. apart (sym same))
+      ∙ up_gone (λ x. not (x.cookie == f.cookie)) s.entries f.child (left_others f s.entries stands_f.only) in
+      ap (λ (p : Profile). (terms p).removes && not (is_used s.handles o.number)) (profile_mapped (room_with (used_of s)) s.capacity)
+      ∙ ap (λ (k : ℕ). (terms_of s).removes && not (is_used s.handles k)) o_is
+      ∙ ap (λ (b : Bool). (terms_of s).removes && not b) (sym (unnamed_goes then f.child stands_f.entry.not_root up))
+
   -- ---- RENAME
 
   free_agrees : (e : EntryRow) (c : Node) → Found s d.number r.old_name e c → entry_at s.entries d.number r.old_name ≡ Some e
@@ -194,19 +262,27 @@ module _ (s : State) (r : Renaming) (d t : Node) (tree : Tree s) (at_d : node_at
       (λ _. refused_agrees s tree einval) (λ apart.
       both s (nat_le number_end s.next_cookie) _ _ _ _ (λ _. refused_agrees s tree enospc) (λ room. (
       let never = never_held s e.child r.new_dir tree p.given to_there apart in
+      let then = renamed r d.number e None s in
+      let only = (standing s (is_entry d.number r.old_name) e tree at_e).only in
+      let after : Shape then =
+      free_tree s r d t c e tree at_d at_t p.child at_e p.dir_is (not_own d.number r.old_name e c p at_e)
+      (λ same. never 0 (sym same)) dir_t named name_ok free never (leb-false _ _ room) in
+      let whole : tidied then ≡ then = tidied_whole then (λ removes. kept_renamed s r d.number e (dirs_given s tree) to_given only (all_kept_in s kept removes)) in
       record {
         answer = refl;
-        rows = free_rows s r d t c e tree at_d at_t p.child at_e p.dir_is (not_own d.number r.old_name e c p at_e) (λ same. never 0 (sym same));
-        tree =
-            free_tree s r d t c e tree at_d at_t p.child at_e p.dir_is (not_own d.number r.old_name e c p at_e)
-            (λ same. never 0 (sym same)) dir_t named name_ok free never (leb-false _ _ room);
+        rows =
+            free_rows s r d t c e tree at_d at_t p.child at_e p.dir_is (not_own d.number r.old_name e c p at_e) (λ same. never 0 (sym same))
+            ∙ ap rows_of_state (sym whole);
+        tree = tree_tidied then after;
+        same = same_tidied then;
+        kept = λ _. kept_tidied then;
       })))
 
   over_agrees : (e : EntryRow) (c : Node) (f : EntryRow) (o : Node) → Found s d.number r.old_name e c → entry_at s.entries d.number r.old_name ≡ Some e
       → Found s r.new_dir r.new_name f o → entry_at s.entries r.new_dir r.new_name ≡ Some f
       → Agrees s (plan_rename_link r (row_of s d) (row_of s t) (link e c) (Some (link f o)) (rows_of_state s)) (rename_entry s r d.number e (Some f))
   over_agrees e c f o p at_e q at_f =
-      both s (eqb e.cookie f.cookie) _ _ _ _ (λ _. record { answer = refl; rows = refl; tree = tree }) (λ other.
+      both s (eqb e.cookie f.cookie) _ _ _ _ (λ _. record { answer = refl; rows = refl; tree = tree; same = refl; kept = λ all. all }) (λ other.
       both_as s (holds s e.child r.new_dir) _ _ _ _ _ (same_holds s e.child d.number r.new_dir c tree p.child (never_above d.number r.old_name e c p at_e))
       (λ _. refused_agrees s tree einval) (λ apart.
       both_for_as s (place_fault s e.child (Some f)) (link_fault (rows_of_state s) (link e c) (Some (link f o))) _ _ tree
@@ -220,14 +296,26 @@ module _ (s : State) (r : Renaming) (d t : Node) (tree : Tree s) (at_d : node_at
       let differ =
       f_differs s (is_entry r.new_dir r.new_name) (is_entry d.number r.old_name) f e r.new_dir d.number r.new_name r.old_name tree at_f at_e
       (λ same. ne (sym same)) in
+      let then = renamed r d.number e (Some f) s in
+      let rows =
+      over_rows s r d t c o e f tree at_d at_t p.child q.child at_e at_f p.dir_is q.dir_is differ (not_own d.number r.old_name e c p at_e)
+      (λ same. never 0 (sym same)) (not_own r.new_dir r.new_name f o q at_f) empty in
+      let after : Shape then =
+      over_tree s r d t c o e f tree at_d at_t p.child q.child at_e at_f p.dir_is q.dir_is differ (not_own d.number r.old_name e c p at_e)
+      (λ same. never 0 (sym same)) (not_own r.new_dir r.new_name f o q at_f) empty dir_t named name_ok q.name_is never (leb-false _ _ room) in
+      let o_is : o.number ≡ f.child = (node_found s f.child o tree q.child).0 in
       record {
         answer = refl;
         rows =
-            over_rows s r d t c o e f tree at_d at_t p.child q.child at_e at_f p.dir_is q.dir_is differ (not_own d.number r.old_name e c p at_e)
-            (λ same. never 0 (sym same)) (not_own r.new_dir r.new_name f o q at_f) empty;
-        tree =
-            over_tree s r d t c o e f tree at_d at_t p.child q.child at_e at_f p.dir_is q.dir_is differ (not_own d.number r.old_name e c p at_e)
-            (λ same. never 0 (sym same)) (not_own r.new_dir r.new_name f o q at_f) empty dir_t named name_ok q.name_is never (leb-false _ _ room);
+            tidied_rows s then f.child (lost_then e f o) (row_of s o) (goes_unnamed (profile_for (room_of s)) o.number (rows_of_state s))
+            (record (counters_of s) { next_cookie = s.next_cookie + 1 }) (rename_changes r (counters_of s) (row_of s d) (row_of s t) (link e c) (Some (link f o)))
+            after rows (counters_then (link e c) (link f o) then rows) (lost_found e f o q.child) o_is refl
+            (λ removes. kept_over s r d.number e f (dirs_given s tree) to_given (standing s (is_entry d.number r.old_name) e tree at_e).only
+            (standing s (is_entry r.new_dir r.new_name) f tree at_f).only (all_kept_in s kept removes))
+            (lost_goes e f o tree (standing s (is_entry d.number r.old_name) e tree at_e) (standing s (is_entry r.new_dir r.new_name) f tree at_f) differ.child o_is);
+        tree = tree_tidied then after;
+        same = same_tidied then;
+        kept = λ _. kept_tidied then;
       })))))
 
   rename_agrees : (e : EntryRow) (c : Node) → Found s d.number r.old_name e c → entry_at s.entries d.number r.old_name ≡ Some e → (other : Option EntryRow)
@@ -247,7 +335,7 @@ module _ (s : State) (r : Renaming) (d t : Node) (tree : Tree s) (at_d : node_at
       → Found s r.new_dir r.new_name f o → entry_at s.entries r.new_dir r.new_name ≡ Some f
       → Agrees s (plan_exchange_link r (row_of s d) (row_of s t) (link e c) (Some (link f o)) (rows_of_state s)) (exchange_entry s r d.number e (Some f))
   swap_agrees e c f o p at_e q at_f =
-      both s (eqb e.cookie f.cookie) _ _ _ _ (λ _. record { answer = refl; rows = refl; tree = tree }) (λ other.
+      both s (eqb e.cookie f.cookie) _ _ _ _ (λ _. record { answer = refl; rows = refl; tree = tree; same = refl; kept = λ all. all }) (λ other.
       both_as s (holds s e.child r.new_dir || holds s f.child d.number) _ _ _ _ _
       (ap (λ (b : Bool). b || row_holds (rows_of_state s) (row_of s o) r.new_dir d.number)
       (same_holds s e.child d.number r.new_dir c tree p.child (never_above d.number r.old_name e c p at_e))
@@ -269,6 +357,11 @@ module _ (s : State) (r : Renaming) (d t : Node) (tree : Tree s) (at_d : node_at
             exchange_tree s r d t c o e f tree at_d at_t p.child q.child at_e at_f p.dir_is q.dir_is ne (not_own d.number r.old_name e c p at_e)
             (λ same. never_e 0 (sym same)) (λ same. never_f 0 (sym same)) (not_own r.new_dir r.new_name f o q at_f) p.name_is q.name_is never_e never_f
             (omega arith);
+        same = refl;
+        kept =
+            kept_by s (exchanged r d.number e f s) refl
+            (kept_exchanged s r d.number e f (dirs_given s tree) to_given (node_given s d.number d tree at_d)
+            (standing s (is_entry d.number r.old_name) e tree at_e).only (standing s (is_entry r.new_dir r.new_name) f tree at_f).only);
       }))))
 
   exchange_agrees : (e : EntryRow) (c : Node) → Found s d.number r.old_name e c → entry_at s.entries d.number r.old_name ≡ Some e → (other : Option EntryRow)
@@ -322,19 +415,19 @@ module _ (s : State) (r : Renaming) (d t : Node) (tree : Tree s) (at_d : node_at
       (sym (same_other e c.0 c.1 at))
       (by_agrees e c.0 c.1 at (entry_at s.entries r.new_dir r.new_name) refl))
 
-between_agrees : (s : State) (r : Renaming) (d : Node) → Tree s → node_at s d.number ≡ Some d → (o : Option Node) → node_at s r.new_dir ≡ o
+between_agrees : (s : State) (r : Renaming) (d : Node) → Shape s → NodesAreKept s → node_at s d.number ≡ Some d → (o : Option Node) → node_at s r.new_dir ≡ o
     → Agrees s (plan_rename_between r (row_of s d) (option_map (row_of s) o) (rows_of_state s)) (rename_between s r d o)
-between_agrees s r d tree at_d None at = refused_agrees s tree estale
-between_agrees s r d tree at_d (Some t) at =
+between_agrees s r d tree kept at_d None at = refused_agrees s tree estale
+between_agrees s r d tree kept at_d (Some t) at =
     both_for s (asked_fault r (is_dir d.mode && is_dir t.mode) (is_named s d.number && is_named s t.number)) _ _ tree (λ none. (
     let asks = asked_none r (is_dir d.mode && is_dir t.mode) (is_named s d.number && is_named s t.number) none in
     let dirs = and_true (is_dir d.mode) (is_dir t.mode) asks.dirs in
     let named =
     subst (λ (k : ℕ). is_named s k ≡ true) (node_found s r.new_dir t tree at).0 (and_true (is_named s d.number) (is_named s t.number) asks.named).1 in
-    from_agrees s r d t tree at_d at dirs.0 dirs.1 named asks.new_name (entry_at s.entries d.number r.old_name) refl))
+    from_agrees s r d t tree at_d at dirs.0 dirs.1 named asks.new_name kept (entry_at s.entries d.number r.old_name) refl))
 
 -- the row of the new directory is that of the node, also where that is the old one
-same_new_dir : (s : State) (k : ℕ) (d : Node) → Tree s → node_at s d.number ≡ Some d
+same_new_dir : (s : State) (k : ℕ) (d : Node) → Shape s → node_at s d.number ≡ Some d
     → new_dir_at k (row_of s d) (rows_of_state s) ≡ option_map (row_of s) (node_at s k)
 same_new_dir s k d tree at_d = step (d.number == k) refl
   where
@@ -343,8 +436,8 @@ same_new_dir s k d tree at_d = step (d.number == k) refl
     step false is = row_found s k
 
 -- RENAME2, and with flags 0 RENAME
-pub renaming_agrees : (s : State) (r : Renaming) (d : Node) → Tree s → node_at s d.number ≡ Some d
+pub renaming_agrees : (s : State) (r : Renaming) (d : Node) → Shape s → NodesAreKept s → node_at s d.number ≡ Some d
     → Agrees s (plan_rename r (row_of s d) (rows_of_state s)) (rename s r d)
-renaming_agrees s r d tree at_d =
+renaming_agrees s r d tree kept at_d =
     subst (λ (o : Option NodeRow). Agrees s (plan_rename_between r (row_of s d) o (rows_of_state s)) (rename s r d))
-    (sym (same_new_dir s r.new_dir d tree at_d)) (between_agrees s r d tree at_d (node_at s r.new_dir) refl)
+    (sym (same_new_dir s r.new_dir d tree at_d)) (between_agrees s r d tree kept at_d (node_at s r.new_dir) refl)

@@ -3,6 +3,7 @@ use Rattle.std.proofs.Common.{◌≡◌, ◌-◌, ◌&&◌, ◌||◌, ◌==◌, 
 use Rattle.std.specs.Prelude.{nat_le, nat_lt}
 use Rattle.fuse_wire.specs.declared.errno.Errno.{Errno}
 use Rattle.fuse_answer.specs.Replies.{Kind, Nothing}
+use Rattle.fuse_tree.specs.Removal.{tidied}
 use Rattle.fuse_tree.specs.Bounds.{number_end}
 use Rattle.fuse_tree.specs.declared.rows.EntryRow.{EntryRow}
 use Rattle.fuse_tree.specs.State.{State, Node, is_dir, is_named, is_odd_name, name_fault, node_at}
@@ -16,7 +17,7 @@ use Rattle.fuse_tree.proofs.Fit.{Fits, Reads, refused, answered, chosen, refused
 -- ---- fits
 
 room_fits : (s : State) (r : Renaming) (dir : ℕ) (e : EntryRow) (other : Option EntryRow) → Fits (rename_with_room s r dir e other)
-room_fits s r dir e other = chosen (nat_le number_end s.next_cookie) _ _ (refused s _) (answered (renamed r dir e other s) [] (omega arith))
+room_fits s r dir e other = chosen (nat_le number_end s.next_cookie) _ _ (refused s _) (answered (tidied (renamed r dir e other s)) [] (omega arith))
 
 entry_fits : (s : State) (r : Renaming) (dir : ℕ) (e : EntryRow) (other : Option EntryRow) → Fits (rename_entry s r dir e other)
 entry_fits s r dir e other =
@@ -94,7 +95,7 @@ entry_reads s r dir e other =
     chosen_reads (is_same e other) _ _ (answered_reads s [] no_body)
     (chosen_reads (holds s e.child r.new_dir) _ _ (refused_reads s _ refl)
     (refused_for_reads s (place_fault s e.child other) _ (place_error s e.child other)
-    (chosen_reads (nat_le number_end s.next_cookie) _ _ (refused_reads s _ refl) (answered_reads (renamed r dir e other s) [] no_body))))
+    (chosen_reads (nat_le number_end s.next_cookie) _ _ (refused_reads s _ refl) (answered_reads (tidied (renamed r dir e other s)) [] no_body))))
 
 exchange_reads : (s : State) (r : Renaming) (dir : ℕ) (e : EntryRow) (other : Option EntryRow) → Reads Nothing (exchange_entry s r dir e other)
 exchange_reads s r dir e None = refused_reads s _ refl

@@ -7,7 +7,7 @@ use Rattle.fuse_tree.specs.declared.rows.Change.{Change}
 use Rattle.fuse_tree.specs.declared.rows.Change.TheVariants as changes
 use Rattle.fuse_tree.specs.declared.rows.EntryRow.{EntryRow}
 use Rattle.fuse_tree.specs.declared.rows.NodeRow.{NodeRow}
-use Rattle.fuse_tree.specs.State.{State, Node, Tree, IsNode, above, is_dir, is_entry, is_named, name_fault, node_at, up_of, subdirs_of}
+use Rattle.fuse_tree.specs.State.{State, terms_of, Node, Shape, IsNode, above, is_dir, is_entry, is_named, name_fault, node_at, up_of, subdirs_of}
 use Rattle.fuse_tree.specs.Rows.{full_of, row_of, rows_of_state, counters_of, entry_at, apply}
 use Rattle.fuse_tree.specs.Done.{touched, touch}
 use Rattle.fuse_tree.specs.Removing.{marked, mark, without}
@@ -44,7 +44,7 @@ each_timed dir to x now [] = refl
 each_timed dir to x now (n ∷ ns) = rw (times n now (eqb n.number to) (eqb n.number dir) (eqb n.number x), each_timed dir to x now ns) refl
 
 -- an entry e of directory d to node c comes to stand in directory t
-module _ (s : State) (r : Renaming) (d t c : Node) (e : EntryRow) (tree : Tree s) (at_d : node_at s d.number ≡ Some d) (at_t : node_at s r.new_dir ≡ Some t)
+module _ (s : State) (r : Renaming) (d t c : Node) (e : EntryRow) (tree : Shape s) (at_d : node_at s d.number ≡ Some d) (at_t : node_at s r.new_dir ≡ Some t)
     (at_c : node_at s e.child ≡ Some c)
     (at_e : entry_at s.entries d.number r.old_name ≡ Some e) (e_dir : e.dir ≡ d.number) (x_dir : e.child ≢ d.number) (x_to : e.child ≢ r.new_dir) where
   abbrev fs : List EntryRow
@@ -102,7 +102,7 @@ module _ (s : State) (r : Renaming) (d t c : Node) (e : EntryRow) (tree : Tree s
       } ≡ rows_of_state (renamed r d.number e None s)
   rows_then both is =
       rows_shifted s dirs children r.now fs next (listed both) tree (dirs_are r.now next shift recounted both is)
-      (all_more (IsNode s.next_node) _ s.nodes (λ n p none. dirs_rest r.now next shift recounted both is n p.from_one refl none) tree.nodes)
+      (all_more (IsNode (terms_of s) s.next_node) _ s.nodes (λ n p none. dirs_rest r.now next shift recounted both is n p.from_one refl none) tree.nodes)
       ∙ ap rows_of_state (sym is_shifted)
 
   each_way : (both : Bool) → eqb d.number r.new_dir ≡ both → apply (rows_of_state s) (planned both e.child) ≡ rows_of_state (renamed r d.number e None s)
@@ -116,7 +116,7 @@ module _ (s : State) (r : Renaming) (d t c : Node) (e : EntryRow) (tree : Tree s
 
   -- the tree goes on
   pub free_tree : is_dir t.mode ≡ true → is_named s r.new_dir ≡ true → name_fault r.new_name ≡ None → entry_at s.entries r.new_dir r.new_name ≡ None
-      → ((n : ℕ) → above s.entries n r.new_dir ≢ e.child) → s.next_cookie < number_end → Tree (renamed r d.number e None s)
+      → ((n : ℕ) → above s.entries n r.new_dir ≢ e.child) → s.next_cookie < number_end → Shape (renamed r d.number e None s)
   free_tree dir named name_ok free never room =
       let moved =
       tree_moved s (is_entry d.number r.old_name) e r.new_dir r.new_name tree at_e (dir_there r.new_dir t s.nodes at_t dir)

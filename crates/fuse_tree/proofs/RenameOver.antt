@@ -11,7 +11,7 @@ use Rattle.fuse_tree.specs.declared.rows.Change.{Change}
 use Rattle.fuse_tree.specs.declared.rows.Change.TheVariants as changes
 use Rattle.fuse_tree.specs.declared.rows.EntryRow.{EntryRow}
 use Rattle.fuse_tree.specs.declared.rows.NodeRow.{NodeRow}
-use Rattle.fuse_tree.specs.State.{State, Node, Tree, IsNode, above, is_dir, is_entry, is_named, name_fault, node_at, up_of, subdirs_of}
+use Rattle.fuse_tree.specs.State.{State, terms_of, Node, Shape, IsNode, above, is_dir, is_entry, is_named, name_fault, node_at, up_of, subdirs_of}
 use Rattle.fuse_tree.specs.Rows.{full_of, row_of, rows_of_state, counters_of, entry_at, apply}
 use Rattle.fuse_tree.specs.Done.{touched, touch}
 use Rattle.fuse_tree.specs.Removing.{marked, mark, without}
@@ -60,7 +60,7 @@ find_kept test kept (x ∷ xs) e at stays =
     ]
 
 -- an entry e of directory d to node c comes to stand where the entry f of directory t stood, in whose child o no entry stands
-module _ (s : State) (r : Renaming) (d t c o : Node) (e f : EntryRow) (tree : Tree s) (at_d : node_at s d.number ≡ Some d) (at_t : node_at s r.new_dir ≡ Some t)
+module _ (s : State) (r : Renaming) (d t c o : Node) (e f : EntryRow) (tree : Shape s) (at_d : node_at s d.number ≡ Some d) (at_t : node_at s r.new_dir ≡ Some t)
     (at_c : node_at s e.child ≡ Some c) (at_o : node_at s f.child ≡ Some o)
     (at_e : entry_at s.entries d.number r.old_name ≡ Some e) (at_f : entry_at s.entries r.new_dir r.new_name ≡ Some f) (e_dir : e.dir ≡ d.number)
     (f_dir : f.dir ≡ r.new_dir) (differ : Differs f e)
@@ -186,7 +186,7 @@ module _ (s : State) (r : Renaming) (d t c o : Node) (e f : EntryRow) (tree : Tr
       (λ row. n.number == row.node) rows ≡ false → full_of s n ≡ then_full s dirs children r.now fs next n)
       → AllByRecursion (λ n. list_any (λ row. n.number == row.node) (lost_row ∷ rows) ≡ false → full_of s n ≡ then_full s dirs children r.now fs next n) s.nodes
   others rows so =
-      all_more (IsNode s.next_node)
+      all_more (IsNode (terms_of s) s.next_node)
       (λ n. list_any (λ row. n.number == row.node) (lost_row ∷ rows) ≡ false → full_of s n ≡ then_full s dirs children r.now fs next n) s.nodes
       (λ n p none. (
       let h = or_false (eqb n.number o.number) (list_any (λ row. n.number == row.node) rows) none in
@@ -221,7 +221,7 @@ module _ (s : State) (r : Renaming) (d t c o : Node) (e f : EntryRow) (tree : Tr
   given : 0 ≢ f.child
   given = let one = given_at s f.child o tree at_o in omega arith
 
-  gone_tree : Tree s1
+  gone_tree : Shape s1
   gone_tree = tree_less s (keeps f.cookie) f.child (gone_child s.entries f others_f) empty given tree
 
   e_stays : keeps f.cookie e ≡ true
@@ -233,7 +233,7 @@ module _ (s : State) (r : Renaming) (d t c o : Node) (e f : EntryRow) (tree : Tr
       (λ j ne. (up_kept s.entries f others_f j ne, up_in (λ i. i ≢ f.child) s.entries j empty given)) n r.new_dir (λ same. y_to (sym same))) ∙ at)
 
   pub over_tree : is_dir t.mode ≡ true → is_named s r.new_dir ≡ true → name_fault r.new_name ≡ None → f.name ≡ r.new_name
-      → ((n : ℕ) → above s.entries n r.new_dir ≢ e.child) → s.next_cookie < number_end → Tree (renamed r d.number e (Some f) s)
+      → ((n : ℕ) → above s.entries n r.new_dir ≢ e.child) → s.next_cookie < number_end → Shape (renamed r d.number e (Some f) s)
   over_tree dir named name_ok f_name never room =
       let climb =
       reaches_less (keeps f.cookie) s.entries f.child (gone_child s.entries f others_f) empty given r.new_dir (λ same. y_to (sym same))

@@ -7,10 +7,12 @@ use Rattle.fuse_wire.specs.declared.moment.Moment.{Moment}
 use Rattle.fuse_tree.specs.declared.rows.EntryRow.{EntryRow}
 use Rattle.fuse_tree.specs.declared.rows.Full.{Full}
 use Rattle.fuse_tree.specs.declared.rows.NodeRow.{NodeRow}
-use Rattle.fuse_tree.specs.State.{State, Node, Tree, IsNode, node_at, up_of, subdirs_of}
+use Rattle.fuse_tree.specs.State.{State, terms_of, used_of, Node, Shape, IsNode, node_at, up_of, subdirs_of}
 use Rattle.fuse_tree.specs.Rows.{full_of, row_of, rows_of_state, counters_of}
+use Rattle.fuse_tree.specs.Space.{room_of}
 use Rattle.fuse_tree.specs.inner.PlanRenaming.{more, fewer, dir_row, moved_row}
 use Rattle.fuse_tree.proofs.Lists.{found, or_false}
+use Rattle.fuse_tree.proofs.Blocks.{used_mapped, room_told, recounted}
 use Rattle.fuse_tree.proofs.Puts.{node_found}
 use Rattle.fuse_tree.proofs.Making.{twice}
 use Rattle.fuse_tree.proofs.MovedCounts.{Recounted}
@@ -21,7 +23,7 @@ or_true true = refl
 or_true false = refl
 
 -- rows put among those of a state, and its entries in other places, are the rows of the state in which it is so
-pub rows_shifted : (s : State) (D C : ℕ → Bool) (now : Moment) (fs : List EntryRow) (next : ℕ) (rows : List NodeRow) → Tree s
+pub rows_shifted : (s : State) (D C : ℕ → Bool) (now : Moment) (fs : List EntryRow) (next : ℕ) (rows : List NodeRow) → Shape s
     → AllByRecursion (IsRowOf s (then_full s D C now fs next)) rows
     → AllByRecursion (λ n. list_any (λ row. n.number == row.node) rows ≡ false → full_of s n ≡ then_full s D C now fs next n) s.nodes
     → record (rows_of_state s) {
@@ -34,21 +36,23 @@ rows_shifted s D C now fs next rows tree each others =
     let nodes : puts rows (map (full_of s) s.nodes) ≡ map (full_of after) after.nodes =
     puts_meet s (then_full s D C now fs next) (full_of s) rows tree (λ n. refl) (λ n. refl) each others ∙ sym (twice (timed D C now) (full_of after) s.nodes) in
     let count : length s.nodes ≡ length after.nodes = sym (length-map s.nodes (timed D C now)) in
-    ap (λ (fs : List Full). record (rows_of_state after) { nodes = fs; counters = record (counters_of after) { nodes = length s.nodes } }) nodes
-    ∙ ap (λ (n : ℕ). record (rows_of_state after) { counters = record (counters_of after) { nodes = n } }) count
+    let used : used_of s ≡ used_of after = sym (used_mapped (timed D C now) s.nodes (λ n. refl)) in
+    ap (λ (fs : List Full). record (rows_of_state after) { nodes = fs; counters = record (counters_of after) { nodes = length s.nodes; room = room_of s } })
+    nodes
+    ∙ recounted after (length s.nodes) (room_of s) count (room_told s.capacity (used_of s) (used_of after) used)
 
-pub at_own : (s : State) (k : ℕ) (n : Node) → Tree s → node_at s k ≡ Some n → node_at s n.number ≡ Some n
+pub at_own : (s : State) (k : ℕ) (n : Node) → Shape s → node_at s k ≡ Some n → node_at s n.number ≡ Some n
 at_own s k n tree at = subst (λ (i : ℕ). node_at s i ≡ Some n) (sym (node_found s k n tree at).0) at
 
-pub given_at : (s : State) (k : ℕ) (n : Node) → Tree s → node_at s k ≡ Some n → 1 ≤ k
+pub given_at : (s : State) (k : ℕ) (n : Node) → Shape s → node_at s k ≡ Some n → 1 ≤ k
 given_at s k n tree at =
-    let one : 1 ≤ n.number = (found (IsNode s.next_node) (λ m. m.number == k) s.nodes n tree.nodes at).0.from_one in
+    let one : 1 ≤ n.number = (found (IsNode (terms_of s) s.next_node) (λ m. m.number == k) s.nodes n tree.nodes at).0.from_one in
     let is : n.number ≡ k = (node_found s k n tree at).0 in
     omega arith
 
 -- node x comes to stand in directory `to`, it and `dir` change, and the nodes of which Y holds come to stand elsewhere
 pub record Shift (s : State) (fs : List EntryRow) (dir to x : ℕ) (Y : ℕ → Bool) (d t c : Node) : Type 0 where
-  pub tree : Tree s
+  pub tree : Shape s
   pub at_d : node_at s dir ≡ Some d
   pub at_t : node_at s to ≡ Some t
   pub at_c : node_at s x ≡ Some c

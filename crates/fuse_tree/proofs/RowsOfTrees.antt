@@ -3,13 +3,17 @@ use Rattle.std.proofs.Common.{◌≡◌, ◌==◌, ◌&&◌, ◌||◌, ◌<◌, 
 use Rattle.std.proofs.Common.{Option, Some, None, refl, sym, ap, subst, ◌∙◌}
 use Rattle.std.specs.Option.{option_map}
 use Rattle.std.specs.List.{list_any}
+use Rattle.fuse_init.specs.declared.profile.Profile.{Profile}
+use Rattle.fuse_init.specs.Profile.{terms}
 use Rattle.fuse_tree.specs.Bounds.{fuse_root_id}
 use Rattle.fuse_tree.specs.declared.rows.NodeRow.{NodeRow}
-use Rattle.fuse_tree.specs.State.{State, Node, Tree, IsEntry, AreApart, Apart, is_dir, is_dir_of, has_number, node_at}
-use Rattle.fuse_tree.specs.Rows.{IsRowed, row_of, full_of, rows_of_state, row_at, full_at, content_of}
+use Rattle.fuse_tree.specs.State.{State, Node, Shape, terms_of, used_of, IsNode, IsEntry, AreApart, Apart, is_dir, is_dir_of, has_number, node_at}
+use Rattle.fuse_tree.specs.Rows.{IsRowed, row_of, full_of, rows_of_state, row_at, full_at, content_of, terms_at}
 use Rattle.fuse_tree.specs.RowsOfTrees.{OfTree, IsSized, LeadsToRow, RowsOfTrees}
-use Rattle.fuse_tree.proofs.Bounds.{rowed_is, child_there, row_within, is_rowed}
-use Rattle.fuse_tree.proofs.Lists.{all_more}
+use Rattle.fuse_tree.proofs.Bounds.{rowed_is, child_there}
+use Rattle.fuse_tree.proofs.Lists.{all_more, found}
+use Rattle.fuse_tree.proofs.Blocks.{room_with}
+use Rattle.fuse_tree.proofs.Most.{profile_mapped}
 use Rattle.fuse_tree.proofs.Puts.{row_found, find_full}
 
 any_more : {A : Type 0} (p q : A → Bool) (xs : List A) → ((x : A) → p x ≡ true → q x ≡ true) → list_any p xs ≡ true → list_any q xs ≡ true
@@ -43,17 +47,25 @@ size_of s number row (Some n) e is =
     let same : row_of s n ≡ row = cc in
     ap (λ (r : NodeRow). r.size) (sym same)
 
-sized : (s : State) (number : ℕ) (row : NodeRow) → Tree s → row_at (rows_of_state s) number ≡ Some row → IsSized (rows_of_state s) number row
+within : (s : State) (number : ℕ) (row : NodeRow) (o : Option Node) → Shape s → node_at s number ≡ o → option_map (row_of s) o ≡ Some row
+    → row.size ≤ (terms_at (rows_of_state s)).file_limit
+within s number row None tree e is = absurd cc
+within s number row (Some n) tree e is =
+    let size = (found (IsNode (terms_of s) s.next_node) (λ m. m.number == number) s.nodes n tree.nodes e).0.size in
+    let same : row_of s n ≡ row = cc in
+    subst (λ (p : Profile). row.size ≤ (terms p).file_limit) (sym (profile_mapped (room_with (used_of s)) s.capacity))
+    (subst (λ (r : NodeRow). r.size ≤ (terms_of s).file_limit) same size)
+
+sized : (s : State) (number : ℕ) (row : NodeRow) → Shape s → row_at (rows_of_state s) number ≡ Some row → IsSized (rows_of_state s) number row
 sized s number row tree e =
     let here : content_of (full_at (rows_of_state s) number) ≡ content_of (option_map (full_of s) (node_at s number)) =
     ap content_of (find_full s number s.nodes) in
-    let rows : IsRowed (rows_of_state s) = subst IsRowed (rowed_is s) (is_rowed s tree) in
     record {
       told = size_of s number row (node_at s number) refl (sym (row_found s number) ∙ e) ∙ ap (length {A = ℕ}) (sym here);
-      within = (row_within (rows_of_state s) number row rows e).size;
+      within = within s number row (node_at s number) tree refl (sym (row_found s number) ∙ e);
     }
 
-of_state : (s : State) → Tree s → OfTree (rows_of_state s)
+of_state : (s : State) → Shape s → OfTree (rows_of_state s)
 of_state s tree = record {
   root = child_there s fuse_root_id (any_more (is_dir_of fuse_root_id) (has_number fuse_root_id) s.nodes dir_is tree.root);
   children = all_more (IsEntry s.nodes s.entries s.next_cookie) (LeadsToRow (rows_of_state s)) s.entries (λ e p. child_there s e.child p.child) tree.entries;
@@ -66,4 +78,4 @@ pub rows_of_trees : RowsOfTrees
 unfolding IsRowed
 rows_of_trees rows is =
     let s = is.0 in
-    subst OfTree (sym (is.2 ∙ rowed_is s)) (of_state s is.1)
+    subst OfTree (sym (is.2 ∙ rowed_is s)) (of_state s is.1.shape)

@@ -1,20 +1,28 @@
 -- The plan of SETATTR agrees with what is done.
-use Rattle.std.proofs.Common.{◌≡◌, ◌≤◌, ◌==◌, ℕ, Bool, true, false, cond, eqb, not, List, [], ◌∷◌, length, map, Some, None, refl, sym, ap, ◌∙◌, arith}
-use Rattle.std.specs.Prelude.{nat_lt}
+use Rattle.std.proofs.Common.{◌≡◌, ◌≤◌, ◌+◌, ◌-◌, ◌==◌, ◌&&◌, ℕ, Option, Bool, true, false, cond, eqb, not, List, [], ◌∷◌, length, map, Some, None, refl, sym, ap, ◌∙◌, arith}
+use Rattle.std.specs.Prelude.{nat_lt, IfSome}
+use Rattle.std.specs.Option.{option_map}
 use Rattle.std.proofs.lemmas.Bool.{ltb-false}
-use Rattle.fuse_wire.specs.Errnos.{eisdir, einval, efbig}
+use Rattle.fuse_wire.specs.Errnos.{eisdir, einval, efbig, enospc}
 use Rattle.fuse_wire.specs.declared.moment.Moment.{Moment}
 use Rattle.fuse_wire.specs.Bits.{fattr_mode, fattr_size}
 use Rattle.fuse_request.specs.declared.request.SetattrIn.{SetattrIn}
 use Rattle.fuse_tree.specs.declared.rows.Full.{Full}
+use Rattle.fuse_tree.specs.declared.rows.Room.{Room}
 use Rattle.fuse_tree.specs.declared.rows.Change.TheVariants as changes
-use Rattle.fuse_tree.specs.State.{State, Node, Tree, IsNode, is_file, type_of, node_at}
+use Rattle.fuse_init.specs.Profile.{Terms}
+use Rattle.fuse_tree.specs.State.{State, terms_of, profile_for, profile_of, used_of, Node, Shape, IsNode, FitsCapacity, is_file, type_of, node_at}
+use Rattle.fuse_tree.specs.Keeping.{agreement_of, attr_valid_of}
+use Rattle.fuse_tree.specs.Space.{room_of, used_after, has_room}
 use Rattle.fuse_tree.specs.Rows.{Rows, full_of, row_of, rows_of_state, put_node, at_node, sized, apply}
 use Rattle.fuse_tree.specs.Setting.{has, mode_after, size_fault, set_fault, set_node, with_set, setattr}
-use Rattle.fuse_tree.specs.inner.PlanSetting.{set_row, set_changes, plan_setattr}
+use Rattle.fuse_tree.specs.inner.PlanSpace.{counters_for, room_in, room_after, room_changes}
+use Rattle.fuse_tree.specs.inner.PlanSetting.{set_row, set_changes, set_counters, plan_setattr}
 use Rattle.fuse_tree.specs.inner.Reading.{attr_body}
 use Rattle.fuse_tree.proofs.Lists.{found}
-use Rattle.fuse_tree.proofs.Agreement.{Agrees, both_for}
+use Rattle.fuse_tree.proofs.KeptStates.{kept_change}
+use Rattle.fuse_tree.proofs.Agrees.{Agrees, refused_agrees, both_for, both_seen, not_false}
+use Rattle.fuse_tree.proofs.Blocks.{blocks_of, used_holds, used_then, room_with, room_told, room_sized, sized_rows, space_same, space_after}
 use Rattle.fuse_tree.proofs.Lengths.{length_sized}
 use Rattle.fuse_tree.proofs.Modes.{kind_stays, mode_stays}
 use Rattle.fuse_tree.proofs.Trees.{SamePlace}
@@ -34,21 +42,22 @@ no_fault false false over e = absurd cc
 no_fault false true true e = absurd cc
 no_fault false true false e = (refl, refl)
 
-record Holds (mode : ℕ) (bytes : List ℕ) : Type 0 where
+record Holds (limit mode : ℕ) (bytes : List ℕ) : Type 0 where
   content : is_file mode ≡ false → bytes ≡ []
-  size : length bytes ≤ 16777216
+  size : length bytes ≤ limit
 
-content_then : (mode size : ℕ) (content : List ℕ) (b : Bool) → cond b (size_fault mode size) None ≡ None → Holds mode content
-    → Holds mode (cond b (sized size content) content)
-content_then mode size content true e p =
-    let q = no_fault _ (is_file mode) (nat_lt 16777216 size) e in
+content_then : (limit mode size : ℕ) (content : List ℕ) (b : Bool) → cond b (size_fault limit mode size) None ≡ None → Holds limit mode content
+    → Holds limit mode (cond b (sized size content) content)
+content_then limit mode size content true e p =
+    let q = no_fault _ (is_file mode) (nat_lt limit size) e in
     let is = q.0 in
-    record { content = λ isnt. absurd cc; size = omega (arith, length_sized size content, ltb-false 16777216 size q.1) }
-content_then mode size content false e p = p
+    record { content = λ isnt. absurd cc; size = omega (arith, length_sized size content, ltb-false limit size q.1) }
+content_then limit mode size content false e p = p
 
-set_is_node : (next : ℕ) (set : SetattrIn) (now : Moment) (d : Node) → set_fault set d.mode ≡ None → IsNode next d → IsNode next (set_node set now d)
-set_is_node next set now d e p =
-    let q = content_then d.mode set.size d.content (has set fattr_size) e (record { content = p.content; size = p.size }) in
+set_is_node : (t : Terms) (next : ℕ) (set : SetattrIn) (now : Moment) (d : Node) → set_fault t.file_limit set d.mode ≡ None → IsNode t next d
+    → IsNode t next (set_node set now d)
+set_is_node t next set now d e p =
+    let q = content_then t.file_limit d.mode set.size d.content (has set fattr_size) e (record { content = p.content; size = p.size }) in
     let kind : is_file (mode_after set d.mode) ≡ is_file d.mode = ap (λ (k : ℕ). k == 8) (same_kind set d.mode) in
     record {
       from_one = p.from_one;
@@ -73,38 +82,85 @@ stays node (f ∷ fs) = rw (one (eqb f.row.node node), stays node fs) refl
     one true = refl
     one false = refl
 
-resized : (rows : Rows) (node size : ℕ) (b : Bool)
-    → apply rows (cond b (changes.Sized node size ∷ []) []) ≡ record rows {
-      nodes = map
-          (at_node node (λ content. cond b (sized size content) content)) rows.nodes;
+resized : (before : Rows) (ns : List Full) (node from size : ℕ) (b : Bool) (o : Option ℕ) (used : ℕ)
+    → before.counters.room ≡ option_map (room_with used) o
+    → apply (record before { nodes = ns })
+    (cond b (changes.Sized node size ∷ room_changes (cond b (counters_for (profile_for o) before) None) from size) []) ≡ record before {
+      nodes = map (at_node node (λ content. cond b (sized size content) content)) ns;
+      counters = record before.counters { room = cond b (option_map (room_after from size) before.counters.room) before.counters.room };
     }
-resized rows node size true = refl
-resized rows node size false = ap (λ (fs : List Full). record rows { nodes = fs }) (sym (stays node rows.nodes))
+resized before ns node from size true o used is = sized_rows before (map (at_node node (sized size)) ns) from size o used is
+resized before ns node from size false o used is = ap (λ (fs : List Full). record before { nodes = fs }) (sym (stays node ns))
+
+-- what is in use where the size is set or stays
+same_used : (used b : ℕ) → b ≤ used → used - b + b ≡ used
+same_used used b holds = omega (arith, holds)
 
 -- in the node d
-module _ (s : State) (set : SetattrIn) (now : Moment) (d : Node) (tree : Tree s) (e : node_at s d.number ≡ Some d) where
+module _ (s : State) (set : SetattrIn) (now : Moment) (d : Node) (tree : Shape s) (e : node_at s d.number ≡ Some d) where
   abbrev bytes_after : List ℕ → List ℕ
   bytes_after content = cond (has set fattr_size) (sized set.size content) content
 
   set_full : full_of s (set_node set now d) ≡ record { row = set_row set now (row_of s d); content = bytes_after d.content }
   set_full = rw (size_then set.size d.content (has set fattr_size)) refl
 
-  set_rows : apply (rows_of_state s) (set_changes set now (row_of s d)) ≡ rows_of_state (with_set s set now d.number)
+  abbrev after : State
+  after = with_set s set now d.number
+
+  used_set : (b : Bool) → has set fattr_size ≡ b → used_of after ≡ cond b (used_after (used_of s) (length d.content) set.size) (used_of s)
+  used_set b is =
+      used_then s (set_node set now) d (cond b set.size (length d.content)) tree.nodes_rise e
+      (size_then set.size d.content (has set fattr_size) ∙ ap (λ (c : Bool). cond c set.size (length d.content)) is)
+      ∙ each b
+    where
+      each : (c : Bool) → used_after (used_of s) (length d.content) (cond c set.size (length d.content)) ≡ cond c
+          (used_after (used_of s) (length d.content) set.size) (used_of s)
+      each true = refl
+      each false = same_used (used_of s) (blocks_of d) (used_holds d.number d s.nodes e)
+
+  room_set : cond (has set fattr_size) (option_map (room_after (length d.content) set.size) (room_of s)) (room_of s) ≡ room_of after
+  room_set = each (has set fattr_size) (used_set (has set fattr_size) refl)
+    where
+      each : (b : Bool) → used_of after ≡ cond b (used_after (used_of s) (length d.content) set.size) (used_of s)
+          → cond b (option_map (room_after (length d.content) set.size) (room_of s)) (room_of s) ≡ room_of after
+      each true is = room_sized s.capacity (used_of s) (length d.content) set.size ∙ room_told s.capacity _ (used_of after) (sym is)
+      each false is = room_told s.capacity (used_of s) (used_of after) (sym is)
+
+  set_rows : apply (rows_of_state s) (set_changes set now (row_of s d) (set_counters (profile_of s) set (rows_of_state s))) ≡ rows_of_state after
   set_rows =
-      resized (record (rows_of_state s) { nodes = put_node (set_row set now (row_of s d)) (map (full_of s) s.nodes) }) d.number set.size (has set fattr_size)
-      ∙ changed_rows s (set_node set now) (set_same set now) d tree e (set_row set now (row_of s d)) bytes_after set_full
+      resized (rows_of_state s) (put_node (set_row set now (row_of s d)) (map (full_of s) s.nodes)) d.number (length d.content) set.size (has set fattr_size)
+      s.capacity (used_of s) refl
+      ∙ changed_rows s (set_node set now) (set_same set now) d tree e (set_row set now (row_of s d)) bytes_after set_full _ room_set
 
-  set_tree : set_fault set d.mode ≡ None → Tree (with_set s set now d.number)
-  set_tree none =
+  set_space : (b : Bool) → has set fattr_size ≡ b → (b && not (has_room (room_of s) (length d.content) set.size)) ≡ false → IfSome s.capacity (FitsCapacity after)
+  set_space true is room = space_after s after s.capacity (length d.content) set.size (used_set true is) (not_false _ room) tree.space
+  set_space false is room = space_same s after s.capacity (used_set false is) tree.space
+
+  set_tree : set_fault (terms_of s).file_limit set d.mode ≡ None → (has set fattr_size && not (has_room (room_of s) (length d.content) set.size)) ≡ false
+      → Shape after
+  set_tree none room =
       changed_tree s (set_node set now) (set_same set now) d tree e
-      (set_is_node s.next_node set now d none (found (IsNode s.next_node) (λ n. n.number == d.number) s.nodes d tree.nodes e).0)
+      (set_is_node (terms_of s) s.next_node set now d none
+      (found (IsNode (terms_of s) s.next_node) (λ n. n.number == d.number) s.nodes d tree.nodes e).0)
+      (set_space (has set fattr_size) refl room)
 
-  pub setattr_agrees : Agrees s (plan_setattr set now (row_of s d)) (setattr s set now d)
+  -- the room that the plan sees is that of the state
+  room_seen : (b : Bool) (o : Option ℕ) → room_of s ≡ option_map (room_with (used_of s)) o
+      → (b && not (has_room (room_in (cond b (counters_for (profile_for o) (rows_of_state s)) None)) (length d.content) set.size)) ≡ (b && not
+      (has_room (room_of s) (length d.content) set.size))
+  room_seen false o is = refl
+  room_seen true None is = ap (λ (r : Option Room). not (has_room r (length d.content) set.size)) (sym is)
+  room_seen true (Some c) is = refl
+
+  pub setattr_agrees : Agrees s (plan_setattr (agreement_of s) set now (row_of s d) (rows_of_state s)) (setattr s set now d)
   setattr_agrees =
-      both_for s (set_fault set d.mode) _ _ tree (λ none. record {
+      both_for s (set_fault (terms_of s).file_limit set d.mode) _ _ tree (λ none.
+      both_seen s _ _ _ _ _ _ (room_seen (has set fattr_size) s.capacity refl) (λ _. refused_agrees s tree enospc) (λ room. record {
         answer =
-            ap (λ (f : Full). record { errno = 0; body = attr_body f.row })
+            ap (λ (f : Full). record { errno = 0; body = attr_body (attr_valid_of (agreement_of s) d.number) f.row })
             (sym (full_then s (set_node set now) (set_same set now) d tree e (set_node set now d) ∙ set_full));
         rows = set_rows;
-        tree = set_tree none;
-      })
+        tree = set_tree none room;
+        same = refl;
+        kept = kept_change s d.number (set_node set now) (λ n. refl);
+      }))

@@ -7,10 +7,10 @@ use Rattle.fuse_wire.specs.Errnos.{einval, enametoolong}
 use Rattle.fuse_answer.specs.declared.dirent.Dirent.{Dirent}
 use Rattle.fuse_answer.specs.Entries.{Entry, entry_of}
 use Rattle.fuse_tree.specs.declared.rows.EntryRow.{EntryRow}
-use Rattle.fuse_tree.specs.State.{State, Tree, IsEntry, name_fault, is_odd_name}
+use Rattle.fuse_tree.specs.State.{State, Shape, IsEntry, name_fault, is_odd_name}
 use Rattle.fuse_tree.specs.Rows.{Rows, IsRowed, rows_of_state, is_after, entries_after}
 use Rattle.fuse_tree.specs.inner.PlanListing.{row_entry, IsShown}
-use Rattle.fuse_tree.proofs.Agreement.{no_fault}
+use Rattle.fuse_tree.proofs.Agrees.{no_fault}
 use Rattle.fuse_tree.proofs.Lists.{all_more, all_kept, or_false}
 use Rattle.fuse_tree.proofs.Bounds.{rowed_is, child_there}
 
@@ -36,7 +36,7 @@ all_taken P zero xs all = tt
 all_taken P (suc n) [] all = tt
 all_taken P (suc n) (x ∷ xs) all = (all.0, all_taken P n xs all.1)
 
-shown_in : (s : State) (dir cookie limit : ℕ) → Tree s → AllByRecursion (IsShown (rows_of_state s)) (entries_after (rows_of_state s) dir cookie limit)
+shown_in : (s : State) (dir cookie limit : ℕ) → Shape s → AllByRecursion (IsShown (rows_of_state s)) (entries_after (rows_of_state s) dir cookie limit)
 shown_in s dir cookie limit tree =
     all_taken _ limit _
     (all_kept _ (is_after dir cookie) s.entries
@@ -48,7 +48,7 @@ unfolding IsRowed
 all_shown rows dir cookie limit es is e =
     let s = is.0 in
     subst (AllByRecursion (IsShown rows)) (sym e)
-    (subst (λ (r : Rows). AllByRecursion (IsShown r) (entries_after r dir cookie limit)) (sym (is.2 ∙ rowed_is s)) (shown_in s dir cookie limit is.1))
+    (subst (λ (r : Rows). AllByRecursion (IsShown r) (entries_after r dir cookie limit)) (sym (is.2 ∙ rowed_is s)) (shown_in s dir cookie limit is.1.shape))
 
 -- ---- entries that are listed one after the other
 

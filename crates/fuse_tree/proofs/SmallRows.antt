@@ -1,6 +1,7 @@
 -- The rows of a tree fit a table, and so does what is found among them.
 use Rattle.std.proofs.Common.{◌≡◌, ◌<◌, ◌≤◌, ◌==◌, ◌^◌, ℕ, Bool, true, false, cond, eqb, List, [], ◌∷◌, ◌++◌, map, Option}
 use Rattle.std.proofs.Common.{Some, None, is_some, refl, sym, subst, arith}
+use Rattle.std.specs.Prelude.{IfSome}
 use Rattle.std.specs.List.{AllByRecursion, list_any}
 use Rattle.std.specs.Option.{option_map}
 use Rattle.std.proofs.lemmas.Bool.{eqb-true}
@@ -14,13 +15,15 @@ use Rattle.fuse_tree.specs.declared.rows.Full.{Full}
 use Rattle.fuse_tree.specs.declared.rows.HandleRow.{HandleRow}
 use Rattle.fuse_tree.specs.declared.rows.NodeRow.{NodeRow}
 use Rattle.fuse_tree.specs.declared.rows.Planned.{Planned}
-use Rattle.fuse_tree.specs.State.{State, Node, Tree, IsNode, IsEntry, IsHandle, is_open_at, is_entry, up_of}
+use Rattle.fuse_tree.specs.State.{State, terms_of, profile_of, used_of, FitsCapacity, Node, Shape, IsNode, IsEntry, IsHandle, is_open_at, is_entry, up_of}
 use Rattle.fuse_tree.specs.Rows.{Rows, rows_of_state, full_of, full_at, row_at, entry_at, handle_at}
 use Rattle.fuse_tree.specs.Handles.{access_in}
-use Rattle.fuse_tree.specs.Columns.{FitsNode, FitsEntry, FitsHandle, FitColumns}
+use Rattle.fuse_tree.specs.Columns.{FitsNode, FitsEntry, FitsHandle, FitsRoom, FitColumns}
 use Rattle.fuse_tree.specs.inner.PlanRemoving.{link_of, link_at}
 use Rattle.fuse_tree.specs.inner.Reading.{refused_for}
 use Rattle.fuse_tree.proofs.Lists.{and_true, any_gives, found}
+use Rattle.fuse_tree.proofs.Blocks.{room_with}
+use Rattle.fuse_tree.proofs.Most.{nodes_most, file_most}
 use Rattle.fuse_tree.proofs.Trees.{nodes_below, children_below, dirs_below}
 
 -- ---- the rows of a tree
@@ -31,6 +34,7 @@ pub record SmallCounters (counters : CountersRow) : Type 0 where
   pub next_cookie : counters.next_cookie ≤ number_end
   pub nodes : counters.nodes ≤ node_limit
   pub handles : counters.handles ≤ handle_limit
+  pub room : IfSome counters.room FitsRoom
 
 -- the rows fit, and each counter has room for one more
 pub record Small (rows : Rows) : Type 0 where
@@ -40,7 +44,7 @@ pub record Small (rows : Rows) : Type 0 where
   pub counters : SmallCounters rows.counters
 
 -- where the numbers of the nodes end
-pub below : (s : State) (n : ℕ) → Tree s → n < s.next_node → n < 2 ^ 63
+pub below : (s : State) (n : ℕ) → Shape s → n < s.next_node → n < 2 ^ 63
 below s n tree lt = omega (arith, tree.limits.next_node)
 
 pub up_small : (entries : List EntryRow) (number : ℕ) → AllByRecursion (λ e. e.dir < 2 ^ 63) entries → up_of entries number < 2 ^ 63
@@ -50,22 +54,22 @@ up_small (e ∷ entries) number all =
     let rest = up_small entries number all.1 in
     elim (eqb e.child number) as (λ b. cond b e.dir (up_of entries number) < 2 ^ 63) [ true ↦ here | false ↦ rest ]
 
-pub dirs_small : (s : State) (es : List EntryRow) → Tree s → AllByRecursion (λ e. e.dir < s.next_node) es → AllByRecursion (λ e. e.dir < 2 ^ 63) es
+pub dirs_small : (s : State) (es : List EntryRow) → Shape s → AllByRecursion (λ e. e.dir < s.next_node) es → AllByRecursion (λ e. e.dir < 2 ^ 63) es
 dirs_small s [] tree all = tt
 dirs_small s (e ∷ es) tree all = (below s e.dir tree all.0, dirs_small s es tree all.1)
 
-pub nodes_small : (s : State) (ns : List Node) → Tree s → AllByRecursion (IsNode s.next_node) ns → AllByRecursion (λ f. FitsNode f.row) (map (full_of s) ns)
+pub nodes_small : (s : State) (ns : List Node) → Shape s → AllByRecursion (IsNode (terms_of s) s.next_node) ns → AllByRecursion (λ f. FitsNode f.row) (map (full_of s) ns)
 nodes_small s [] tree all = tt
 nodes_small s (n ∷ ns) tree all = (
   record {
     node = below s n.number tree all.0.below;
     up = up_small s.entries n.number (dirs_small s s.entries tree (dirs_below s tree));
-    size = omega (arith, all.0.size);
+    size = omega (arith, all.0.size, file_most (profile_of s));
   },
   nodes_small s ns tree all.1,
 )
 
-pub entries_small : (s : State) (es : List EntryRow) → Tree s → AllByRecursion (IsEntry s.nodes s.entries s.next_cookie) es
+pub entries_small : (s : State) (es : List EntryRow) → Shape s → AllByRecursion (IsEntry s.nodes s.entries s.next_cookie) es
     → AllByRecursion (λ e. e.child < s.next_node) es → AllByRecursion (λ e. e.dir < s.next_node) es → AllByRecursion FitsEntry es
 entries_small s [] tree all children dirs = tt
 entries_small s (e ∷ es) tree all children dirs = (
@@ -73,19 +77,23 @@ entries_small s (e ∷ es) tree all children dirs = (
   entries_small s es tree all.1 children.1 dirs.1,
 )
 
-pub open_below : (s : State) (h : HandleRow) → Tree s → list_any (is_open_at h) s.nodes ≡ true → h.node < s.next_node
+pub open_below : (s : State) (h : HandleRow) → Shape s → list_any (is_open_at h) s.nodes ≡ true → h.node < s.next_node
 open_below s h tree is =
     any_gives (λ n. n.number < s.next_node) (is_open_at h) (h.node < s.next_node) s.nodes (nodes_below s tree) is
     (λ n lt passes. let lt : n.number < s.next_node = lt in let same : n.number ≡ h.node = eqb-true n.number h.node (and_true _ _ passes).0 in omega arith)
 
-pub handles_small : (s : State) (hs : List HandleRow) → Tree s → AllByRecursion (IsHandle s.nodes s.next_fh) hs → AllByRecursion FitsHandle hs
+pub handles_small : (s : State) (hs : List HandleRow) → Shape s → AllByRecursion (IsHandle s.nodes s.next_fh) hs → AllByRecursion FitsHandle hs
 handles_small s [] tree all = tt
 handles_small s (h ∷ hs) tree all = (
   record { fh = omega (arith, all.0.below, tree.limits.next_fh); node = below s h.node tree (open_below s h tree all.0.node) },
   handles_small s hs tree all.1,
 )
 
-pub small : (s : State) → Tree s → Small (rows_of_state s)
+room_small : (s : State) (o : Option ℕ) → IfSome o (FitsCapacity s) → IfSome (option_map (room_with (used_of s)) o) FitsRoom
+room_small s None is = tt
+room_small s (Some c) is = record { capacity = is.bounded; used = omega (arith, is.used, is.bounded) }
+
+pub small : (s : State) → Shape s → Small (rows_of_state s)
 small s tree = record {
   nodes = nodes_small s s.nodes tree tree.nodes;
   entries = entries_small s s.entries tree tree.entries (children_below s tree) (dirs_below s tree);
@@ -94,8 +102,9 @@ small s tree = record {
     next_node = tree.limits.next_node;
     next_fh = tree.limits.next_fh;
     next_cookie = tree.limits.next_cookie;
-    nodes = tree.limits.nodes;
+    nodes = omega (arith, tree.limits.nodes, nodes_most (profile_of s));
     handles = tree.limits.handles;
+    room = room_small s s.capacity tree.space;
   };
 }
 

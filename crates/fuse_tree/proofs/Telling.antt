@@ -1,9 +1,12 @@
 -- The rows of a state determine it.
-use Rattle.std.proofs.Common.{◌≡◌, List, [], ◌∷◌, map, refl, sym, ap, ◌∙◌}
+use Rattle.std.proofs.Common.{◌≡◌, ℕ, Option, Some, None, List, [], ◌∷◌, map, refl, sym, ap, ◌∙◌}
+use Rattle.std.specs.Option.{option_map}
 use Rattle.fuse_tree.specs.declared.rows.Full.{Full}
-use Rattle.fuse_tree.specs.State.{State, Node}
+use Rattle.fuse_tree.specs.State.{State, Node, used_of}
+use Rattle.fuse_tree.specs.Space.{room_of}
 use Rattle.fuse_tree.specs.Rows.{Rows, rowed, full_of}
 use Rattle.fuse_tree.specs.Plan.{RowsTellState}
+use Rattle.fuse_tree.proofs.Blocks.{room_with}
 
 abbrev node_of : Full → Node
 node_of f = record {
@@ -31,11 +34,18 @@ state_of rows = record {
   next_node = rows.counters.next_node;
   next_fh = rows.counters.next_fh;
   next_cookie = rows.counters.next_cookie;
+  capacity = option_map (λ r. r.capacity) rows.counters.room;
 }
+
+capacity_told : (s : State) (o : Option ℕ) → option_map (λ r. r.capacity) (option_map (room_with (used_of s)) o) ≡ o
+capacity_told s None = refl
+capacity_told s (Some c) = refl
 
 told : (s : State) → state_of (rowed s) ≡ s
 unfolding rowed
-told s = ap (λ (ns : List Node). record s { nodes = ns }) (nodes_told s s.nodes)
+told s =
+    ap (λ (ns : List Node). record s { nodes = ns; capacity = option_map (λ r. r.capacity) (room_of s) }) (nodes_told s s.nodes)
+    ∙ ap (λ (o : Option ℕ). record s { capacity = o }) (capacity_told s s.capacity)
 
 pub rows_tell : RowsTellState
 rows_tell s other same = sym (told s) ∙ ap state_of same ∙ told other

@@ -1,53 +1,56 @@
 -- What keeps a tree a tree.
 use Rattle.std.proofs.Common.{◌≡◌, ◌<◌, ◌≤◌, ◌+◌, ◌||◌, ℕ, Bool, true, false, not, eqb, List, [], ◌∷◌, ◌++◌, length, map, None, refl, sym, ap, ◌∙◌, arith}
+use Rattle.std.specs.Prelude.{IfSome}
 use Rattle.std.specs.List.{AllByRecursion, list_any}
 use Rattle.std.proofs.lemmas.Bool.{eqb-true, eqb-false, eq-eqb}
 use Rattle.std.proofs.lemmas.List.{length-append, length-map}
-use Rattle.fuse_tree.specs.Bounds.{node_limit, number_end}
+use Rattle.fuse_init.specs.Profile.{Terms}
+use Rattle.fuse_tree.specs.Bounds.{number_end}
 use Rattle.fuse_tree.specs.declared.rows.EntryRow.{EntryRow}
 use Rattle.fuse_tree.specs.declared.rows.HandleRow.{HandleRow}
-use Rattle.fuse_tree.specs.State.{State, Node, Tree, HasMode, IsNode, IsEntry, IsHandle, AreApart, Reaches, type_of, is_dir_of, has_number, is_open_at}
-use Rattle.fuse_tree.specs.State.{is_entry, name_fault, up_of, is_named}
+use Rattle.fuse_tree.specs.State.{State, terms_of, Node, Shape, HasMode, IsNode, IsEntry, IsHandle, AreApart, Reaches, type_of, is_dir_of, has_number, is_open_at}
+use Rattle.fuse_tree.specs.State.{FitsCapacity, is_entry, name_fault, up_of, is_named}
 use Rattle.fuse_tree.specs.Rows.{entry_at}
 use Rattle.fuse_tree.specs.Making.{grow}
 use Rattle.fuse_tree.proofs.Lists.{all_more, all_both, all_grown, all_mapped, apart_grown, apart_mapped, any_mapped, any_grown, any_last, any_gives, and_true}
 use Rattle.fuse_tree.proofs.Lists.{none_found}
 use Rattle.fuse_tree.proofs.Ups.{reaches_more, named_reaches}
+use Rattle.fuse_tree.proofs.Blocks.{used_appended, space_same}
 
 -- ---- numbers that are given out
 
-number_below : (ns : List Node) (k next : ℕ) → AllByRecursion (IsNode next) ns → list_any (has_number k) ns ≡ true → k < next
-number_below ns k next all is =
-    any_gives (IsNode next) (has_number k) (k < next) ns all is
+number_below : (t : Terms) (ns : List Node) (k next : ℕ) → AllByRecursion (IsNode t next) ns → list_any (has_number k) ns ≡ true → k < next
+number_below t ns k next all is =
+    any_gives (IsNode t next) (has_number k) (k < next) ns all is
     (λ n p e. let i : n.number ≡ k = eqb-true n.number k e in let lt : n.number < next = p.below in omega arith)
 
-dir_below : (ns : List Node) (k next : ℕ) → AllByRecursion (IsNode next) ns → list_any (is_dir_of k) ns ≡ true → k < next
-dir_below ns k next all is =
-    any_gives (IsNode next) (is_dir_of k) (k < next) ns all is
+dir_below : (t : Terms) (ns : List Node) (k next : ℕ) → AllByRecursion (IsNode t next) ns → list_any (is_dir_of k) ns ≡ true → k < next
+dir_below t ns k next all is =
+    any_gives (IsNode t next) (is_dir_of k) (k < next) ns all is
     (λ n p e. let i : n.number ≡ k = eqb-true n.number k (and_true _ _ e).0 in let lt : n.number < next = p.below in omega arith)
 
-pub root_below : (s : State) → Tree s → 1 < s.next_node
-root_below s tree = dir_below s.nodes 1 s.next_node tree.nodes tree.root
+pub root_below : (s : State) → Shape s → 1 < s.next_node
+root_below s tree = dir_below (terms_of s) s.nodes 1 s.next_node tree.nodes tree.root
 
-pub nodes_below : (s : State) → Tree s → AllByRecursion (λ n. n.number < s.next_node) s.nodes
-nodes_below s tree = all_more (IsNode s.next_node) (λ n. n.number < s.next_node) s.nodes (λ n p. p.below) tree.nodes
+pub nodes_below : (s : State) → Shape s → AllByRecursion (λ n. n.number < s.next_node) s.nodes
+nodes_below s tree = all_more (IsNode (terms_of s) s.next_node) (λ n. n.number < s.next_node) s.nodes (λ n p. p.below) tree.nodes
 
-pub children_below : (s : State) → Tree s → AllByRecursion (λ e. e.child < s.next_node) s.entries
+pub children_below : (s : State) → Shape s → AllByRecursion (λ e. e.child < s.next_node) s.entries
 children_below s tree =
     all_more (IsEntry s.nodes s.entries s.next_cookie) (λ e. e.child < s.next_node) s.entries
-    (λ e p. number_below s.nodes e.child s.next_node tree.nodes p.child) tree.entries
+    (λ e p. number_below (terms_of s) s.nodes e.child s.next_node tree.nodes p.child) tree.entries
 
-pub dirs_below : (s : State) → Tree s → AllByRecursion (λ e. e.dir < s.next_node) s.entries
+pub dirs_below : (s : State) → Shape s → AllByRecursion (λ e. e.dir < s.next_node) s.entries
 dirs_below s tree =
     all_more (IsEntry s.nodes s.entries s.next_cookie) (λ e. e.dir < s.next_node) s.entries
-    (λ e p. dir_below s.nodes e.dir s.next_node tree.nodes p.dir) tree.entries
+    (λ e p. dir_below (terms_of s) s.nodes e.dir s.next_node tree.nodes p.dir) tree.entries
 
 not_true : (b : Bool) → not b ≡ true → b ≡ false
 not_true true e = absurd cc
 not_true false e = refl
 
 -- from a named node, going up reaches 1
-pub named_climbs : (s : State) (k : ℕ) → Tree s → is_named s k ≡ true → Reaches s.entries k
+pub named_climbs : (s : State) (k : ℕ) → Shape s → is_named s k ≡ true → Reaches s.entries k
 named_climbs s k tree named =
     let all = all_more (IsEntry s.nodes s.entries s.next_cookie) (λ e. Reaches s.entries e.dir) s.entries (λ e p. p.reaches) tree.entries in
     let step : (b : Bool) → eqb k 1 ≡ b → (b || not (eqb (up_of s.entries k) 0)) ≡ true → Reaches s.entries k =
@@ -83,9 +86,9 @@ pub record SamePlace (n m : Node) : Type 0 where
   pub kind : type_of m.mode ≡ type_of n.mode
 
 -- a tree stays one where nodes keep their numbers and kinds
-pub tree_mapped : (s : State) (f : Node → Node) → ((n : Node) → SamePlace n (f n)) → AllByRecursion (λ n. IsNode s.next_node (f n)) s.nodes → Tree s
-    → Tree (record s { nodes = map f s.nodes })
-tree_mapped s f same ok tree =
+pub tree_mapped : (s : State) (f : Node → Node) → ((n : Node) → SamePlace n (f n)) → AllByRecursion (λ n. IsNode (terms_of s) s.next_node (f n)) s.nodes
+    → IfSome s.capacity (FitsCapacity (record s { nodes = map f s.nodes })) → Shape s → Shape (record s { nodes = map f s.nodes })
+tree_mapped s f same ok space tree =
     let numbers : (k : ℕ) → list_any (has_number k) (map f s.nodes) ≡ list_any (has_number k) s.nodes =
     λ k. any_mapped (has_number k) f s.nodes (λ n. ap (λ (i : ℕ). eqb i k) (same n).number) in
     let dirs : (k : ℕ) → list_any (is_dir_of k) (map f s.nodes) ≡ list_any (is_dir_of k) s.nodes =
@@ -94,7 +97,7 @@ tree_mapped s f same ok tree =
     λ h. any_mapped (is_open_at h) f s.nodes (λ n. rw ((same n).number, (same n).kind) refl) in
     record {
       root = dirs 1 ∙ tree.root;
-      nodes = all_mapped (IsNode s.next_node) f s.nodes ok;
+      nodes = all_mapped (IsNode (terms_of s) s.next_node) f s.nodes ok;
       nodes_rise =
           apart_mapped (λ n m. n.number < m.number) f s.nodes (λ n m lt. let a = (same n).number in let b = (same m).number in omega arith) tree.nodes_rise;
       entries =
@@ -115,6 +118,7 @@ tree_mapped s f same ok tree =
         fh_from_one = tree.limits.fh_from_one;
         cookie_from_three = tree.limits.cookie_from_three;
       };
+      space = space;
     }
 
 -- ---- a node and its entry more
@@ -129,7 +133,7 @@ pub record Fits (s : State) (n : Node) (e : EntryRow) : Type 0 where
   pub named : is_named s e.dir ≡ true
   pub name : name_fault e.name ≡ None
   pub free : entry_at s.entries e.dir e.name ≡ None
-  pub few : length s.nodes < node_limit
+  pub few : length s.nodes < (terms_of s).node_limit
   pub node_left : s.next_node < number_end
   pub cookie_left : s.next_cookie < number_end
 
@@ -137,11 +141,11 @@ one_more : (a b : ℕ) → a < b → a + 1 ≤ b
 one_more a b lt = omega arith
 
 -- a tree stays one with a node and its entry more
-pub tree_grown : (s : State) (n : Node) (e : EntryRow) → Fits s n e → Tree s → Tree (grow n e s)
+pub tree_grown : (s : State) (n : Node) (e : EntryRow) → Fits s n e → Shape s → Shape (grow n e s)
 tree_grown s n e fits tree =
     let root = root_below s tree in
     let dirs = dirs_below s tree in
-    let dir_lt : e.dir < s.next_node = dir_below s.nodes e.dir s.next_node tree.nodes fits.dir in
+    let dir_lt : e.dir < s.next_node = dir_below (terms_of s) s.nodes e.dir s.next_node tree.nodes fits.dir in
     let number : n.number ≡ s.next_node = fits.number in
     let child : e.child ≡ s.next_node = fits.child in
     let cookie : e.cookie ≡ s.next_cookie = fits.cookie in
@@ -150,7 +154,7 @@ tree_grown s n e fits tree =
     let climbs : (k : ℕ) → k < s.next_node → Reaches s.entries k → Reaches (s.entries ++ e ∷ []) k = reaches_more s.entries e s.next_node dirs pos child in
     let old : (x : EntryRow) → IsEntry s.nodes s.entries s.next_cookie x → IsEntry (s.nodes ++ n ∷ []) (s.entries ++ e ∷ []) (s.next_cookie + 1) x =
     λ x p. entry_moved s.nodes (s.nodes ++ n ∷ []) s.entries (s.entries ++ e ∷ []) s.next_cookie (s.next_cookie + 1) x (any_grown (is_dir_of x.dir) s.nodes n)
-    (any_grown (has_number x.child) s.nodes n) (climbs x.dir (dir_below s.nodes x.dir s.next_node tree.nodes p.dir)) (omega arith) p in
+    (any_grown (has_number x.child) s.nodes n) (climbs x.dir (dir_below (terms_of s) s.nodes x.dir s.next_node tree.nodes p.dir)) (omega arith) p in
     let new : IsEntry (s.nodes ++ n ∷ []) (s.entries ++ e ∷ []) (s.next_cookie + 1) e = record {
       dir = any_grown (is_dir_of e.dir) s.nodes n fits.dir;
       child = any_last (has_number e.child) s.nodes n (eq-eqb n.number e.child (number ∙ sym child));
@@ -162,8 +166,8 @@ tree_grown s n e fits tree =
     } in
     record {
       root = any_grown (is_dir_of 1) s.nodes n tree.root;
-      nodes = all_grown (IsNode (s.next_node + 1)) s.nodes n
-          (all_more (IsNode s.next_node) (IsNode (s.next_node + 1)) s.nodes
+      nodes = all_grown (IsNode (terms_of s) (s.next_node + 1)) s.nodes n
+          (all_more (IsNode (terms_of s) s.next_node) (IsNode (terms_of s) (s.next_node + 1)) s.nodes
           (λ m p. let lt : m.number < s.next_node = p.below in record {
             from_one = p.from_one;
             below = omega arith;
@@ -174,13 +178,13 @@ tree_grown s n e fits tree =
           (record { from_one = omega arith; below = omega arith; mode = fits.mode; content = λ _. fits.empty; size = rw fits.empty (omega arith) });
       nodes_rise =
           apart_grown (λ a b. a.number < b.number) s.nodes n tree.nodes_rise
-          (all_more (IsNode s.next_node) (λ m. m.number < n.number) s.nodes (λ m p. let lt : m.number < s.next_node = p.below in omega arith) tree.nodes);
+          (all_more (IsNode (terms_of s) s.next_node) (λ m. m.number < n.number) s.nodes (λ m p. let lt : m.number < s.next_node = p.below in omega arith) tree.nodes);
       entries = all_grown (IsEntry (s.nodes ++ n ∷ []) (s.entries ++ e ∷ []) (s.next_cookie + 1)) s.entries e
           (all_more (IsEntry s.nodes s.entries s.next_cookie)
           (IsEntry (s.nodes ++ n ∷ []) (s.entries ++ e ∷ []) (s.next_cookie + 1)) s.entries old tree.entries) new;
       entries_apart = apart_grown AreApart s.entries e tree.entries_apart
           (all_both (IsEntry s.nodes s.entries s.next_cookie) (λ x. is_entry e.dir e.name x ≡ false) (λ x. AreApart x e) s.entries
-          (λ x p free. let lt : x.cookie < s.next_cookie = p.below in let under : x.child < s.next_node = number_below s.nodes x.child s.next_node tree.nodes
+          (λ x p free. let lt : x.cookie < s.next_cookie = p.below in let under : x.child < s.next_node = number_below (terms_of s) s.nodes x.child s.next_node tree.nodes
           p.child in record { cookie = omega arith; child = omega arith; place = free })
           tree.entries (none_found (is_entry e.dir e.name) s.entries fits.free));
       handles =
@@ -196,4 +200,5 @@ tree_grown s n e fits tree =
         fh_from_one = tree.limits.fh_from_one;
         cookie_from_three = omega arith;
       };
+      space = space_same s (grow n e s) s.capacity (used_appended s.nodes n fits.empty) tree.space;
     }

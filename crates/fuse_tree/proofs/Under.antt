@@ -2,7 +2,7 @@
 use Rattle.std.proofs.Common.{◌≡◌, ◌≢◌, ◌&&◌, ◌||◌, ℕ, zero, suc, Bool, true, false, cond, eqb, List, [], ◌∷◌, length, refl, sym, ap, ◌∙◌}
 use Rattle.std.proofs.lemmas.Bool.{eqb-true, eq-eqb}
 use Rattle.fuse_tree.specs.declared.rows.EntryRow.{EntryRow}
-use Rattle.fuse_tree.specs.State.{State, Tree, Apart, AreApart, up_of, above}
+use Rattle.fuse_tree.specs.State.{State, Shape, Apart, AreApart, up_of, above}
 use Rattle.fuse_tree.specs.Renaming.{leads_to, lies_in, is_child, StepsUp, LiesInIsUnder}
 use Rattle.fuse_tree.proofs.Lists.{any_gives, and_true, or_true}
 use Rattle.fuse_tree.proofs.Heights.{rooted, stays_none}
@@ -34,13 +34,13 @@ one_dir (e ∷ es) dir k apart is = step (one_dir es dir k apart.1) (eqb e.child
 
 -- ---- the way up
 
-climbs : (s : State) (n dir node : ℕ) → Tree s → node ≢ 0 → above s.entries n dir ≡ node → StepsUp s.entries n dir node
+climbs : (s : State) (n dir node : ℕ) → Shape s → node ≢ 0 → above s.entries n dir ≡ node → StepsUp s.entries n dir node
 climbs s zero dir node tree given at = at
 climbs s (suc n) dir node tree given at =
     let named : up_of s.entries dir ≢ 0 = λ none. given (sym at ∙ ap (above s.entries n) none ∙ stays_none s.entries (rooted s tree).none n) in
     (up_of s.entries dir, has_entry s.entries dir named, climbs s n (up_of s.entries dir) node tree given at)
 
-is_above : (s : State) (n dir node : ℕ) → Tree s → StepsUp s.entries n dir node → above s.entries n dir ≡ node
+is_above : (s : State) (n dir node : ℕ) → Shape s → StepsUp s.entries n dir node → above s.entries n dir ≡ node
 is_above s zero dir node tree way = way
 is_above s (suc n) dir node tree way = ap (above s.entries n) (one_dir s.entries way.0 dir tree.entries_apart way.1) ∙ is_above s n way.0 node tree way.2
 
@@ -55,10 +55,10 @@ place es (suc n) node dir is = step (place es n node dir) (leads_to es n node di
 
 pub lies_in_is_under : LiesInIsUnder
 lies_in_is_under s node dir tree given = record {
-  found = λ is. let at = place s.entries (length s.nodes) node dir is in (at.0, climbs s at.0 dir node tree given at.1);
-  all = λ n way. step n (is_above s n dir node tree way) (lies_in s node dir) refl;
+  found = λ is. let at = place s.entries (length s.nodes) node dir is in (at.0, climbs s at.0 dir node tree.shape given at.1);
+  all = λ n way. step n (is_above s n dir node tree.shape way) (lies_in s node dir) refl;
 }
   where
     step : (n : ℕ) → above s.entries n dir ≡ node → (b : Bool) → lies_in s node dir ≡ b → lies_in s node dir ≡ true
     step n at true is = is
-    step n at false is = absurd (never_leads s node dir tree given is n at)
+    step n at false is = absurd (never_leads s node dir tree.shape given is n at)

@@ -6,10 +6,11 @@ use Rattle.std.proofs.lemmas.Bool.{eqb-true, eqb-false, ne_eqb, eq-eqb, cases_lt
 use Rattle.fuse_tree.specs.Bounds.{node_limit}
 use Rattle.fuse_tree.specs.declared.rows.EntryRow.{EntryRow}
 use Rattle.fuse_tree.specs.declared.rows.NodeRow.{NodeRow}
-use Rattle.fuse_tree.specs.State.{State, Node, Tree, IsEntry, has_number, node_at, up_of, above}
+use Rattle.fuse_tree.specs.State.{State, Node, Shape, profile_of, IsEntry, has_number, node_at, up_of, above}
 use Rattle.fuse_tree.specs.Rows.{Rows, IsRowed, row_of, rows_of_state, row_at}
 use Rattle.fuse_tree.specs.Renaming.{leads_to, lies_in, is_dir_at, holds}
 use Rattle.fuse_tree.proofs.Lists.{all_more, any_gives, none_found}
+use Rattle.fuse_tree.proofs.Most.{nodes_most}
 use Rattle.fuse_tree.proofs.Ups.{up_in}
 use Rattle.fuse_tree.proofs.Puts.{row_found, node_found}
 use Rattle.fuse_tree.proofs.Bounds.{map_none, rowed_is}
@@ -17,7 +18,7 @@ use Rattle.fuse_tree.proofs.Heights.{rooted, up_none, above_on, stays_none, ends
 
 -- ---- the directory above
 
-state_up : (s : State) (number : ℕ) (row : NodeRow) (o : Option Node) → Tree s → node_at s number ≡ o → option_map (row_of s) o ≡ Some row
+state_up : (s : State) (number : ℕ) (row : NodeRow) (o : Option Node) → Shape s → node_at s number ≡ o → option_map (row_of s) o ≡ Some row
     → up_of s.entries number ≡ row.up
 state_up s number row None tree e is = absurd cc
 state_up s number row (Some n) tree e is =
@@ -31,9 +32,9 @@ row_up rows number row is e =
     let s = is.0 in
     let same : rows ≡ rows_of_state s = is.2 ∙ rowed_is s in
     let here : row_at (rows_of_state s) number ≡ Some row = subst (λ (r : Rows). row_at r number ≡ Some row) same e in
-    ap (λ (r : Rows). up_of r.entries number) same ∙ state_up s number row (node_at s number) is.1 refl (sym (row_found s number) ∙ here)
+    ap (λ (r : Rows). up_of r.entries number) same ∙ state_up s number row (node_at s number) is.1.shape refl (sym (row_found s number) ∙ here)
 
-state_none : (s : State) (number : ℕ) → Tree s → node_at s number ≡ None → up_of s.entries number ≡ 0
+state_none : (s : State) (number : ℕ) → Shape s → node_at s number ≡ None → up_of s.entries number ≡ 0
 state_none s number tree none =
     up_none s.entries number (all_more (IsEntry s.nodes s.entries s.next_cookie) (λ e. e.child ≢ number) s.entries
     (λ e p. any_gives (λ n. (n.number == number) ≡ false) (has_number e.child) (e.child ≢ number) s.nodes
@@ -48,7 +49,7 @@ none_up rows number is e =
     let s = is.0 in
     let same : rows ≡ rows_of_state s = is.2 ∙ rowed_is s in
     let here : row_at (rows_of_state s) number ≡ None = subst (λ (r : Rows). row_at r number ≡ None) same e in
-    ap (λ (r : Rows). up_of r.entries number) same ∙ state_none s number is.1 (map_none (row_of s) (node_at s number) (sym (row_found s number) ∙ here))
+    ap (λ (r : Rows). up_of r.entries number) same ∙ state_none s number is.1.shape (map_none (row_of s) (node_at s number) (sym (row_found s number) ∙ here))
 
 -- ---- the way up
 
@@ -57,16 +58,17 @@ pub rows_end : (rows : Rows) (k : ℕ) → IsRowed rows → above rows.entries r
 unfolding IsRowed
 rows_end rows k is =
     let s = is.0 in
-    ap (λ (r : Rows). above r.entries r.counters.nodes k) (is.2 ∙ rowed_is s) ∙ ends_within s is.1 k
+    ap (λ (r : Rows). above r.entries r.counters.nodes k) (is.2 ∙ rowed_is s) ∙ ends_within s is.1.shape k
 
 -- there are no more nodes than a tree has
 pub rows_few : (rows : Rows) → IsRowed rows → rows.counters.nodes ≤ node_limit
 unfolding IsRowed
-rows_few rows is = let s = is.0 in subst (λ (r : Rows). r.counters.nodes ≤ node_limit) (sym (is.2 ∙ rowed_is s)) is.1.limits.nodes
+rows_few rows is = let s = is.0 in subst (λ (r : Rows). r.counters.nodes ≤ node_limit) (sym (is.2 ∙ rowed_is s))
+    (omega (arith, is.1.shape.limits.nodes, nodes_most (profile_of s)))
 
 rows_none : (rows : Rows) → IsRowed rows → up_of rows.entries 0 ≡ 0
 unfolding IsRowed
-rows_none rows is = let s = is.0 in ap (λ (r : Rows). up_of r.entries 0) (is.2 ∙ rowed_is s) ∙ (rooted s is.1).none
+rows_none rows is = let s = is.0 in ap (λ (r : Rows). up_of r.entries 0) (is.2 ∙ rowed_is s) ∙ (rooted s is.1.shape).none
 
 or_true : (b : Bool) → (b || true) ≡ true
 or_true true = refl
@@ -117,7 +119,7 @@ earlier_not : (es : List EntryRow) (n i node dir : ℕ) → leads_to es n node d
 earlier_not es n i node dir none lt at = absurd (let e = leads_later es n i node dir lt at in cc)
 
 -- no way up leads to a node that the first places aren't
-pub never_leads : (s : State) (node dir : ℕ) → Tree s → node ≢ 0 → lies_in s node dir ≡ false → (n : ℕ) → above s.entries n dir ≢ node
+pub never_leads : (s : State) (node dir : ℕ) → Shape s → node ≢ 0 → lies_in s node dir ≡ false → (n : ℕ) → above s.entries n dir ≢ node
 never_leads s node dir tree given none n =
     elim (cases_lt n (length s.nodes)) [
       | inl lt ↦ earlier_not s.entries (length s.nodes) n node dir none lt
@@ -129,7 +131,7 @@ never_leads s node dir tree given none n =
     ]
 
 -- what lies above a directory is a directory
-dirs_above : (s : State) (n k : ℕ) → Tree s → is_dir_at s k ≡ true → above s.entries n k ≢ 0 → is_dir_at s (above s.entries n k) ≡ true
+dirs_above : (s : State) (n k : ℕ) → Shape s → is_dir_at s k ≡ true → above s.entries n k ≢ 0 → is_dir_at s (above s.entries n k) ≡ true
 dirs_above s zero k tree dir given = dir
 dirs_above s (suc n) k tree dir given =
     dirs_above s n (up_of s.entries k) tree
@@ -140,7 +142,7 @@ dirs_above s (suc n) k tree dir given =
     given
 
 -- no way up from a directory leads to a node that can come to stand in it
-pub never_held : (s : State) (node dir : ℕ) → Tree s → node ≢ 0 → is_dir_at s dir ≡ true → holds s node dir ≡ false → (n : ℕ) → above s.entries n dir ≢ node
+pub never_held : (s : State) (node dir : ℕ) → Shape s → node ≢ 0 → is_dir_at s dir ≡ true → holds s node dir ≡ false → (n : ℕ) → above s.entries n dir ≢ node
 never_held s node dir tree given is_dir none n = step (is_dir_at s node) refl none
   where
     step : (b : Bool) → is_dir_at s node ≡ b → (b && lies_in s node dir) ≡ false → above s.entries n dir ≢ node

@@ -1,13 +1,14 @@
 -- What WRITE and READ answer fits, and is read.
 use Rattle.std.proofs.Common.{◌+◌, ◌==◌, ℕ, not, List, length, take, drop, [], refl, sym, arith}
-use Rattle.std.specs.Prelude.{nat_lt}
+use Rattle.std.specs.Prelude.{max, nat_lt}
 use Rattle.std.proofs.lemmas.Bool.{ltb-false}
 use Rattle.std.proofs.lemmas.List.{length-take, append-nil}
 use Rattle.fuse_wire.specs.declared.moment.Moment.{Moment}
 use Rattle.fuse_request.specs.declared.request.ReadIn.{ReadIn}
 use Rattle.fuse_answer.specs.Laws.{ReadBack, RecordSizes}
 use Rattle.fuse_answer.specs.Replies.{Data, AWrite, IsBody, of_data}
-use Rattle.fuse_tree.specs.State.{State, Node, is_dir}
+use Rattle.fuse_tree.specs.State.{State, terms_of, Node, is_dir}
+use Rattle.fuse_tree.specs.Space.{room_of, has_room}
 use Rattle.fuse_tree.specs.Handles.{access_at}
 use Rattle.fuse_tree.specs.Writing.{may_write, with_bytes, write, may_read, read}
 use Rattle.fuse_tree.proofs.Fit.{Fits, Reads, refused, answered, chosen, chosen_then, refused_reads, answered_reads, chosen_reads}
@@ -16,8 +17,9 @@ pub write_fits : RecordSizes → (s : State) (fh offset : ℕ) (payload : List �
 write_fits sizes s fh offset payload now n =
     chosen (not (may_write (access_at s.handles fh n.number))) _ _ (refused s _)
     (chosen (length payload == 0) _ _ (answered s _ (omega (arith, sizes.3 (record { size = 0 }))))
-    (chosen (nat_lt 16777216 (offset + length payload)) _ _ (refused s _)
-    (answered (with_bytes s offset payload now n.number) _ (omega (arith, sizes.3 (record { size = length payload }))))))
+    (chosen (nat_lt (terms_of s).file_limit (offset + length payload)) _ _ (refused s _)
+    (chosen (not (has_room (room_of s) (length n.content) (max (length n.content) (offset + length payload)))) _ _ (refused s _)
+    (answered (with_bytes s offset payload now n.number) _ (omega (arith, sizes.3 (record { size = length payload })))))))
 
 pub read_fits : (s : State) (asked : ReadIn) (n : Node) → Fits (read s asked n)
 read_fits s asked n =
@@ -32,8 +34,9 @@ pub write_reads : ReadBack → (s : State) (fh offset : ℕ) (payload : List ℕ
 write_reads back s fh offset payload now n =
     chosen_reads (not (may_write (access_at s.handles fh n.number))) _ _ (refused_reads s _ refl)
     (chosen_reads (length payload == 0) _ _ (answered_reads s _ (back.written (record { size = 0 })))
-    (chosen_reads (nat_lt 16777216 (offset + length payload)) _ _ (refused_reads s _ refl)
-    (answered_reads (with_bytes s offset payload now n.number) _ (back.written (record { size = length payload })))))
+    (chosen_reads (nat_lt (terms_of s).file_limit (offset + length payload)) _ _ (refused_reads s _ refl)
+    (chosen_reads (not (has_room (room_of s) (length n.content) (max (length n.content) (offset + length payload)))) _ _ (refused_reads s _ refl)
+    (answered_reads (with_bytes s offset payload now n.number) _ (back.written (record { size = length payload }))))))
 
 -- any bytes are a body of data
 data_body : (b : List ℕ) → IsBody Data b

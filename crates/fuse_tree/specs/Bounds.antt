@@ -1,9 +1,9 @@
 -- The bounds and sizes of trees (own profile; fuse.h where it is said).
 use Rattle.std.specs.Prelude.{ℕ, ◌^◌}
 
--- how many nodes there are at most, and how many open handles
+-- how many nodes there are at most under any profile, and how many open handles
 abbrev pub node_limit : ℕ
-node_limit = 65536
+node_limit = 1048576
 
 abbrev pub handle_limit : ℕ
 handle_limit = 65536
@@ -12,9 +12,16 @@ handle_limit = 65536
 abbrev pub number_end : ℕ
 number_end = 2 ^ 62
 
--- the most bytes of a file: 16 MiB
+-- the most bytes of a file under any profile
 abbrev pub file_limit : ℕ
-file_limit = 16777216
+file_limit = 2 ^ 40
+
+-- a capacity, in blocks, is below this; and that of a store for which none is asked
+abbrev pub capacity_end : ℕ
+capacity_end = 2 ^ 51
+
+abbrev pub default_capacity : ℕ
+default_capacity = 2 ^ 28
 
 -- the most bytes that READ and READDIR ask for
 abbrev pub read_limit : ℕ
@@ -38,6 +45,10 @@ sector_bytes = 512
 -- how long the kernel may keep names and attributes
 abbrev pub valid_seconds : ℕ
 valid_seconds = 1
+
+-- and how long a kernel that keeps them
+abbrev pub kept_seconds : ℕ
+kept_seconds = 86400
 
 -- the size of the shortest entry of a directory: 24 bytes and a name of one, padded to a multiple of 8
 abbrev pub least_entry : ℕ

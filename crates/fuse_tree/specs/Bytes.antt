@@ -3,6 +3,7 @@
 use Rattle.std.specs.Prelude.{◌<◌, ◌≤◌, ℕ, List}
 use Rattle.std.specs.List.{AllByRecursion}
 use Rattle.fuse_wire.specs.declared.moment.Moment.{Moment}
+use Rattle.fuse_init.specs.declared.profile.Profile.{Profile}
 use Rattle.fuse_request.specs.Act.{Act, Asked}
 use Rattle.fuse_request.specs.Act as acts
 use Rattle.fuse_tree.specs.State.{State, new_store}
@@ -31,6 +32,6 @@ BringsBytes _ = Unit {0}
 
 -- a new store holds bytes, and requests that bring bytes and mounts leave it so
 pub record BytesKept : Type 0 where
-  pub new : (now : Moment) → HoldsBytes (new_store now)
+  pub new : (p : Profile) (capacity : ℕ) (now : Moment) → HoldsBytes (new_store p capacity now)
   pub kept : (s : State) (request : Asked) (now : Moment) → BringsBytes request.act → HoldsBytes s → HoldsBytes (done s request now).state
   pub mounted : (s : State) → HoldsBytes s → HoldsBytes (cleared s)

@@ -1,7 +1,10 @@
 -- The state that a mount begins with (own profile).
-use Rattle.std.specs.Prelude.{◌≡◌, Bool, [], length, filter, None}
+use Rattle.std.specs.Prelude.{◌≡◌, ◌-◌, ℕ, Bool, not, List, [], length, filter, Option, None}
+use Rattle.std.specs.Option.{option_map}
+use Rattle.std.specs.List.{sum_by}
 use Rattle.fuse_tree.specs.declared.rows.Full.{Full}
-use Rattle.fuse_tree.specs.State.{State, Tree, is_named}
+use Rattle.fuse_tree.specs.declared.rows.Room.{Room}
+use Rattle.fuse_tree.specs.State.{State, Tree, is_named, blocks_for}
 use Rattle.fuse_tree.specs.Rows.{Rows, rowed, row_is_named}
 
 -- handles, settings and the nodes without a name go: named nodes, entries and counters stay
@@ -11,13 +14,24 @@ cleared s = record s { nodes = filter (λ n. is_named s n.number) s.nodes; handl
 abbrev pub is_named_row : Full → Bool
 is_named_row f = row_is_named f.row
 
+-- the blocks of the nodes without a name
+abbrev pub blocks_freed : List Full → ℕ
+blocks_freed nodes = sum_by (λ f. blocks_for f.row.size) (filter (λ f. not (is_named_row f)) nodes)
+
+-- the room when so many blocks are no longer in use
+abbrev pub room_less : ℕ → Room → Room
+room_less blocks room = record room { used = room.used - blocks }
+
+abbrev pub cleared_room : List Full → Option Room → Option Room
+cleared_room nodes room = option_map (room_less (blocks_freed nodes)) room
+
 -- the same of rows
 abbrev pub cleared_rows : Rows → Rows
 cleared_rows rows = record {
   nodes = filter is_named_row rows.nodes;
   entries = rows.entries;
   handles = [];
-  counters = record rows.counters { nodes = length (filter is_named_row rows.nodes); handles = 0 };
+  counters = record rows.counters { nodes = length (filter is_named_row rows.nodes); handles = 0; room = cleared_room rows.nodes rows.counters.room };
   settings = None;
 }
 

@@ -10,7 +10,8 @@ use Rattle.fuse_request.specs.Act as acts
 use Rattle.fuse_answer.specs.Bodies.{entry_bytes, attr_out_bytes}
 use Rattle.fuse_init.specs.Agree.{agree}
 use Rattle.fuse_tree.specs.declared.rows.EntryRow.{EntryRow}
-use Rattle.fuse_tree.specs.State.{State, Node, is_dir, node_at, is_named, name_fault}
+use Rattle.fuse_tree.specs.State.{State, Node, profile_of, is_dir, node_at, is_named, name_fault}
+use Rattle.fuse_tree.specs.Keeping.{agreement_of, keeps, valid_of, attr_valid_of, absent_entry}
 use Rattle.fuse_tree.specs.Rows.{entry_at}
 use Rattle.fuse_tree.specs.Done.{Done, refuse, refuse_for, answer, attr_of, entry_of, attr_out_of}
 use Rattle.fuse_tree.specs.Making.{mkdir, mknod}
@@ -24,12 +25,16 @@ use Rattle.fuse_tree.specs.Renaming.{asking, rename}
 
 -- ---- LOOKUP
 
+-- the name isn't there, which the kernel may keep
+abbrev pub lookup_absent : State → Done
+lookup_absent s = if keeps (agreement_of s) then answer s (entry_bytes absent_entry) else refuse s enoent
+
 abbrev pub lookup_child : State → Option Node → Done
-lookup_child s None = refuse s enoent
-lookup_child s (Some child) = answer s (entry_bytes (entry_of (attr_of s child)))
+lookup_child s None = lookup_absent s
+lookup_child s (Some child) = answer s (entry_bytes (entry_of (valid_of (agreement_of s)) (attr_of s child)))
 
 abbrev pub lookup_entry : State → Option EntryRow → Done
-lookup_entry s None = refuse s enoent
+lookup_entry s None = lookup_absent s
 lookup_entry s (Some e) = lookup_child s (node_at s e.child)
 
 -- where directory n has a name of its own
@@ -44,7 +49,7 @@ lookup s name n =
 -- ---- GETATTR
 
 abbrev pub getattr : State → Node → Done
-getattr s n = answer s (attr_out_bytes (attr_out_of (attr_of s n)))
+getattr s n = answer s (attr_out_bytes (attr_out_of (attr_valid_of (agreement_of s) n.number) (attr_of s n)))
 
 -- ---- all requests
 
@@ -89,7 +94,7 @@ offer_of _ = None
 
 -- INIT is always answered, and other requests where settings are agreed on
 abbrev pub do_offered : State → Asked → Moment → Option InitIn → Done
-do_offered s request now (Some offer) = init s (agree offer)
+do_offered s request now (Some offer) = init s (agree (profile_of s) offer)
 do_offered s request now None = if is_some s.settings then do_agreed s request now else refuse s eproto
 
 -- the effect of a request at a moment

@@ -6,7 +6,7 @@ use Rattle.fuse_answer.specs.Said.{Said}
 use Rattle.fuse_answer.specs.declared.records.Attr.{Attr}
 use Rattle.fuse_answer.specs.declared.records.EntryOut.{EntryOut}
 use Rattle.fuse_answer.specs.declared.records.AttrOut.{AttrOut}
-use Rattle.fuse_tree.specs.Bounds.{block_bytes, sector_bytes, valid_seconds}
+use Rattle.fuse_tree.specs.Bounds.{block_bytes, sector_bytes}
 use Rattle.fuse_tree.specs.State.{State, Node, links_of}
 
 -- the state after a request, and its answer
@@ -49,22 +49,22 @@ attr_of s n = record {
   flags = 0;
 }
 
--- an entry's answer, valid for a second
-abbrev pub entry_of : Attr → EntryOut
-entry_of attr =
+-- an entry's answer, valid for so many seconds
+abbrev pub entry_of : ℕ → Attr → EntryOut
+entry_of valid attr =
     record {
       nodeid = attr.ino;
       generation = 0;
-      entry_valid = valid_seconds;
-      attr_valid = valid_seconds;
+      entry_valid = valid;
+      attr_valid = valid;
       entry_valid_nsec = 0;
       attr_valid_nsec = 0;
       attr = attr;
     }
 
--- an attribute answer, valid for a second
-abbrev pub attr_out_of : Attr → AttrOut
-attr_out_of attr = record { attr_valid = valid_seconds; attr_valid_nsec = 0; attr = attr }
+-- an attribute answer, valid for so many seconds
+abbrev pub attr_out_of : ℕ → Attr → AttrOut
+attr_out_of valid attr = record { attr_valid = valid; attr_valid_nsec = 0; attr = attr }
 
 -- ---- times
 

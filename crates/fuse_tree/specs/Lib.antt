@@ -1,12 +1,15 @@
 pub mod Bounds
 pub mod Modes
 pub mod State
+pub mod Space
 pub mod Rows
 pub mod RowsOfTrees
 pub mod Handles
 pub mod PlainRows
 pub mod Clearing
+pub mod Keeping
 pub mod Pieces
+pub mod Removal
 pub mod Done
 pub mod Init
 pub mod Making

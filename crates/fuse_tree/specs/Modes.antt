@@ -19,6 +19,10 @@ s_ififo = 0o010000
 abbrev pub s_ifsock : ℕ
 s_ifsock = 0o140000
 
+-- what is made in such a directory gets its group
+abbrev pub s_isgid : ℕ
+s_isgid = 0o2000
+
 -- the bits below this one are the permissions, and the next four are the type
 abbrev pub type_unit : ℕ
 type_unit = 0o10000

@@ -9,8 +9,9 @@ use Rattle.fuse_answer.specs.Bodies.{open_bytes}
 use Rattle.fuse_answer.specs.declared.records.OpenOut.{OpenOut}
 use Rattle.fuse_tree.specs.Bounds.{handle_limit, number_end}
 use Rattle.fuse_tree.specs.declared.rows.HandleRow.{HandleRow}
-use Rattle.fuse_tree.specs.State.{State, Node, is_dir, is_file}
+use Rattle.fuse_tree.specs.State.{State, Node, terms_of, is_dir, is_file}
 use Rattle.fuse_tree.specs.Handles.{is_open}
+use Rattle.fuse_tree.specs.Removal.{tidied}
 use Rattle.fuse_tree.specs.Done.{Done, refuse, refuse_for, answer}
 
 -- ---- a handle more
@@ -29,18 +30,18 @@ new_handle next_fh node access = record { fh = next_fh; node = node; access = ac
 abbrev pub opened : State → ℕ → AccessMode → State
 opened s node access = record s { handles = s.handles ++ new_handle s.next_fh node access ∷ []; next_fh = s.next_fh + 1 }
 
--- the answer for a new handle
-abbrev pub open_of : ℕ → OpenOut
-open_of fh = record { fh = fh; open_flags = 0; backing_id = pos 0 }
+-- the answer for a new handle, with these flags
+abbrev pub open_of : ℕ → ℕ → OpenOut
+open_of flags fh = record { fh = fh; open_flags = flags; backing_id = pos 0 }
 
-abbrev pub open_node : State → AccessMode → Node → Done
-open_node s access n = refuse_for s (open_fault (length s.handles) s.next_fh) (answer (opened s n.number access) (open_bytes (open_of s.next_fh)))
+abbrev pub open_node : State → ℕ → AccessMode → Node → Done
+open_node s flags access n = refuse_for s (open_fault (length s.handles) s.next_fh) (answer (opened s n.number access) (open_bytes (open_of flags s.next_fh)))
 
 -- ---- OPEN
 
 abbrev pub open_for : State → Option AccessMode → Node → Done
 open_for s None n = refuse s einval
-open_for s (Some access) n = open_node s access n
+open_for s (Some access) n = open_node s (terms_of s).open_flags access n
 
 abbrev pub open_file : State → ℕ → Node → Done
 open_file s flags n =
@@ -51,7 +52,7 @@ open_file s flags n =
 -- ---- OPENDIR
 
 abbrev pub open_dir : State → Node → Done
-open_dir s n = if not (is_dir n.mode) then refuse s enotdir else open_node s ReadOnly n
+open_dir s n = if not (is_dir n.mode) then refuse s enotdir else open_node s 0 ReadOnly n
 
 -- ---- a handle less
 
@@ -63,7 +64,7 @@ closed s fh = record s { handles = filter (λ h. not (h.fh == fh)) s.handles }
 abbrev pub close : State → ℕ → Option Errno → Node → Done
 close s fh kind_fault n =
     if not (is_open s.handles fh n.number) then refuse s ebadf
-    else refuse_for s kind_fault (answer (closed s fh) [])
+    else refuse_for s kind_fault (answer (tidied (closed s fh)) [])
 
 -- ---- RELEASE
 

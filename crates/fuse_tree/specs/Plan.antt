@@ -1,9 +1,11 @@
 -- The contract of `plan`, and the laws on requests (own profile).
-use Rattle.std.specs.Prelude.{◌≡◌, Bool, true, false, List, Option, Some, None, Result, Ok, Err}
+use Rattle.std.specs.Prelude.{◌≡◌, ◌<◌, ℕ, Bool, true, false, List, Option, Some, None, Result, Ok, Err}
 use Rattle.fuse_wire.specs.declared.moment.Moment.{Moment}
 use Rattle.fuse_request.specs.Act.{Asked, opcode_of}
 use Rattle.fuse_answer.specs.Replies.{IsRead}
 use Rattle.fuse_answer.specs.Said.{FitsAnswer}
+use Rattle.fuse_init.specs.declared.profile.Profile.{Profile}
+use Rattle.fuse_tree.specs.Bounds.{capacity_end}
 use Rattle.fuse_tree.specs.declared.look.LookFault.{LookFault}
 use Rattle.fuse_tree.specs.declared.planning.fault.PlanFault.{PlanFault}
 use Rattle.fuse_tree.specs.declared.planning.fault.PlanFault.TheVariants as faults
@@ -46,13 +48,13 @@ look_fault (Err faults.NotATree) = None
 
 -- ---- laws
 
--- each request leaves a tree
+-- each request leaves a tree, of the same capacity
 abbrev pub TreeKept : Type 0
-TreeKept = (s : State) (request : Asked) (now : Moment) → Tree s → Tree (done s request now).state
+TreeKept = (s : State) (request : Asked) (now : Moment) → Tree s → Tree (done s request now).state × ((done s request now).state.capacity ≡ s.capacity)
 
 -- a new store is a tree
 abbrev pub NewStoreIsTree : Type 0
-NewStoreIsTree = (now : Moment) → Tree (new_store now)
+NewStoreIsTree = (p : Profile) (capacity : ℕ) (now : Moment) → capacity < capacity_end → Tree (new_store p capacity now)
 
 -- the rows determine the state
 abbrev pub RowsTellState : Type 0

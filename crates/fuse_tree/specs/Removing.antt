@@ -1,4 +1,4 @@
--- UNLINK and RMDIR (own profile): an entry goes, and its child stays as a node without a name.
+-- UNLINK and RMDIR (own profile): an entry goes, and its child loses its name.
 use Rattle.std.specs.Prelude.{◌==◌, ℕ, Bool, not, if◌then◌else◌, List, [], map, filter, Option, Some, None}
 use Rattle.std.specs.List.{list_any}
 use Rattle.fuse_wire.specs.Errnos.{enoent, enotdir, eisdir, enotempty}
@@ -6,6 +6,7 @@ use Rattle.fuse_wire.specs.declared.moment.Moment.{Moment}
 use Rattle.fuse_tree.specs.declared.rows.EntryRow.{EntryRow}
 use Rattle.fuse_tree.specs.State.{State, Node, is_dir, node_at, is_named, name_fault}
 use Rattle.fuse_tree.specs.Rows.{entry_at}
+use Rattle.fuse_tree.specs.Removal.{tidied}
 use Rattle.fuse_tree.specs.Done.{Done, refuse, refuse_for, answer, touch}
 
 -- ---- an entry gone
@@ -36,7 +37,7 @@ abbrev pub unlink_child : State → EntryRow → Moment → Option Node → Done
 unlink_child s e now None = refuse s enoent
 unlink_child s e now (Some child) =
     if is_dir child.mode then refuse s eisdir
-    else answer (entry_gone e now s) []
+    else answer (tidied (entry_gone e now s)) []
 
 abbrev pub unlink_entry : State → Moment → Option EntryRow → Done
 unlink_entry s now None = refuse s enoent
@@ -58,7 +59,7 @@ rmdir_child s e now None = refuse s enoent
 rmdir_child s e now (Some child) =
     if not (is_dir child.mode) then refuse s enotdir
     else if has_entries s.entries child.number then refuse s enotempty
-    else answer (entry_gone e now s) []
+    else answer (tidied (entry_gone e now s)) []
 
 abbrev pub rmdir_entry : State → Moment → Option EntryRow → Done
 rmdir_entry s now None = refuse s enoent

@@ -12,6 +12,7 @@ use Rattle.fuse_tree.specs.Modes.{rename_noreplace, rename_exchange}
 use Rattle.fuse_tree.specs.declared.rows.EntryRow.{EntryRow}
 use Rattle.fuse_tree.specs.State.{State, Node, Tree, is_dir, is_dir_of, is_named, name_fault, node_at, above}
 use Rattle.fuse_tree.specs.Rows.{entry_at}
+use Rattle.fuse_tree.specs.Removal.{tidied}
 use Rattle.fuse_tree.specs.Done.{Done, refuse, refuse_for, answer, touch}
 use Rattle.fuse_tree.specs.Removing.{mark, without, entry_gone, has_entries}
 
@@ -124,7 +125,7 @@ place_fault s child (Some other) = kinds_fault (is_dir_at s child) (is_dir_at s 
 -- ---- RENAME
 
 abbrev pub rename_with_room : State → Renaming → ℕ → EntryRow → Option EntryRow → Done
-rename_with_room s r dir e other = if nat_le number_end s.next_cookie then refuse s enospc else answer (renamed r dir e other s) []
+rename_with_room s r dir e other = if nat_le number_end s.next_cookie then refuse s enospc else answer (tidied (renamed r dir e other s)) []
 
 abbrev pub rename_entry : State → Renaming → ℕ → EntryRow → Option EntryRow → Done
 rename_entry s r dir e other =

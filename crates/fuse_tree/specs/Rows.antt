@@ -4,7 +4,10 @@ use Rattle.std.specs.Prelude.{replicate, Option, Some, None}
 use Rattle.std.specs.Option.{option_map}
 use Rattle.std.specs.List.{list_any}
 use Rattle.fuse_init.specs.declared.settings.Settings.{Settings}
+use Rattle.fuse_init.specs.declared.profile.Profile.{Profile}
+use Rattle.fuse_init.specs.Profile.{Terms, terms}
 use Rattle.fuse_tree.specs.Bounds.{fuse_root_id}
+use Rattle.fuse_tree.specs.declared.agreement.Agreement.{Agreement}
 use Rattle.fuse_tree.specs.declared.rows.NodeRow.{NodeRow}
 use Rattle.fuse_tree.specs.declared.rows.Full.{Full}
 use Rattle.fuse_tree.specs.declared.rows.EntryRow.{EntryRow}
@@ -12,7 +15,8 @@ use Rattle.fuse_tree.specs.declared.rows.HandleRow.{HandleRow}
 use Rattle.fuse_tree.specs.declared.rows.Counters.{Counters as CountersRow}
 use Rattle.fuse_tree.specs.declared.rows.Change.{Change}
 use Rattle.fuse_tree.specs.declared.rows.Change.TheVariants as changes
-use Rattle.fuse_tree.specs.State.{State, Node, Tree, is_entry, up_of, subdirs_of}
+use Rattle.fuse_tree.specs.State.{State, Node, Tree, is_entry, up_of, subdirs_of, profile_for}
+use Rattle.fuse_tree.specs.Space.{room_of}
 
 -- all that a store holds of a tree, wherever it keeps it
 pub record Rows : Type 0 where
@@ -54,6 +58,7 @@ counters_of s = record {
   next_cookie = s.next_cookie;
   nodes = length s.nodes;
   handles = length s.handles;
+  room = room_of s;
 }
 
 -- the rows that stand for a state
@@ -69,6 +74,17 @@ unfoldable pub IsRowed : Rows → Type 0
 IsRowed rows = (s : State) × Tree s × (rows ≡ rowed s)
 
 -- ---- looks
+
+-- the profile of the store
+abbrev pub profile_at : Rows → Profile
+profile_at rows = profile_for rows.counters.room
+
+abbrev pub terms_at : Rows → Terms
+terms_at rows = terms (profile_at rows)
+
+-- with the settings that INIT agreed on
+abbrev pub agreement_at : Rows → Agreement
+agreement_at rows = record { profile = profile_at rows; settings = rows.settings }
 
 -- the node of this number
 abbrev pub full_at : Rows → ℕ → Option Full
@@ -91,6 +107,10 @@ entries_after rows dir cookie limit = take limit (filter (is_after dir cookie) r
 -- the handle of this number
 abbrev pub handle_at : List HandleRow → ℕ → Option HandleRow
 handle_at handles fh = find (λ h. h.fh == fh) handles
+
+-- the handles of the node, at most so many
+abbrev pub handles_of : List HandleRow → ℕ → ℕ → List HandleRow
+handles_of handles number limit = take limit (filter (λ h. h.node == number) handles)
 
 abbrev pub content_of : Option Full → List ℕ
 content_of None = []
@@ -126,6 +146,7 @@ at_node number change f = if f.row.node == number then record f { content = chan
 -- one change
 abbrev pub apply_one : Rows → Change → Rows
 apply_one rows (changes.Node row) = record rows { nodes = put_node row rows.nodes }
+apply_one rows (changes.NodeGone node) = record rows { nodes = filter (λ f. not (f.row.node == node)) rows.nodes }
 apply_one rows (changes.Entry entry) = record rows { entries = rows.entries ++ entry ∷ [] }
 apply_one rows (changes.EntryGone cookie) = record rows { entries = filter (λ e. not (e.cookie == cookie)) rows.entries }
 apply_one rows (changes.Handle handle) = record rows { handles = rows.handles ++ handle ∷ [] }

@@ -1,11 +1,11 @@
 -- True of the rows of each tree (own profile): a reader of rows may rely on it.
 use Rattle.std.specs.Prelude.{◌≡◌, ◌≢◌, ◌<◌, ◌≤◌, ℕ, length, Some, None}
 use Rattle.std.specs.List.{AllByRecursion}
-use Rattle.fuse_tree.specs.Bounds.{fuse_root_id, file_limit}
+use Rattle.fuse_tree.specs.Bounds.{fuse_root_id}
 use Rattle.fuse_tree.specs.declared.rows.NodeRow.{NodeRow}
 use Rattle.fuse_tree.specs.declared.rows.EntryRow.{EntryRow}
 use Rattle.fuse_tree.specs.State.{Apart}
-use Rattle.fuse_tree.specs.Rows.{Rows, IsRowed, row_at, full_at, content_of}
+use Rattle.fuse_tree.specs.Rows.{Rows, IsRowed, row_at, full_at, content_of, terms_at}
 
 -- the entry leads to a row
 abbrev pub LeadsToRow : Rows → EntryRow → Type 0
@@ -14,7 +14,7 @@ LeadsToRow rows e = row_at rows e.child ≢ None
 -- the size in the row of a node is that of its content, which fits into a file
 pub record IsSized (rows : Rows) (number : ℕ) (row : NodeRow) : Type 0 where
   pub told : row.size ≡ length (content_of (full_at rows number))
-  pub within : row.size ≤ file_limit
+  pub within : row.size ≤ (terms_at rows).file_limit
 
 -- the root is there, each entry leads to a row, cookies rise from 3 on, and sizes are right
 pub record OfTree (rows : Rows) : Type 0 where

@@ -1,19 +1,20 @@
 -- SETATTR (own profile): the bits of `valid` say which attributes it sets.
-use Rattle.std.specs.Prelude.{◌+◌, ◌*◌, ◌/◌, ◌%◌, ◌==◌, ◌||◌, ℕ, Bool, not, nat_lt, if◌then◌else◌, Option, Some, None}
+use Rattle.std.specs.Prelude.{◌+◌, ◌*◌, ◌/◌, ◌%◌, ◌==◌, ◌&&◌, ◌||◌, ℕ, Bool, not, List, length, nat_lt, if◌then◌else◌, Option, Some, None}
 use Rattle.std.specs.Int.RustNames.{bit_and}
 use Rattle.fuse_wire.specs.Flags.{valid_bits}
 use Rattle.fuse_wire.specs.declared.errno.Errno.{Errno}
-use Rattle.fuse_wire.specs.Errnos.{eisdir, einval, efbig}
+use Rattle.fuse_wire.specs.Errnos.{eisdir, einval, efbig, enospc}
 use Rattle.fuse_wire.specs.declared.moment.Moment.{Moment}
 use Rattle.fuse_wire.specs.declared.setattr_valid.SetattrValid.{SetattrValid}
 use Rattle.fuse_wire.specs.Bits.{fattr_mode, fattr_uid, fattr_gid, fattr_size, fattr_atime, fattr_mtime, fattr_atime_now, fattr_mtime_now, fattr_ctime}
 use Rattle.fuse_request.specs.declared.request.SetattrIn.{SetattrIn}
 use Rattle.fuse_answer.specs.Bodies.{attr_out_bytes}
-use Rattle.fuse_tree.specs.Bounds.{file_limit}
 use Rattle.fuse_tree.specs.Modes.{type_unit}
-use Rattle.fuse_tree.specs.State.{State, Node, is_dir, is_file}
+use Rattle.fuse_tree.specs.State.{State, Node, terms_of, is_dir, is_file}
+use Rattle.fuse_tree.specs.Space.{room_of, has_room}
 use Rattle.fuse_tree.specs.Rows.{sized}
-use Rattle.fuse_tree.specs.Done.{Done, refuse_for, answer, attr_of, attr_out_of}
+use Rattle.fuse_tree.specs.Keeping.{agreement_of, attr_valid_of}
+use Rattle.fuse_tree.specs.Done.{Done, refuse, refuse_for, answer, attr_of, attr_out_of}
 use Rattle.fuse_tree.specs.Changing.{with_changed}
 
 -- the bit is set; bits without names are ignored
@@ -71,21 +72,28 @@ set_node set now n = record n {
 
 -- ---- SETATTR
 
--- the fault of this size for a node of this mode
-abbrev pub size_fault : ℕ → ℕ → Option Errno
-size_fault mode size =
+-- the fault of this size for a node of this mode, where files have a limit
+abbrev pub size_fault : ℕ → ℕ → ℕ → Option Errno
+size_fault limit mode size =
     if is_dir mode then Some eisdir
     else if not (is_file mode) then Some einval
-    else if nat_lt file_limit size then Some efbig
+    else if nat_lt limit size then Some efbig
     else None
 
-abbrev pub set_fault : SetattrIn → ℕ → Option Errno
-set_fault set mode = if has set fattr_size then size_fault mode set.size else None
+abbrev pub set_fault : ℕ → SetattrIn → ℕ → Option Errno
+set_fault limit set mode = if has set fattr_size then size_fault limit mode set.size else None
 
 abbrev pub with_set : State → SetattrIn → Moment → ℕ → State
 with_set s set now number = with_changed number (set_node set now) s
 
+abbrev pub set_answer : State → SetattrIn → Moment → Node → List ℕ
+set_answer s set now n = attr_out_bytes (attr_out_of (attr_valid_of (agreement_of s) n.number) (attr_of (with_set s set now n.number) (set_node set now n)))
+
+-- where there is room for the size
+abbrev pub set_with_room : State → SetattrIn → Moment → Node → Done
+set_with_room s set now n =
+    if has set fattr_size && not (has_room (room_of s) (length n.content) set.size) then refuse s enospc
+    else answer (with_set s set now n.number) (set_answer s set now n)
+
 abbrev pub setattr : State → SetattrIn → Moment → Node → Done
-setattr s set now n =
-    refuse_for s (set_fault set n.mode)
-    (answer (with_set s set now n.number) (attr_out_bytes (attr_out_of (attr_of (with_set s set now n.number) (set_node set now n)))))
+setattr s set now n = refuse_for s (set_fault (terms_of s).file_limit set n.mode) (set_with_room s set now n)

@@ -1,8 +1,8 @@
 -- A tree of files, and its invariant (own profile). Numbers are given out in rising order, so each
 -- list stands in the order of its numbers: a list with rising numbers is a finite map.
 use Rattle.std.specs.Prelude.{◌≡◌, ◌≢◌, ◌<◌, ◌≤◌, ◌+◌, ◌*◌, ◌/◌, ◌%◌, ◌^◌, ◌==◌, ◌&&◌, ◌||◌, ℕ, zero, suc, Bool, true, false, not, nat_eq, nat_lt}
-use Rattle.std.specs.Prelude.{if◌then◌else◌, List, [], ◌∷◌, length, find, filter, Option, Some, None, codes}
-use Rattle.std.specs.List.{AllByRecursion, list_any}
+use Rattle.std.specs.Prelude.{◌-◌, if◌then◌else◌, List, [], ◌∷◌, length, find, filter, Option, Some, None, IfSome, codes}
+use Rattle.std.specs.List.{AllByRecursion, list_any, sum_by}
 use Rattle.std.specs.Cmp.Lexicographic.{pointwise}
 use Rattle.fuse_wire.specs.declared.access_mode.AccessMode.{AccessMode}
 use Rattle.fuse_wire.specs.declared.access_mode.AccessMode.TheVariants.{ReadOnly, WriteOnly, ReadWrite}
@@ -10,7 +10,10 @@ use Rattle.fuse_wire.specs.declared.errno.Errno.{Errno}
 use Rattle.fuse_wire.specs.Errnos.{einval, enametoolong}
 use Rattle.fuse_wire.specs.declared.moment.Moment.{Moment}
 use Rattle.fuse_init.specs.declared.settings.Settings.{Settings}
-use Rattle.fuse_tree.specs.Bounds.{node_limit, handle_limit, number_end, file_limit, name_limit, fuse_root_id}
+use Rattle.fuse_init.specs.declared.profile.Profile.{Profile}
+use Rattle.fuse_init.specs.declared.profile.Profile.TheVariants.{Plain, Everyday}
+use Rattle.fuse_init.specs.Profile.{Terms, terms}
+use Rattle.fuse_tree.specs.Bounds.{handle_limit, number_end, capacity_end, name_limit, fuse_root_id, block_bytes}
 use Rattle.fuse_tree.specs.Modes.{s_ifblk, s_ifchr, s_ifdir, s_ififo, s_ifreg, s_ifsock, type_unit, type_count}
 use Rattle.fuse_tree.specs.declared.rows.EntryRow.{EntryRow}
 use Rattle.fuse_tree.specs.declared.rows.HandleRow.{HandleRow}
@@ -36,14 +39,40 @@ pub record State : Type 0 where
   pub next_node : ℕ
   pub next_fh : ℕ
   pub next_cookie : ℕ
+  -- the blocks that an everyday store has room for; none of a plain one
+  pub capacity : Option ℕ
+
+-- the profile of a store: an everyday one has a capacity
+abbrev pub profile_for : {A : Type 0} → Option A → Profile
+profile_for None = Plain
+profile_for (Some x) = Everyday
+
+abbrev pub profile_of : State → Profile
+profile_of s = profile_for s.capacity
+
+abbrev pub terms_of : State → Terms
+terms_of s = terms (profile_of s)
 
 -- the root of a new store: an empty directory
 abbrev pub root_node : Moment → Node
 root_node now = record { number = fuse_root_id; mode = s_ifdir + 0o755; uid = 0; gid = 0; rdev = 0; atime = now; mtime = now; ctime = now; content = [] }
 
--- a store that is made at this moment
-abbrev pub new_store : Moment → State
-new_store now = record { nodes = root_node now ∷ []; entries = []; handles = []; settings = None; next_node = 2; next_fh = 1; next_cookie = 3 }
+abbrev pub capacity_for : Profile → ℕ → Option ℕ
+capacity_for Plain capacity = None
+capacity_for Everyday capacity = Some capacity
+
+-- a store of this profile that is made at this moment
+abbrev pub new_store : Profile → ℕ → Moment → State
+new_store p capacity now = record {
+  nodes = root_node now ∷ [];
+  entries = [];
+  handles = [];
+  settings = None;
+  next_node = 2;
+  next_fh = 1;
+  next_cookie = 3;
+  capacity = capacity_for p capacity;
+}
 
 -- ---- counts
 
@@ -96,6 +125,14 @@ links_of s n =
     if not (is_named s n.number) then 0
     else if is_dir n.mode then 2 + subdirs_of s n.number
     else 1
+
+-- the blocks that a size takes, written or not
+abbrev pub blocks_for : ℕ → ℕ
+blocks_for size = (size + (block_bytes - 1)) / block_bytes
+
+-- the blocks in use
+abbrev pub used_of : State → ℕ
+used_of s = sum_by (λ n. blocks_for (length n.content)) s.nodes
 
 -- ---- names
 
@@ -152,12 +189,12 @@ pub record HasMode (mode rdev : ℕ) : Type 0 where
   pub no_device : is_device (type_bits mode) ≡ false → rdev ≡ 0
 
 -- a node's number is given out, its mode is one, and only regular files have content
-pub record IsNode (next_node : ℕ) (n : Node) : Type 0 where
+pub record IsNode (t : Terms) (next_node : ℕ) (n : Node) : Type 0 where
   pub from_one : 1 ≤ n.number
   pub below : n.number < next_node
   pub mode : HasMode n.mode n.rdev
   pub content : is_file n.mode ≡ false → n.content ≡ []
-  pub size : length n.content ≤ file_limit
+  pub size : length n.content ≤ t.file_limit
 
 -- an entry leads from a directory under the root to a node other than the root
 pub record IsEntry (nodes : List Node) (entries : List EntryRow) (next_cookie : ℕ) (e : EntryRow) : Type 0 where
@@ -183,7 +220,7 @@ pub record IsHandle (nodes : List Node) (next_fh : ℕ) (h : HandleRow) : Type 0
 
 -- the limits of a store
 pub record Limits (s : State) : Type 0 where
-  pub nodes : length s.nodes ≤ node_limit
+  pub nodes : length s.nodes ≤ (terms_of s).node_limit
   pub handles : length s.handles ≤ handle_limit
   pub next_node : s.next_node ≤ number_end
   pub next_fh : s.next_fh ≤ number_end
@@ -191,13 +228,36 @@ pub record Limits (s : State) : Type 0 where
   pub fh_from_one : 1 ≤ s.next_fh
   pub cookie_from_three : 3 ≤ s.next_cookie
 
--- the state is a tree of files
-pub record Tree (s : State) : Type 0 where
+-- what is in use is within the capacity
+pub record FitsCapacity (s : State) (capacity : ℕ) : Type 0 where
+  pub used : used_of s ≤ capacity
+  pub bounded : capacity < capacity_end
+
+-- an fh of this node is open
+abbrev pub is_used : List HandleRow → ℕ → Bool
+is_used handles number = list_any (λ h. h.node == number) handles
+
+-- the node of this number has a name or an fh
+abbrev pub is_kept : State → ℕ → Bool
+is_kept s number = is_named s number || is_used s.handles number
+
+-- each node has a name or an fh, where the profile removes those that have neither
+abbrev pub NodesAreKept : State → Type 0
+NodesAreKept s = (terms_of s).removes ≡ true → AllByRecursion (λ n. is_kept s n.number ≡ true) s.nodes
+
+-- the lists fit together, within the limits
+pub record Shape (s : State) : Type 0 where
   pub root : list_any (is_dir_of fuse_root_id) s.nodes ≡ true
-  pub nodes : AllByRecursion (IsNode s.next_node) s.nodes
+  pub nodes : AllByRecursion (IsNode (terms_of s) s.next_node) s.nodes
   pub nodes_rise : Apart (λ n later. n.number < later.number) s.nodes
   pub entries : AllByRecursion (IsEntry s.nodes s.entries s.next_cookie) s.entries
   pub entries_apart : Apart AreApart s.entries
   pub handles : AllByRecursion (IsHandle s.nodes s.next_fh) s.handles
   pub handles_rise : Apart (λ h later. h.fh < later.fh) s.handles
   pub limits : Limits s
+  pub space : IfSome s.capacity (FitsCapacity s)
+
+-- the state is a tree of files
+pub record Tree (s : State) : Type 0 where
+  pub shape : Shape s
+  pub kept : NodesAreKept s

@@ -1,13 +1,14 @@
 -- WRITE and READ (own profile).
-use Rattle.std.specs.Prelude.{◌+◌, ◌==◌, ℕ, Bool, true, false, not, nat_lt, if◌then◌else◌, List, length, take, drop, Option, Some, None}
+use Rattle.std.specs.Prelude.{◌+◌, ◌==◌, ℕ, max, Bool, true, false, not, nat_lt, if◌then◌else◌, List, length, take, drop, Option, Some, None}
 use Rattle.fuse_wire.specs.declared.access_mode.AccessMode.{AccessMode}
 use Rattle.fuse_wire.specs.declared.access_mode.AccessMode.TheVariants.{ReadOnly, WriteOnly, ReadWrite}
-use Rattle.fuse_wire.specs.Errnos.{ebadf, eisdir, einval, efbig}
+use Rattle.fuse_wire.specs.Errnos.{ebadf, eisdir, einval, efbig, enospc}
 use Rattle.fuse_wire.specs.declared.moment.Moment.{Moment}
 use Rattle.fuse_request.specs.declared.request.ReadIn.{ReadIn}
 use Rattle.fuse_answer.specs.Bodies.{write_bytes}
-use Rattle.fuse_tree.specs.Bounds.{file_limit, read_limit}
-use Rattle.fuse_tree.specs.State.{State, Node, is_dir}
+use Rattle.fuse_tree.specs.Bounds.{read_limit}
+use Rattle.fuse_tree.specs.State.{State, Node, terms_of, is_dir}
+use Rattle.fuse_tree.specs.Space.{room_of, has_room}
 use Rattle.fuse_tree.specs.Rows.{written}
 use Rattle.fuse_tree.specs.Handles.{access_at}
 use Rattle.fuse_tree.specs.Done.{Done, refuse, answer}
@@ -38,7 +39,8 @@ abbrev pub write : State → ℕ → ℕ → List ℕ → Moment → Node → Do
 write s fh offset payload now n =
     if not (may_write (access_at s.handles fh n.number)) then refuse s ebadf
     else if length payload == 0 then answer s (count_body 0)
-    else if nat_lt file_limit (offset + length payload) then refuse s efbig
+    else if nat_lt (terms_of s).file_limit (offset + length payload) then refuse s efbig
+    else if not (has_room (room_of s) (length n.content) (max (length n.content) (offset + length payload))) then refuse s enospc
     else answer (with_bytes s offset payload now n.number) (count_body (length payload))
 
 -- ---- READ

@@ -1,5 +1,7 @@
 pub mod NumbersOnce
 pub mod Reading
+pub mod PlanSpace
+pub mod PlanRemoval
 pub mod PlanInit
 pub mod PlanMaking
 pub mod PlanSetting

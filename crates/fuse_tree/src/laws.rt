@@ -13,7 +13,7 @@ use crate::mode::*;
 use crate::rename_mode::{RENAME_EXCHANGE, RENAME_NOREPLACE};
 use fuse_answer::{read_back, record_sizes};
 
-/// Each request leaves a tree.
+/// Each request leaves a tree of the same capacity.
 pub fn tree_kept()
     ensures { TreeKept }
 {}
@@ -70,11 +70,14 @@ pub fn limit_numbers()
     ensures handles { MAX_HANDLES ≡ bounds.handle_limit }
     ensures counters { COUNTER_END ≡ bounds.number_end }
     ensures file { MAX_FILE ≡ bounds.file_limit }
+    ensures capacities { CAPACITY_END ≡ bounds.capacity_end }
+    ensures capacity { DEFAULT_CAPACITY ≡ bounds.default_capacity }
     ensures read { MAX_READ ≡ bounds.read_limit }
     ensures root { ROOT_ID ≡ bounds.fuse_root_id }
     ensures block { BLOCK_SIZE ≡ bounds.block_bytes }
     ensures sector { SECTOR_SIZE ≡ bounds.sector_bytes }
     ensures valid { VALID_SECS ≡ bounds.valid_seconds }
+    ensures kept { KEPT_SECS ≡ bounds.kept_seconds }
     ensures entry { LEAST_ENTRY ≡ bounds.least_entry }
 {}
 
@@ -86,6 +89,7 @@ pub fn mode_numbers()
     ensures block { S_IFBLK ≡ modes.s_ifblk }
     ensures fifo { S_IFIFO ≡ modes.s_ififo }
     ensures socket { S_IFSOCK ≡ modes.s_ifsock }
+    ensures group { S_ISGID ≡ modes.s_isgid }
     ensures unit { TYPE_UNIT ≡ modes.type_unit }
     ensures types { TYPES ≡ modes.type_count }
     ensures no_replace { RENAME_NOREPLACE ≡ modes.rename_noreplace }

@@ -1,11 +1,11 @@
 ghost use Rattle.std.specs.Prelude.{◌≡◌, None, IfOk, OnOk, OnErr, Option};
 ghost use Rattle.std.specs.Result.{result_err};
 ghost use Rattle.fuse_tree.specs.Rows.{Rows, IsRowed, row_at, entry_at, entries_after, handle_at};
-ghost use Rattle.fuse_tree.specs.Rows.{bytes_at};
+ghost use Rattle.fuse_tree.specs.Rows.{bytes_at, handles_of, agreement_at};
 ghost use Rattle.fuse_tree.specs.declared.look.LookFault.{LookFault};
 
+use crate::agreement::Agreement;
 use crate::rows::{Counters, EntryRow, HandleRow, NodeRow};
-use fuse_init::Settings;
 use fuse_wire::ByteList;
 
 /// Why a look failed.
@@ -77,6 +77,15 @@ pub trait Look {
         ensures looks { OnOk result (looks self.old self.new) }
         ensures fails { OnErr result (fails self.old self.new) };
 
+    /// At most `limit` handles of the node, in rising order.
+    fn handles_of(&mut self, node: u64, limit: usize) -> Result<Vec<HandleRow>, LookFault>
+        requires { fault self.old ≡ None }
+        ensures rows { is_clean self.new → (rows : Rows) → IsRowed rows → sees self.old rows
+            → IfOk result (λ v. v.items ≡ handles_of rows.handles node limit) }
+        ensures fault { fault self.new ≡ result_err result }
+        ensures looks { OnOk result (looks self.old self.new) }
+        ensures fails { OnErr result (fails self.old self.new) };
+
     /// At most `len` bytes of the node's content, from `offset` on.
     fn bytes(&mut self, node: u64, offset: u64, len: u32) -> Result<ByteList, LookFault>
         requires { fault self.old ≡ None }
@@ -95,11 +104,11 @@ pub trait Look {
         ensures looks { OnOk result (looks self.old self.new) }
         ensures fails { OnErr result (fails self.old self.new) };
 
-    /// The settings that INIT agreed on, where there was one.
-    fn settings(&mut self) -> Result<Option<Settings>, LookFault>
+    /// The profile of the tree, and the settings that INIT agreed on.
+    fn agreement(&mut self) -> Result<Agreement, LookFault>
         requires { fault self.old ≡ None }
         ensures row { is_clean self.new → (rows : Rows) → IsRowed rows → sees self.old rows
-            → IfOk result (λ row. row ≡ rows.settings) }
+            → IfOk result (λ row. row ≡ agreement_at rows) }
         ensures fault { fault self.new ≡ result_err result }
         ensures looks { OnOk result (looks self.old self.new) }
         ensures fails { OnErr result (fails self.old self.new) };

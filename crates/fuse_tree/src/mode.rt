@@ -16,6 +16,9 @@ pub const S_IFIFO: u32 = 0o010000;
 /// A socket.
 pub const S_IFSOCK: u32 = 0o140000;
 
+/// What is made in a directory with this bit gets its group.
+pub const S_ISGID: u32 = 0o2000;
+
 /// A mode's bits below this one are the permissions. It and the next three are the type.
 pub const TYPE_UNIT: u32 = 0o10000;
 

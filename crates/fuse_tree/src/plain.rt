@@ -3,10 +3,11 @@ mod entries;
 mod handles;
 mod nodes;
 
+use crate::agreement::Agreement;
 use crate::look::{Look, LookFault};
 use crate::plain::nodes::NodeList;
-use crate::rows::{Change, ChangeList, Counters, EntryRow, HandleRow, NodeRow};
-use fuse_init::Settings;
+use crate::rows::{Change, ChangeList, Counters, EntryRow, HandleRow, NodeRow, Room};
+use fuse_init::{Profile, Settings};
 use fuse_wire::{ByteList, Memory, Moment};
 use std::alloc::Global;
 
@@ -29,12 +30,17 @@ impl PlainRows {
     ghost use Rattle.fuse_tree.specs.State.{new_store};
     ghost use Rattle.fuse_tree.specs.Rows.{rowed, apply_one, apply, put_node, at_node, written};
     ghost use Rattle.fuse_tree.specs.Rows.{sized};
-    ghost use Rattle.fuse_tree.specs.Clearing.{cleared_rows};
+    ghost use Rattle.fuse_tree.specs.Clearing.{cleared_rows, cleared_room};
     ghost use Rattle.fuse_tree.specs.PlainRows.{rows_of, fault_of};
 
-    /// A new store, made at this moment.
-    pub(crate) fn new(alloc: Global, now: Moment) -> Result<PlainRows, Memory>
-        ensures rows { IfOk result (λ p. rows_of p ≡ rowed (new_store now)) }
+    /// A new store of this profile and capacity, made at this moment.
+    pub(crate) fn new(
+        alloc: Global,
+        profile: Profile,
+        capacity: u64,
+        now: Moment,
+    ) -> Result<PlainRows, Memory>
+        ensures rows { IfOk result (λ p. rows_of p ≡ rowed (new_store profile capacity now)) }
         ensures fault { IfOk result (λ p. fault_of p ≡ None) }
     {
         let mut nodes = NodeList::new(alloc);
@@ -50,6 +56,7 @@ impl PlainRows {
                 next_cookie: 3,
                 nodes: 1,
                 handles: 0,
+                room: new_room(profile, capacity),
             },
             settings: None,
             failed: false,
@@ -80,6 +87,10 @@ impl PlainRows {
     {
         match change {
             Change::Node(row) => self.put_node(row),
+            Change::NodeGone { node } => {
+                self.remove_node(node);
+                Ok(())
+            }
             Change::Entry(entry) => self.add_entry(entry),
             Change::EntryGone { cookie } => {
                 self.remove_entry(cookie);
@@ -124,11 +135,25 @@ impl PlainRows {
         ensures rows { rows_of self.new ≡ cleared_rows (rows_of self.old) }
         ensures fault { fault_of self.new ≡ fault_of self.old }
     {
+        self.counters.room = self.room_left();
         self.nodes.keep_named();
         self.handles.clear();
         self.counters.nodes = self.nodes.len() as u64;
         self.counters.handles = 0;
         self.settings = None;
+    }
+
+    // The room without the nodes that have no name.
+    fn room_left(&self) -> Option<Room>
+        ensures { result ≡ cleared_room (rows_of self.now).nodes (rows_of self.now).counters.room }
+    {
+        match self.counters.room {
+            None => None,
+            Some(room) => Some(Room {
+                capacity: room.capacity,
+                used: self.nodes.left_of(room.used),
+            }),
+        }
     }
 
     /// The counters, by a look that cannot fail.
@@ -152,6 +177,16 @@ impl PlainRows {
         ensures fault { fault_of self.new ≡ fault_of self.old }
     {
         self.nodes.put(self.alloc, row)
+    }
+
+    fn remove_node(&mut self, node: u64)
+        ensures rows { rows_of self.new ≡ record (rows_of self.old) {
+          nodes = filter
+              (λ f. not (f.row.node == node)) (rows_of self.old).nodes;
+        } }
+        ensures fault { fault_of self.new ≡ fault_of self.old }
+    {
+        self.nodes.remove(node);
     }
 
     fn add_entry(&mut self, entry: EntryRow) -> Result<(), Memory>
@@ -267,6 +302,16 @@ impl Look for PlainRows {
         Ok(handles::found(self.handles.as_slice(), fh))
     }
 
+    fn handles_of(&mut self, node: u64, limit: usize) -> Result<Vec<HandleRow>, LookFault> {
+        match handles::at_node(self.alloc, self.handles.as_slice(), node, limit) {
+            Ok(handles) => Ok(handles),
+            Err(Memory) => {
+                self.failed = true;
+                Err(LookFault::Memory)
+            }
+        }
+    }
+
     fn bytes(&mut self, node: u64, offset: u64, len: u32) -> Result<ByteList, LookFault> {
         match self.nodes.bytes(self.alloc, node, offset, len) {
             Ok(bytes) => Ok(bytes),
@@ -281,8 +326,11 @@ impl Look for PlainRows {
         Ok(self.counters)
     }
 
-    fn settings(&mut self) -> Result<Option<Settings>, LookFault> {
-        Ok(self.settings)
+    fn agreement(&mut self) -> Result<Agreement, LookFault> {
+        Ok(Agreement {
+            profile: self.counters.profile(),
+            settings: self.settings,
+        })
     }
 
     fn failed(&self) -> Option<LookFault> {
@@ -304,4 +352,19 @@ impl Look for PlainRows {
     ghost was_clean = { λ a b p clean. tt };
 
     ghost kept = { λ a b p clean rows e. sym p ∙ e };
+}
+
+ghost use Rattle.std.specs.Prelude.{◌≡◌};
+ghost use Rattle.std.specs.Option.{option_map};
+ghost use Rattle.fuse_tree.specs.State.{capacity_for};
+
+// The room of a new store, which has no blocks in use.
+fn new_room(profile: Profile, capacity: u64) -> Option<Room>
+    ensures { result ≡ option_map (λ c. record { capacity = c; used = 0 })
+        (capacity_for profile capacity) }
+{
+    match profile {
+        Profile::Plain => None,
+        Profile::Everyday => Some(Room { capacity, used: 0 }),
+    }
 }

@@ -1,25 +1,45 @@
 // The tree in memory as a file system.
-ghost use Rattle.std.specs.Prelude.{◌≡◌, None};
+ghost use Rattle.std.specs.Prelude.{◌≡◌, None, IfOk};
 ghost use Rattle.fuse_tree.specs.PlainRows.{fault_of};
-ghost use Rattle.fuse_tree.specs.TheTree.{the_tree};
+ghost use Rattle.fuse_tree.specs.State.{new_store};
+ghost use Rattle.fuse_tree.specs.Rows.{rowed};
+ghost use Rattle.fuse_tree.specs.TheTree.{tree_of};
 ghost use Rattle.fuse_tree.specs.PlainTree.{tree_held};
 ghost use Rattle.fuse_tree.specs.inner.Causing.{CausedBy};
 
 use crate::laws::{answers_fit, new_store_is_tree, tree_kept};
+use crate::limits::DEFAULT_CAPACITY;
 use crate::mount::clearing;
 use crate::plain::PlainRows;
 use crate::planning::{PlanFault, plan};
+use crate::terms::serves_further;
 use fuse_answer::Answer;
-use fuse_init::Settings;
+use fuse_init::{Profiled, Settings};
 use fuse_keeper::{FileSystem, StoreFault};
 use fuse_request::Request;
 use fuse_wire::{Memory, Moment};
 use std::alloc::Global;
+use std::marker::PhantomData;
 
-/// A tree whose rows are lists.
+/// A tree of this profile whose rows are lists.
 #[derive(Drop)]
-pub struct PlainTree {
+pub struct PlainTree<P> {
     rows: PlainRows,
+    of: PhantomData<P>,
+}
+
+impl<P: Profiled> PlainTree<P> {
+    /// A new one with this capacity, in blocks, made at this moment. A plain tree has none.
+    pub fn sized(alloc: Global, now: Moment, capacity: u64) -> Result<PlainTree<P>, Memory>
+        ensures held { IfOk result (λ t. tree_held t ≡ rowed (new_store P.PROFILE capacity now)) }
+        ensures ready { IfOk result (λ t. fault_of t.rows ≡ None) }
+    {
+        let rows = PlainRows::new(alloc, P::PROFILE, capacity, now)?;
+        Ok(PlainTree {
+            rows,
+            of: PhantomData,
+        })
+    }
 }
 
 // The store's fault for a plan's. A look at lists fails only where it is out of memory.
@@ -33,21 +53,19 @@ fn fault_of_plan(fault: PlanFault) -> StoreFault
     }
 }
 
-impl FileSystem for PlainTree {
-    ghost model = { the_tree };
+impl<P: Profiled> FileSystem for PlainTree<P> {
+    ghost model = { tree_of P.PROFILE };
 
     ghost held = { tree_held };
 
     ghost is_ready = { λ t. fault_of t.rows ≡ None };
 
-    /// The tree serves the opcodes of the profile.
     fn serves(opcode: u32) -> bool {
-        false
+        serves_further(P::PROFILE, opcode)
     }
 
-    fn start(alloc: Global, now: Moment) -> Result<PlainTree, Memory> {
-        let rows = PlainRows::new(alloc, now)?;
-        Ok(PlainTree { rows })
+    fn start(alloc: Global, now: Moment) -> Result<PlainTree<P>, Memory> {
+        PlainTree::sized(alloc, now, DEFAULT_CAPACITY)
     }
 
     fn act(
@@ -56,6 +74,7 @@ impl FileSystem for PlainTree {
         request: &Request<'_>,
         now: Moment,
     ) -> Result<Answer, StoreFault> {
+        tree_kept();
         let planned = match plan(alloc, &mut self.rows, request, now) {
             Ok(planned) => planned,
             Err(fault) => return Err(fault_of_plan(fault)),
@@ -64,9 +83,12 @@ impl FileSystem for PlainTree {
         Ok(planned.answer)
     }
 
-    fn to_copy(&self) -> Result<PlainTree, Memory> {
+    fn to_copy(&self) -> Result<PlainTree<P>, Memory> {
         let rows = self.rows.to_copy()?;
-        Ok(PlainTree { rows })
+        Ok(PlainTree {
+            rows,
+            of: PhantomData,
+        })
     }
 
     fn begin_mount(&mut self) {

@@ -26,20 +26,24 @@ mod open;
 mod read;
 mod read_dir;
 mod release;
+mod removal;
 mod remove;
 mod rename;
 mod rmdir;
 mod setattr;
+mod space;
 mod unlink;
 mod walking;
 mod write;
 
+use crate::agreement::Agreement;
 use crate::laws::answers_are_read;
 use crate::look::Look;
 use crate::rows::{NodeRow, Planned};
+use crate::terms::open_flags;
 use answers::{done_nothing, refused};
 pub use fault::PlanFault;
-use finding::{find_node, has_settings};
+use finding::{find_agreement, find_node};
 use fuse_request::{Op, Request};
 use fuse_wire::{Errno, Moment};
 use getattr::plan_getattr;
@@ -97,25 +101,27 @@ fn plan_request<L: Look>(
     ensures { LooksUp (view L.is_clean L.sees L.fault L.looks L.fails) look.old look.new result
         (plan_of (asked request.now) now) }
 {
+    let agreement = find_agreement(look)?;
     if let Op::Init(offer) = &request.op {
-        return Ok(plan_init(alloc, offer)?);
+        return Ok(plan_init(alloc, agreement.profile, offer)?);
     }
-    if !has_settings(look)? {
+    if agreement.settings.is_none() {
         return Ok(refused(alloc, Errno::EPROTO));
     }
-    plan_agreed(alloc, look, request, now)
+    plan_agreed(alloc, look, &agreement, request, now)
 }
 
 #[tactic(auto, using(crate::proofs::Agreeing::looks_at_node))]
 fn plan_agreed<L: Look>(
     alloc: Global,
     look: &mut L,
+    agreement: &Agreement,
     request: &Request<'_>,
     now: Moment,
 ) -> Result<Planned, PlanFault>
     requires { L.fault look.old ≡ None }
     ensures { LooksUp (view L.is_clean L.sees L.fault L.looks L.fails) look.old look.new result
-        (planned_agreed (asked request.now) now) }
+        (planned_agreed agreement.now (asked request.now) now) }
 {
     if let Op::Destroy = request.op {
         return Ok(done_nothing(alloc));
@@ -123,13 +129,14 @@ fn plan_agreed<L: Look>(
     let Some(row) = find_node(look, request.header.nodeid)? else {
         return Ok(refused(alloc, Errno::ESTALE));
     };
-    plan_op(alloc, look, request, now, &row)
+    plan_op(alloc, look, agreement, request, now, &row)
 }
 
 // The operation, at the node of the header. The last line is of requests that are not performed.
 fn plan_op<L: Look>(
     alloc: Global,
     look: &mut L,
+    agreement: &Agreement,
     request: &Request<'_>,
     now: Moment,
     row: &NodeRow,
@@ -137,19 +144,30 @@ fn plan_op<L: Look>(
     requires fault { L.fault look.old ≡ None }
     requires within { IsWithin row.now }
     ensures { LooksUp (view L.is_clean L.sees L.fault L.looks L.fails) look.old look.new result
-        (plan_act request.now.header (act request.now.op) now row.now) }
+        (plan_act agreement.now request.now.header (act request.now.op) now row.now) }
 {
     match &request.op {
-        Op::Getattr { .. } => Ok(plan_getattr(alloc, row)?),
-        Op::Setattr(set) => Ok(plan_setattr(alloc, set, now, row)?),
-        Op::OpenFile { flags, .. } => plan_open(alloc, look, *flags, row),
+        Op::Getattr { .. } => Ok(plan_getattr(alloc, agreement, row)?),
+        Op::Setattr(set) => plan_setattr(alloc, look, agreement, set, now, row),
+        Op::OpenFile { flags, .. } => {
+            plan_open(alloc, look, open_flags(agreement.profile), *flags, row)
+        }
         Op::Read(asked) => plan_read(alloc, look, asked, row),
         Op::Write {
             fh,
             offset,
             payload,
             ..
-        } => plan_write(alloc, look, *fh, *offset, payload, now, row),
+        } => plan_write(
+            alloc,
+            look,
+            agreement.profile,
+            *fh,
+            *offset,
+            payload,
+            now,
+            row,
+        ),
         Op::OpenDir { .. } => plan_open_dir(alloc, look, row),
         Op::ReadDir(asked) => plan_read_dir(alloc, look, asked, row),
         Op::Release(release) => plan_release(alloc, look, release.fh, row),
@@ -160,7 +178,7 @@ fn plan_op<L: Look>(
         | Op::Unlink { .. }
         | Op::Rmdir { .. }
         | Op::Rename { .. }
-        | Op::Rename2 { .. } => plan_named(alloc, look, request, now, row),
+        | Op::Rename2 { .. } => plan_named(alloc, look, agreement, request, now, row),
         Op::Destroy
         | Op::Forget { .. }
         | Op::Init(_)
@@ -174,6 +192,7 @@ fn plan_op<L: Look>(
 fn plan_named<L: Look>(
     alloc: Global,
     look: &mut L,
+    agreement: &Agreement,
     request: &Request<'_>,
     now: Moment,
     row: &NodeRow,
@@ -182,12 +201,21 @@ fn plan_named<L: Look>(
     requires within { IsWithin row.now }
     requires named { tells_name (act request.now.op) ≡ true }
     ensures { LooksUp (view L.is_clean L.sees L.fault L.looks L.fails) look.old look.new result
-        (plan_act request.now.header (act request.now.op) now row.now) }
+        (plan_act agreement.now request.now.header (act request.now.op) now row.now) }
 {
     match &request.op {
-        Op::Lookup { name } => plan_lookup(alloc, look, name, row),
+        Op::Lookup { name } => plan_lookup(alloc, look, agreement, name, row),
         Op::Mkdir { mode, name, .. } => {
-            plan_mkdir(alloc, look, &request.header, *mode, name, now, row)
+            plan_mkdir(
+                alloc,
+                look,
+                agreement,
+                &request.header,
+                *mode,
+                name,
+                now,
+                row,
+            )
         }
         Op::Mknod {
             mode,
@@ -200,10 +228,10 @@ fn plan_named<L: Look>(
                 rdev: *rdev,
                 name,
             };
-            plan_mknod(alloc, look, &request.header, &asked, now, row)
+            plan_mknod(alloc, look, agreement, &request.header, &asked, now, row)
         }
-        Op::Unlink { name } => plan_unlink(alloc, look, name, now, row),
-        Op::Rmdir { name } => plan_rmdir(alloc, look, name, now, row),
+        Op::Unlink { name } => plan_unlink(alloc, look, agreement.profile, name, now, row),
+        Op::Rmdir { name } => plan_rmdir(alloc, look, agreement.profile, name, now, row),
         Op::Rename {
             new_dir,
             old_name,

@@ -1,6 +1,6 @@
 use crate::limits::ROOT_ID;
 use fuse_answer::Answer;
-use fuse_init::Settings;
+use fuse_init::{Profile, Settings};
 use fuse_wire::{AccessMode, ByteList, Moment};
 use std::marker::Model;
 
@@ -68,6 +68,30 @@ pub struct Counters {
     pub next_cookie: u64,
     pub nodes: u64,
     pub handles: u64,
+    /// Only an everyday store counts its blocks.
+    pub room: Option<Room>,
+}
+
+/// The blocks of a store, those in use, and those that it has room for.
+#[derive(Clone, Copy, Debug, PartialEq, Eq)]
+pub struct Room {
+    pub capacity: u64,
+    pub used: u64,
+}
+
+impl Counters {
+    ghost use Rattle.std.specs.Prelude.{◌≡◌};
+    ghost use Rattle.fuse_tree.specs.State.{profile_for};
+
+    /// The profile of their store.
+    pub fn profile(&self) -> Profile
+        ensures { result ≡ profile_for self.now.room }
+    {
+        match self.room {
+            None => Profile::Plain,
+            Some(_) => Profile::Everyday,
+        }
+    }
 }
 
 /// One change of the rows.
@@ -75,6 +99,10 @@ pub struct Counters {
 pub enum Change {
     /// A node's row, in place of the one with its number where there is one. The bytes stay.
     Node(NodeRow),
+    /// The node's row and its bytes.
+    NodeGone {
+        node: u64,
+    },
     /// An entry, after the others.
     Entry(EntryRow),
     EntryGone {

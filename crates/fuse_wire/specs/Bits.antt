@@ -1,4 +1,4 @@
--- Bits with names (fuse.h: FATTR_*, the flags of INIT, FUSE_UNIQUE_RESEND; Linux: O_ACCMODE and what it masks).
+-- Bits with names (fuse.h: FATTR_*, the flags of INIT, FOPEN_KEEP_CACHE, FUSE_UNIQUE_RESEND; Linux: O_ACCMODE and what it masks).
 use Rattle.std.specs.Prelude.{ℕ, ◌^◌}
 use Rattle.fuse_wire.specs.declared.init_flags.InitFlags.{InitFlags}
 use Rattle.fuse_wire.specs.declared.setattr_valid.SetattrValid.{SetattrValid}
@@ -53,6 +53,18 @@ fuse_async_read = record { 0 = bit 0 }
 abbrev pub fuse_big_writes : InitFlags
 fuse_big_writes = record { 0 = bit 5 }
 
+abbrev pub fuse_do_readdirplus : InitFlags
+fuse_do_readdirplus = record { 0 = bit 13 }
+
+abbrev pub fuse_readdirplus_auto : InitFlags
+fuse_readdirplus_auto = record { 0 = bit 14 }
+
+abbrev pub fuse_parallel_dirops : InitFlags
+fuse_parallel_dirops = record { 0 = bit 18 }
+
+abbrev pub fuse_cache_symlinks : InitFlags
+fuse_cache_symlinks = record { 0 = bit 23 }
+
 abbrev pub fuse_init_ext : InitFlags
 fuse_init_ext = record { 0 = bit 30 }
 
@@ -72,6 +84,11 @@ o_wronly = 1
 
 abbrev pub o_rdwr : ℕ
 o_rdwr = 2
+
+-- ---- flags that OPEN is answered with
+
+abbrev pub fopen_keep_cache : ℕ
+fopen_keep_cache = bit 1
 
 -- ---- unique of a resend
 

@@ -106,6 +106,9 @@ fuse_batch_forget = 42
 abbrev pub fuse_fallocate : ℕ
 fuse_fallocate = 43
 
+abbrev pub fuse_readdirplus : ℕ
+fuse_readdirplus = 44
+
 abbrev pub fuse_rename2 : ℕ
 fuse_rename2 = 45
 

@@ -13,6 +13,10 @@ pub const O_WRONLY: u32 = 1;
 /// For both.
 pub const O_RDWR: u32 = 2;
 
+/// A flag that OPEN is answered with: the kernel keeps what it has of the file's content.
+/// `FOPEN_KEEP_CACHE` of `fuse.h`.
+pub const FOPEN_KEEP_CACHE: u32 = 2;
+
 /// How an open file may be used.
 #[derive(Clone, Copy, Debug, PartialEq, Eq)]
 pub enum AccessMode {

@@ -4,7 +4,7 @@ ghost use Rattle.fuse_wire.specs.Bits as bits;
 ghost use Rattle.fuse_wire.specs.Errnos as errnos;
 ghost use Rattle.fuse_wire.specs.Opcodes as opcodes;
 
-use crate::access_mode::{O_ACCMODE, O_RDONLY, O_RDWR, O_WRONLY};
+use crate::access_mode::{FOPEN_KEEP_CACHE, O_ACCMODE, O_RDONLY, O_RDWR, O_WRONLY};
 use crate::errno::Errno;
 use crate::id::UNIQUE_RESEND;
 use crate::init_flags::InitFlags;
@@ -49,6 +49,7 @@ pub fn opcode_numbers()
     ensures access { ACCESS ≡ opcodes.fuse_access }
     ensures create { CREATE ≡ opcodes.fuse_create }
     ensures fallocate { FALLOCATE ≡ opcodes.fuse_fallocate }
+    ensures readdirplus { READDIRPLUS ≡ opcodes.fuse_readdirplus }
     ensures lseek { LSEEK ≡ opcodes.fuse_lseek }
     ensures copy_file_range { COPY_FILE_RANGE ≡ opcodes.fuse_copy_file_range }
 {}
@@ -92,15 +93,21 @@ pub fn valid_numbers()
 pub fn init_flag_numbers()
     ensures async_read { InitFlags.ASYNC_READ ≡ bits.fuse_async_read }
     ensures big_writes { InitFlags.BIG_WRITES ≡ bits.fuse_big_writes }
+    ensures do_readdirplus { InitFlags.DO_READDIRPLUS ≡ bits.fuse_do_readdirplus }
+    ensures readdirplus_auto { InitFlags.READDIRPLUS_AUTO ≡ bits.fuse_readdirplus_auto }
+    ensures parallel_dirops { InitFlags.PARALLEL_DIROPS ≡ bits.fuse_parallel_dirops }
+    ensures cache_symlinks { InitFlags.CACHE_SYMLINKS ≡ bits.fuse_cache_symlinks }
     ensures init_ext { InitFlags.INIT_EXT ≡ bits.fuse_init_ext }
     ensures has_resend { InitFlags.HAS_RESEND ≡ bits.fuse_has_resend }
 {}
 
-/// The access bits of OPEN's flags are those of Linux, and the bit of a resend is that of `fuse.h`.
+/// The access bits of OPEN's flags are those of Linux. The flag that OPEN is answered and the bit
+/// of a resend are those of `fuse.h`.
 pub fn access_numbers()
     ensures o_accmode { O_ACCMODE ≡ bits.o_accmode }
     ensures o_rdonly { O_RDONLY ≡ bits.o_rdonly }
     ensures o_wronly { O_WRONLY ≡ bits.o_wronly }
     ensures o_rdwr { O_RDWR ≡ bits.o_rdwr }
+    ensures fopen_keep_cache { FOPEN_KEEP_CACHE ≡ bits.fopen_keep_cache }
     ensures resend { UNIQUE_RESEND ≡ bits.fuse_unique_resend }
 {}

@@ -11,6 +11,10 @@ bitflag_items! {
     impl InitFlags: u64 {
         const ASYNC_READ = 0x1;
         const BIG_WRITES = 0x20;
+        const DO_READDIRPLUS = 0x2000;
+        const READDIRPLUS_AUTO = 0x4000;
+        const PARALLEL_DIROPS = 0x4_0000;
+        const CACHE_SYMLINKS = 0x80_0000;
         const INIT_EXT = 0x4000_0000;
         const HAS_RESEND = 0x80_0000_0000;
     }
@@ -22,6 +26,8 @@ impl Flags for InitFlags {
     ghost exact = { ⊤ };
 
     ghost table = { (codes "ASYNC_READ", 0x1) ∷ (codes "BIG_WRITES", 0x20)
+        ∷ (codes "DO_READDIRPLUS", 0x2000) ∷ (codes "READDIRPLUS_AUTO", 0x4000)
+        ∷ (codes "PARALLEL_DIROPS", 0x4_0000) ∷ (codes "CACHE_SYMLINKS", 0x80_0000)
         ∷ (codes "INIT_EXT", 0x4000_0000) ∷ (codes "HAS_RESEND", 0x80_0000_0000) ∷ [] };
 
     ghost set_of = { λ f. f.0 };

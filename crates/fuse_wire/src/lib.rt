@@ -18,7 +18,7 @@ mod places;
 mod put;
 mod setattr_valid;
 
-pub use access_mode::{AccessMode, O_ACCMODE, O_RDONLY, O_RDWR, O_WRONLY};
+pub use access_mode::{AccessMode, FOPEN_KEEP_CACHE, O_ACCMODE, O_RDONLY, O_RDWR, O_WRONLY};
 pub use byte_list::ByteList;
 pub use constants::{
     access_numbers, errno_numbers, init_flag_numbers, opcode_numbers, valid_numbers,

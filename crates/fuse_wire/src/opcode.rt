@@ -105,6 +105,9 @@ pub const BATCH_FORGET: u32 = 42;
 /// Allocates or frees room of a file.
 pub const FALLOCATE: u32 = 43;
 
+/// Reads entries of an open directory, and what LOOKUP answers for each.
+pub const READDIRPLUS: u32 = 44;
+
 /// Renames by flags: exchanging two names, or only where the new one is free.
 pub const RENAME2: u32 = 45;
 

@@ -4,7 +4,6 @@
 
 mod serve;
 mod show;
-mod simulate;
 mod snapshot;
 
 use clap::Error;
@@ -13,14 +12,15 @@ use fuse_commands::{
     Ending, ProgressReader, Run, STANDARD_INPUT, START, Work, parse, run_check, run_dump,
     run_replay, unreadable,
 };
-use fuse_files::replay_store;
-use fuse_store::{PlainKeeper, PlainTree};
+use fuse_files::{Show, replay_store, simulate_store};
+use fuse_init::PlainProfile;
+use fuse_store::{PlainKeeper, PlainTree, StoreKind};
 use fuse_store_files::StoreFiles;
 use fuse_wire::Moment;
 use serve::serve_as_asked;
-use show::{Show, show_store};
-use simulate::simulate_in_memory;
-use sqlite::{Start, Unknown, Wary};
+use show::show_file;
+use sqlite::{Files, Start, Unknown, Wary};
+use sqlite_disk::Memory;
 use std::alloc::Global;
 use std::io::{BufWriter, IsTerminal, Read, Write};
 use std::process::ExitCode;
@@ -73,19 +73,11 @@ fn run(rt: &HostRuntime) -> Ending {
                 serve_as_asked(rt, db, Unknown, begin, at)
             }
         }
-        Ok(Run::Store { file }) => ended(show_store(rt, file, Show::Summary)),
-        Ok(Run::List { file, path }) => ended(show_store(rt, file, Show::Directory(path))),
-        Ok(Run::Cat { file, path }) => ended(show_store(rt, file, Show::File(path))),
+        Ok(Run::Store { file }) => show_file(rt, file, Show::Summary),
+        Ok(Run::List { file, path }) => show_file(rt, file, Show::Directory(path)),
+        Ok(Run::Cat { file, path }) => show_file(rt, file, Show::File(path)),
         Ok(Run::Read { input, work }) => run_on_input(rt, input, work),
         Err(error) => refuse(rt, error),
-    }
-}
-
-// The ending of a read-only command.
-fn ended(shown: Result<(), Ending>) -> Ending {
-    match shown {
-        Ok(()) => Ending::Done,
-        Err(ending) => ending,
     }
 }
 
@@ -165,7 +157,7 @@ fn replay_in_memory<R: Read + Drop, W: Write>(
     writer: &mut W,
     moment: Moment,
 ) -> Ending {
-    let Ok(mut keeper) = PlainKeeper::<PlainTree>::new(alloc, START) else {
+    let Ok(mut keeper) = PlainKeeper::<PlainTree<PlainProfile>>::new(alloc, START) else {
         return Ending::Memory;
     };
     run_replay(alloc, &mut keeper, reader, writer, moment)
@@ -181,9 +173,22 @@ fn replay_on_file<S: Start, R: Read + Drop, W: Write>(
     moment: Moment,
 ) -> Ending {
     let files = StoreFiles::at(rt, file, start);
-    let (ending, left) = replay_store(rt.alloc(), files, reader, writer, moment);
+    let (ending, left) = replay_store(rt.alloc(), files, StoreKind::PLAIN, reader, writer, moment);
     if let Some(left) = left {
         let _files = left.into_files();
     }
     ending
+}
+
+// Runs a script over a new store in two files in memory.
+fn simulate_in_memory<R: Read + Drop, W: Write>(
+    alloc: Global,
+    reader: R,
+    writer: &mut W,
+) -> Ending {
+    let files = Files {
+        log: Memory::new(alloc),
+        db: Memory::new(alloc),
+    };
+    simulate_store::<PlainProfile, _, _, _>(alloc, files, 0, reader, writer)
 }

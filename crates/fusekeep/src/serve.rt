@@ -2,6 +2,7 @@
 use fuse_commands::{Begin, CountLine, Ending};
 use fuse_files::{StoreRun, serve_store};
 use fuse_session::{Clock, Fixed, System};
+use fuse_store::StoreKind;
 use fuse_store_files::StoreFiles;
 use fuse_wire::Moment;
 use sqlite::Start;
@@ -40,7 +41,15 @@ fn serve_on_files<S: Start, C: Clock>(
         ending,
         counts,
         left,
-    } = serve_store(alloc, files, rt.stdin(), rt.stdout(), clock, begin);
+    } = serve_store(
+        alloc,
+        files,
+        rt.stdin(),
+        rt.stdout(),
+        clock,
+        begin,
+        StoreKind::PLAIN,
+    );
     if let Some(counts) = counts
         && ending.is_of_stream()
     {

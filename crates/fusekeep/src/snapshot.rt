@@ -1,11 +1,8 @@
-//! A copy of a store in memory, so that reading a store does not change its files.
-ghost use Rattle.std.specs.Prelude.{IsTrue, IfOk};
-ghost use Rattle.sqlite_disk.specs.Memory.{memory_is_usable};
+//! The bytes of the files of a store, read so that the files stay as they are.
+ghost use Rattle.std.specs.Prelude.{◌≡◌, IfOk, IfSome};
 
 use fuse_commands::Ending;
-use fuse_store::opening_fault;
-use sqlite::{Connection, FileStore, Files, Options};
-use sqlite_disk::{Disk, Memory};
+use fuse_files::StoreBytes;
 use std::alloc::Global;
 use std::fs;
 use std::io::{self, Read};
@@ -24,22 +21,13 @@ fn refusal(error: &io::Error) -> Ending {
 }
 
 // All bytes of a reader.
-fn read_all<R: Read + Drop>(alloc: Global, mut reader: R) -> Result<Vec<u8>, Ending> {
+fn read_all<R: Read + Drop>(alloc: Global, mut reader: R) -> Result<Vec<u8>, Ending>
+    ensures { IfSome (R.remaining reader) (λ all. IfOk result (λ bytes. bytes.items ≡ all)) }
+{
     let mut bytes = Vec::new(alloc);
     match reader.read_to_end(&mut bytes) {
         Ok(_) => Ok(bytes),
         Err(error) => Err(refusal(&error)),
-    }
-}
-
-// A disk in memory with these bytes.
-fn disk_of(alloc: Global, bytes: &[u8]) -> Result<Memory, Ending>
-    ensures { IfOk result (λ disk. IsTrue (memory_is_usable disk)) }
-{
-    let mut disk = Memory::new(alloc);
-    match disk.write_at(0, bytes) {
-        Ok(()) => Ok(disk),
-        Err(_) => Err(Ending::Memory),
     }
 }
 
@@ -94,34 +82,26 @@ fn read_file(rt: &HostRuntime, path: &str) -> Result<Vec<u8>, Ending> {
     }
 }
 
-// The files of a database, in memory. Pages are written to the log first and stay there when they are
-// copied into the file. So if the log is the same before and after reading the file, both together
-// are a committed state.
-fn files_of(rt: &HostRuntime, file: &str) -> Result<Files<Memory>, Ending>
-    ensures log { IfOk result (λ files. IsTrue (memory_is_usable files.log)) }
-    ensures db { IfOk result (λ files. IsTrue (memory_is_usable files.db)) }
-{
+// The bytes of the files of a database. Pages are written to the log first and stay there when they
+// are copied into the file. So if the log is the same before and after reading the file, both
+// together are a committed state.
+fn read_once(rt: &HostRuntime, file: &str) -> Result<StoreBytes, Ending> {
     if has_journal(rt, format!(in rt.alloc(); "{file}-journal")?.as_str()) {
         return Err(Ending::Sql);
     }
     let path = format!(in rt.alloc(); "{file}-wal")?;
-    let before = read_log(rt, path.as_str())?;
-    let found = read_file(rt, file)?;
-    if read_log(rt, path.as_str())?.as_slice() != before.as_slice() {
+    let log = read_log(rt, path.as_str())?;
+    let db = read_file(rt, file)?;
+    if read_log(rt, path.as_str())?.as_slice() != log.as_slice() {
         return Err(Ending::Busy);
     }
-    let log = disk_of(rt.alloc(), before.as_slice())?;
-    let db = disk_of(rt.alloc(), found.as_slice())?;
-    Ok(Files { log, db })
+    Ok(StoreBytes { log, db })
 }
 
 // The same, read again if a server wrote to the store meanwhile.
-fn files_at_rest(rt: &HostRuntime, file: &str) -> Result<Files<Memory>, Ending>
-    ensures log { IfOk result (λ files. IsTrue (memory_is_usable files.log)) }
-    ensures db { IfOk result (λ files. IsTrue (memory_is_usable files.db)) }
-{
+fn read_at_rest(rt: &HostRuntime, file: &str) -> Result<StoreBytes, Ending> {
     for _ in 0..TRIES {
-        match files_of(rt, file) {
+        match read_once(rt, file) {
             Err(Ending::Busy) => {}
             read => return read,
         }
@@ -134,13 +114,10 @@ fn is_no_file_name(name: &str) -> bool {
     name == ":memory:" || name.starts_with("file:")
 }
 
-/// Opens a copy of the database in a file, with its log. It fails where opening the file itself
-/// fails, except that the file may be read-only. It never creates the file. For a symbolic link the
-/// log is the one beside its target.
-pub(crate) fn open_snapshot(
-    rt: &HostRuntime,
-    file: &str,
-) -> Result<Connection<FileStore<Memory>>, Ending> {
+/// The bytes of the database in a file, and of its log. It fails where opening the file itself fails,
+/// except that the file may be read-only. It never creates the file. For a symbolic link the log is
+/// the one beside its target.
+pub(crate) fn read_store(rt: &HostRuntime, file: &str) -> Result<StoreBytes, Ending> {
     let real = match fs::canonicalize(rt, file) {
         Ok(real) => real,
         Err(error) => return Err(refusal(&error)),
@@ -148,9 +125,5 @@ pub(crate) fn open_snapshot(
     if is_no_file_name(file) {
         return Err(Ending::Sql);
     }
-    let files = files_at_rest(rt, real.as_str())?;
-    match Connection::open_files(rt.alloc(), files, Options::new(0)) {
-        Ok(conn) => Ok(conn),
-        Err((error, _)) => Err(Ending::of(opening_fault(error))),
-    }
+    read_at_rest(rt, real.as_str())
 }

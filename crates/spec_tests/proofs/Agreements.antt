@@ -3,7 +3,7 @@ use Rattle.std.proofs.Common.{refl}
 use Rattle.fuse_wire.specs.Bytes.{le}
 use Rattle.fuse_answer.specs.Bodies.{init_bytes}
 use Rattle.fuse_answer.specs.Wire.{wire, wire_head}
-use Rattle.spec_tests.specs.inner.InitCases.{InitAgreed, InitShort, InitNewerMajor, InitTooOld, NewerMinor, ExtIn16}
+use Rattle.spec_tests.specs.inner.InitCases.{InitAgreed, InitShort, InitNewerMajor, InitTooOld, NewerMinor, ExtIn16, InitKernel}
 
 pub init_agreed : InitAgreed
 unfolding le init_bytes wire wire_head
@@ -27,3 +27,7 @@ newer_minor = (refl, refl)
 
 pub ext_in_16 : ExtIn16
 ext_in_16 r = refl
+
+pub init_kernel : InitKernel
+unfolding le init_bytes wire wire_head
+init_kernel = (refl, refl, refl, refl)

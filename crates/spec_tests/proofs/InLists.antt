@@ -8,9 +8,11 @@ use Rattle.fuse_keeper.specs.declared.fault.StoreFault.{StoreFault}
 use Rattle.fuse_keeper.specs.declared.fault.StoreFault.TheVariants.{Memory as NoMemory}
 use Rattle.fuse_keeper.specs.declared.plain.PlainKeeper.{PlainKeeper}
 use Rattle.fuse_keeper.specs.Performance.{Performance}
+use Rattle.fuse_init.specs.declared.profile.PlainProfile.{PlainProfile}
 use Rattle.fuse_tree.specs.declared.plain_tree.PlainTree.{PlainTree}
 use Rattle.spec_tests.specs.inner.TreeInLists.{tree_told}
-use Rattle.fuse_tree.specs.TheTree.{the_tree}
+use Rattle.fuse_init.specs.declared.profile.Profile.TheVariants.{Plain}
+use Rattle.fuse_tree.specs.TheTree.{tree_of}
 use Rattle.fuse_sim.specs.declared.event.Event.{Event}
 use Rattle.fuse_sim.specs.Driving.{StandsIn, told_in}
 use Rattle.fuse_sim.specs.Twice.{Seen}
@@ -22,13 +24,13 @@ use Rattle.fuse_commands.specs.inner.Simulating.{SimulatedFrom, from_start}
 use Rattle.spec_tests.specs.InLists.{start, tree_text, Reuses, SimulatedAnew}
 
 abbrev Lists : Type 0
-Lists = PlainKeeper PlainTree
+Lists = PlainKeeper (PlainTree PlainProfile)
 
 abbrev Kept : Type 0
 Kept = Option Lists
 
 -- lists, with any relations of what became of them and of what they refuse
-abbrev pub seen : (Lists → Lists → ℕ → Type 0) → (Lists → Lists → List Performance → Type 0) → (Lists → StoreFault → Type 0) → Seen the_tree Lists
+abbrev pub seen : (Lists → Lists → ℕ → Type 0) → (Lists → Lists → List Performance → Type 0) → (Lists → StoreFault → Type 0) → Seen (tree_of Plain) Lists
 seen became performed may_refuse = record { told = tree_told; became = became; performed = performed; may_refuse = may_refuse }
 
 -- lists return what was written
@@ -36,12 +38,12 @@ good : (keeper : Kept) → IsSomeAnd keeper (λ k. (tree_told k).has_failed ≡ 
 good None none = absurd none
 good (Some k) going = tt
 
-same_text : (s : State) (events : List Event) → simulation_text the_tree s events ≡ tree_text s events
+same_text : (s : State) (events : List Event) → simulation_text (tree_of Plain) s events ≡ tree_text s events
 unfolding rowed
 same_text s events = refl
 
 anew : (old new : Option (List ℕ)) (script : List ℕ) (ending : Ending) → (1 ≤ status_of ending → status_of ending ≤ 3 → new ≡ old)
-    → SimulatedFrom the_tree start (Appends old new) script ending → SimulatedAnew old new script ending
+    → SimulatedFrom (tree_of Plain) start (Appends old new) script ending → SimulatedAnew old new script ending
 anew old new script Done silent so = (so.0, so.1, λ none. subst (Appends old new) (same_text start so.0) (so.2 none))
 anew old new script (ScriptLine n) silent so = (so, silent (omega arith) (omega arith))
 anew old new script ending silent so = absurd so

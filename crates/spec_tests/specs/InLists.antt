@@ -3,7 +3,8 @@ use Rattle.std.specs.Prelude.{◌≡◌, ℕ, List, [], ◌++◌, length, Option
 use Rattle.std.specs.Io.KnownBytes.{Appends}
 use Rattle.fuse_request.specs.Opcodes.{no_others}
 use Rattle.fuse_tree.specs.State.{State, new_store}
-use Rattle.fuse_tree.specs.TheTree.{the_tree}
+use Rattle.fuse_init.specs.declared.profile.Profile.TheVariants.{Plain}
+use Rattle.fuse_tree.specs.TheTree.{tree_of}
 use Rattle.fuse_sim.specs.declared.event.Event.{Event}
 use Rattle.fuse_sim.specs.Driving.{NoneReused}
 use Rattle.fuse_commands.specs.declared.ending.Ending.{Ending}
@@ -14,13 +15,13 @@ use Rattle.fuse_commands.specs.Simulating.{outcome_lines, outcomes_of, state_aft
 
 -- the new store
 abbrev pub start : State
-start = new_store (record { secs = 0; nanos = 0 })
+start = new_store Plain 0 (record { secs = 0; nanos = 0 })
 
 -- a line for each event, then the counts of the tree
 abbrev pub tree_text : State → List Event → List ℕ
 tree_text s events =
-    outcome_lines (outcomes_of the_tree s events)
-    ++ line (store_line (length (state_after the_tree s events).nodes) (length (state_after the_tree s events).handles))
+    outcome_lines (outcomes_of (tree_of Plain) s events)
+    ++ line (store_line (length (state_after (tree_of Plain) s events).nodes) (length (state_after (tree_of Plain) s events).handles))
 
 -- a message of the script comes again whose answer was taken
 abbrev pub Reuses : List ℕ → Type 0

@@ -6,3 +6,4 @@ pub mod Hex
 pub mod Links
 pub mod WireCases
 pub mod TreeInLists
+pub mod OnlySettings

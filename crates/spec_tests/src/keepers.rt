@@ -1,12 +1,13 @@
 //! Keepers of the tree in lists, and their counts.
 use crate::run::{Held, holding};
+use fuse_init::PlainProfile;
 use fuse_keeper::{Keeper, PlainKeeper};
 use fuse_tree::PlainTree;
 use fuse_wire::{Memory, Moment};
 use std::alloc::Global;
 
 /// A keeper of the tree in memory.
-pub type TreeKeeper = PlainKeeper<PlainTree>;
+pub type TreeKeeper = PlainKeeper<PlainTree<PlainProfile>>;
 
 pub const START: Moment = Moment { secs: 0, nanos: 0 };
 

@@ -4,6 +4,7 @@ ghost use Rattle.fuse_commands.specs.Endings.{status_of};
 ghost use Rattle.spec_tests.specs.InLists.{Reuses, SimulatedAnew};
 
 use fuse_commands::{Ending, START, run_simulate};
+use fuse_init::PlainProfile;
 use fuse_keeper::PlainKeeper;
 use fuse_tree::PlainTree;
 use std::alloc::Global;
@@ -21,7 +22,7 @@ pub fn simulate_in_lists<R: Read + Drop, W: Write>(
     // Lists have no fault, unless a message comes again whose answer was taken.
     ensures store { IfSome (R.remaining reader) (λ script. status_of result ≡ 3 → Reuses script) }
 {
-    let Ok(keeper) = PlainKeeper::<PlainTree>::new(alloc, START) else {
+    let Ok(keeper) = PlainKeeper::<PlainTree<PlainProfile>>::new(alloc, START) else {
         return Ending::Memory;
     };
     let mut keeper = Some(keeper);

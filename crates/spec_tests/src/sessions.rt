@@ -10,9 +10,11 @@ use std::alloc::{AllocError, Global};
 
 mod clocks;
 mod devices;
+mod epochs;
 mod mounts;
 mod opcodes;
 mod ports;
+mod resumes;
 mod running;
 
 // The pieces in which bytes arrive, and the outcome of each send.
@@ -54,6 +56,7 @@ enum EndKind {
     PortFailed,
     StoreMemory,
     Memory,
+    NotOffered,
     // The keeper had failed before.
     Failed,
     Other,
@@ -78,7 +81,7 @@ fn kind_of(ended: &Ended) -> EndKind {
 
 fn kind_of_resume(fault: &ResumeFault) -> EndKind {
     match fault {
-        ResumeFault::NotOffered => EndKind::Other,
+        ResumeFault::NotOffered => EndKind::NotOffered,
         ResumeFault::PortFailed => EndKind::PortFailed,
         ResumeFault::Store(fault) => kind_of_store(fault),
     }

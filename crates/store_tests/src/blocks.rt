@@ -12,7 +12,7 @@ const BLOCKS: &str =
 
 fn begun(alloc: Global) -> Result<Connection<MemStore>, StoreFault> {
     let mut conn = Connection::open_in_memory(alloc)?;
-    make_store(&mut conn, Moment { secs: 0, nanos: 0 })?;
+    make_store(&mut conn, None, Moment { secs: 0, nanos: 0 })?;
     fuse_store_tables::begin(&mut conn)?;
     Ok(conn)
 }

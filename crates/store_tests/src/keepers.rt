@@ -1,4 +1,5 @@
 //! A keeper over the tables: each of its calls.
+use fuse_init::PlainProfile;
 use fuse_request::{InHeader, InitIn, Op, Request};
 use fuse_store::{Done, Keeper, Restart, StoreFault, TableKeeper};
 use fuse_wire::{Id, Moment};
@@ -14,11 +15,11 @@ const AT_1000: Moment = Moment {
 
 const RESEND: u64 = 0x8000_0000_0000_0000;
 
-type MemKeeper = TableKeeper<MemStore>;
+type MemKeeper = TableKeeper<PlainProfile, MemStore>;
 
 fn made(alloc: Global) -> Result<MemKeeper, StoreFault> {
     let conn = Connection::open_in_memory(alloc)?;
-    match TableKeeper::create(alloc, conn, START) {
+    match TableKeeper::create(alloc, conn, 0, START) {
         Ok(keeper) => Ok(keeper),
         Err((fault, _)) => Err(fault),
     }

@@ -1,11 +1,16 @@
 //! Tests of a store in tables: each call of a keeper over a connection in memory, and recovery over
-//! disks that stop at each of their calls: the store that is opened then has the committed steps.
+//! disks that stop at each of their calls: the store that is opened then has the committed steps. Also
+//! a store that is opened from its files and closed into them.
 #![tactic(auto)]
 
 #[cfg(test)]
 mod blocks;
 #[cfg(test)]
+mod creations;
+#[cfg(test)]
 mod disks;
+#[cfg(test)]
+mod files;
 #[cfg(test)]
 mod groups;
 #[cfg(test)]
@@ -16,6 +21,8 @@ mod keepers;
 mod observations;
 #[cfg(test)]
 mod requests;
+#[cfg(test)]
+mod rooms;
 #[cfg(test)]
 mod stops;
 #[cfg(test)]

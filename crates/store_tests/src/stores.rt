@@ -2,6 +2,7 @@
 use crate::groups::perform;
 use crate::observations::observe;
 use crate::requests::{START, messages, part};
+use fuse_init::PlainProfile;
 use fuse_store::{Keeper, PlainKeeper, PlainTree, StoreFault, TableKeeper};
 use sqlite::{Alter, Connection, Error};
 use std::alloc::Global;
@@ -124,12 +125,12 @@ pub(crate) fn shape_of(version: i64) -> [i64; 4] {
 }
 
 // The keeper of a database, or the fault and the database.
-type Started<S> = Result<TableKeeper<S>, (StoreFault, Connection<S>)>;
+type Started<S> = Result<TableKeeper<PlainProfile, S>, (StoreFault, Connection<S>)>;
 
 // The keeper of a store of this version, which is made where there is none.
 fn start<S: Alter + Drop>(alloc: Global, conn: Connection<S>, version: i64) -> Started<S> {
     if version == 0 {
-        TableKeeper::create(alloc, conn, START)
+        TableKeeper::create(alloc, conn, 0, START)
     } else {
         TableKeeper::open(alloc, conn)
     }
@@ -175,7 +176,7 @@ fn go_on<K: Keeper>(keeper: &mut K, work: Work, first: usize) -> Result<usize, S
 // How many steps were done, and the database.
 type Ran<S> = Result<(usize, Connection<S>), StoreFault>;
 
-fn run_on<S: Alter + Drop>(mut keeper: TableKeeper<S>, work: Work) -> Ran<S> {
+fn run_on<S: Alter + Drop>(mut keeper: TableKeeper<PlainProfile, S>, work: Work) -> Ran<S> {
     let opening = if work.first.version == 2 { 0 } else { 1 };
     let steps = go_on(&mut keeper, work, opening)?;
     Ok((steps, keeper.into_connection()))
@@ -235,7 +236,10 @@ pub(crate) fn observed_of<S: Alter + Drop>(
 }
 
 // A keeper of lists in such a state.
-fn lists_in(alloc: Global, state: State) -> Result<PlainKeeper<PlainTree>, StoreFault> {
+fn lists_in(
+    alloc: Global,
+    state: State,
+) -> Result<PlainKeeper<PlainTree<PlainProfile>>, StoreFault> {
     let mut lists = PlainKeeper::new(alloc, START)?;
     perform(&mut lists, part(&messages(0), 0, state.messages))?;
     if state.mounted {

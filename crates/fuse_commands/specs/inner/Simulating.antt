@@ -1,16 +1,17 @@
--- The outcomes of a script before they are printed, and the output from a start (own profile).
+-- The outcomes of a script before they are printed, and its output from a start (own profile).
 use Rattle.std.specs.Prelude.{◌≡◌, ℕ, List, [], map, length, Option}
 use Rattle.fuse_keeper.specs.Model.{Model}
 use Rattle.fuse_keeper.specs.KeeperState.{KeeperState, IsFirm}
 use Rattle.fuse_sim.specs.declared.event.Event.{Event}
-use Rattle.fuse_sim.specs.Driving.{bytes_given, NoneReused, told_in, performed_in, StandsIn}
+use Rattle.fuse_sim.specs.Driving.{bytes_given, NoneReused, told_in, performed_in, StandsIn, Opened}
 use Rattle.fuse_sim.specs.HandedOn.{performances}
 use Rattle.fuse_sim.specs.Twice.{Seen}
 use Rattle.fuse_commands.specs.declared.ending.Ending.{Ending}
 use Rattle.fuse_commands.specs.declared.ending.Ending.TheVariants.{Done}
 use Rattle.fuse_commands.specs.declared.simulate.Simulation.{Simulation}
 use Rattle.fuse_commands.specs.Scripts.{lines_of, WritesAll}
-use Rattle.fuse_commands.specs.Simulating.{state_after, outcomes_of, StandsAfter, BeginSo, simulation_text, NotRun, Simulated}
+pub use Rattle.fuse_commands.specs.Simulating.{SimulatedFrom}
+use Rattle.fuse_commands.specs.Simulating.{state_after, outcomes_of, StandsAfter, BeginSo, Simulated}
 
 -- events from a start had these outcomes and counts, and the keeper stands for them and is as firm as before
 pub record Went {M : Model} {K : Type 0} (told : K → KeeperState M) (old new : Option K) (s : M.State) (events : List Event) (simulation : Simulation)
@@ -22,21 +23,16 @@ pub record Went {M : Model} {K : Type 0} (told : K → KeeperState M) (old new :
   pub firm : IsFirm (told_in told old) → IsFirm (told_in told new)
 
 -- the events of a script were run to their end; what they led to, if no message comes again whose answer was taken; and the keeper was
--- asked to perform just what they ask for
+-- asked to perform just what they ask for, and opened again wherever the server dies
 pub record RanScript {M : Model} {K : Type 0} (k : Seen M K) (old new : Option K) (script : List ℕ) (simulation : Simulation) : Type 0 where
   pub events : List Event
   pub described : WritesAll (lines_of script) events
   pub count : length simulation.outcomes.items ≡ length events
   pub begin : BeginSo k.told old new events (map bytes_given simulation.outcomes.items)
   pub asked : performed_in k.performed old new (performances M.serves events)
+  pub opened : Opened k.told k.became old new events
   pub went : (told_in k.told new).is_honest → (s : M.State) → StandsIn k.told old s [] [] → NoneReused M.serves [] events
       → Went k.told old new s events simulation
-
--- the same of events from a start, for any keeper
-abbrev pub SimulatedFrom : (M : Model) → M.State → (List ℕ → Type 0) → List ℕ → Ending → Type 0
-SimulatedFrom M s prints script Done =
-    (events : List Event) × WritesAll (lines_of script) events × (NoneReused M.serves [] events → prints (simulation_text M s events))
-SimulatedFrom M s prints script ending = NotRun script ending
 
 -- Simulated implies SimulatedFrom for a keeper that stands for the start and whose storage returned what was written
 pub from_start : {M : Model} {K : Type 0} (k : Seen M K) (old new : Option K) (prints : List ℕ → Type 0) (script : List ℕ) (s : M.State)

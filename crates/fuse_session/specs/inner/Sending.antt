@@ -1,15 +1,14 @@
 -- How the answers of a group are sent (own profile).
 use Rattle.std.specs.Prelude.{◌≡◌, ℕ, Bool, true, false, List, [], ◌++◌, length}
 use Rattle.fuse_request.specs.Opcodes.{OpcodeSet}
-use Rattle.fuse_request.specs.Stream.{joined}
 use Rattle.fuse_session.specs.declared.fault.Fault.{Fault}
 use Rattle.fuse_session.specs.declared.fault.Fault.TheVariants.{PortFailed, Store, Memory}
 use Rattle.fuse_session.specs.declared.port.Passed.{Passed}
 use Rattle.fuse_session.specs.declared.port.Passed.TheVariants.{Taken, Gone}
 use Rattle.fuse_session.specs.declared.port.Sent.{Sent}
-use Rattle.fuse_session.specs.Port.{PortState, IsQuiet, SentWhole, SentPart}
-use Rattle.fuse_session.specs.Transcript.{PortEvent, Hands, sends_of}
-use Rattle.fuse_session.specs.Settling.{Mark, replies, settles, settled_in, Replied, BeginsNext}
+use Rattle.fuse_session.specs.Port.{PortState, IsQuiet, SentWhole}
+use Rattle.fuse_session.specs.Transcript.{PortEvent, Hands, SendsPart, sends_of}
+use Rattle.fuse_session.specs.Settling.{Mark, replies, settles, settled_in, SentUpTo, Replied}
 use Rattle.fuse_session.specs.Slices.{RestsOfAll, RestsOfSome}
 use Rattle.fuse_session.specs.Ended.{ended_store}
 use Rattle.fuse_session.specs.inner.Finishing.{ended_at, ended_port}
@@ -29,7 +28,7 @@ pub record HandsSlices (became : List PortEvent → Type 0) (Kind : List (List �
 -- an answer wasn't sent whole
 abbrev pub SendFails : Fault → (List PortEvent → Type 0) → PortState → PortState → List ℕ → Type 0
 SendFails Memory became old new bytes = (new ≡ old) × became []
-SendFails PortFailed became old new bytes = SentPart old new bytes × Hands became bytes false
+SendFails PortFailed became old new bytes = SendsPart became old new bytes
 SendFails (Store fault) became old new bytes = ⊥
 
 -- a port and the pending ids, before and after answers were sent
@@ -65,15 +64,12 @@ pub record SentAll (V : OpcodeSet) (x : Sending) (messages answers : List (List 
 -- the first of these answers were sent whole, and of the next one a part
 pub record SentSome (became : List PortEvent → Type 0) (old new : PortState) (answers : List (List ℕ)) (fault : Fault) : Type 0 where
   pub marks : List Mark
-  pub later : List (List ℕ)
+  pub answer : List ℕ
   pub part : List ℕ
-  pub unsent : List ℕ
-  pub whole : answers ≡ replies marks ++ later
-  pub begun : joined later ≡ part ++ unsent
-  pub next : BeginsNext later part
+  pub sent : SentUpTo answers marks answer
   pub replied : Replied old new marks part
   pub memory : fault ≡ Memory → part ≡ []
-  pub hands : HandsSlices became (RestsOfSome marks part)
+  pub hands : HandsSlices became (RestsOfSome marks answer part)
   pub all : fault ≡ Memory → HandsSlices became (RestsOfAll marks)
   pub sends : ended_store (ended_at fault) ≡ false
   pub failed : FailedBy (ended_port (ended_at fault)) old.failures new.failures

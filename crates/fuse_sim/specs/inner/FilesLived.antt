@@ -1,5 +1,5 @@
 -- Runs over files are lives of one mount, by the law of lives (own profile).
-use Rattle.std.proofs.Common.{◌≡◌, ℕ, Bool, true, false, ◌==◌, if◌then◌else◌, List, [], ◌∷◌, ◌++◌, refl, sym, ap, subst, ◌∙◌}
+use Rattle.std.proofs.Common.{◌≡◌, inl, ℕ, Bool, true, false, ◌==◌, if◌then◌else◌, List, [], ◌∷◌, ◌++◌, refl, sym, ap, subst, ◌∙◌}
 use Rattle.std.proofs.lemmas.List.{append-nil, map-append}
 use Rattle.fuse_request.specs.Opcodes.{OpcodeSet}
 use Rattle.fuse_request.specs.Stream.{cut}
@@ -78,6 +78,7 @@ ran_from {M} Stand more {p} run at image ran =
         parts = ran.parts;
         moments = ran.moments;
         sent = ran.sent;
+        up_to = ran.up_to;
         slices = ran.slices;
         settled = ran.settled_are;
       };
@@ -96,6 +97,7 @@ ran_weaker P Q more ran = record {
   parts = ran.parts;
   moments = ran.moments;
   sent = ran.sent;
+  up_to = ran.up_to;
   slices = ran.slices;
   settled_are = ran.settled_are;
   stands = more _ ran.stands;
@@ -115,7 +117,8 @@ ran_nothing Stand at image stood = record {
     parts = refl;
     moments = ([], refl);
     sent = refl;
-    slices = record { whole = []; last = []; parts = refl; answers = refl; unsent = []; begun = tt };
+    up_to = record { later = []; first = refl; next = inl refl };
+    slices = record { whole = []; last = []; parts = refl; answers = refl; begun = tt; left = λ some. some; unsent = []; sent = refl; untaken = ([], refl) };
     settled = refl;
   };
   left = subst (λ (t : List ℕ). Stand image (record { state = at.state; history = at.history; settled = t })) (sym (append-nil at.settled)) stood;

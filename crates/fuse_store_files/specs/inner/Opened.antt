@@ -1,5 +1,5 @@
 -- A store that is opened over any database, and files that are not opened (own profile).
-use Rattle.std.specs.Prelude.{IsTrue}
+use Rattle.std.specs.Prelude.{◌≡◌, IsTrue}
 use Rattle.sqlite_disk.specs.declared.Disk.{Ghosts}
 use Rattle.sqlite_wal.specs.Recovery.{Image}
 use Rattle.sqlite.specs.Tree.{Trees}
@@ -7,11 +7,13 @@ use Rattle.sqlite.specs.State.{State}
 use Rattle.sqlite.specs.declared.error.Error.{Error}
 use Rattle.sqlite.specs.declared.file.Leftover.{Leftover}
 use Rattle.sqlite.specs.Files.{IsCleanLeft, FailsToOpenFiles}
-use Rattle.fuse_tree.specs.TheTree.{the_tree}
+use Rattle.fuse_init.specs.declared.profile.Profile.{Profile}
 use Rattle.fuse_keeper.specs.KeeperState.{KeeperState}
 use Rattle.fuse_store_tables.specs.Content.{LeftAs}
+use Rattle.fuse_tree.specs.TheTree.{tree_of}
+use Rattle.fuse_tree.specs.State.{profile_of}
 use Rattle.fuse_store.specs.Creating.{IsBlank}
-use Rattle.fuse_store.specs.Opening.{Stored, OpenedFor, WasFor}
+use Rattle.fuse_store.specs.Opening.{Stored, OpenedFor, WasFor, opened_for}
 use Rattle.fuse_store.specs.Starting.{BeginsAfter, LeavesStarted, LeavesFresh}
 use Rattle.fuse_store_files.specs.declared.files.Opening.{Opening}
 use Rattle.fuse_store_files.specs.declared.files.Opening.TheVariants.{Existing, Any, Fresh}
@@ -19,28 +21,29 @@ use Rattle.fuse_store_files.specs.Starting.{IsNewStore, KeepsStore}
 use Rattle.fuse_store_files.specs.Left.{StaysAsFound}
 
 -- what an opening makes of a blank database
-abbrev pub MakesNew : Opening → KeeperState the_tree → Type 0
-MakesNew Existing k = ⊥
-MakesNew (Any now) k = IsNewStore now k
-MakesNew (Fresh now) k = IsNewStore now k
+abbrev pub MakesNew : (p : Profile) → Opening → KeeperState (tree_of p) → Type 0
+MakesNew p Existing k = ⊥
+MakesNew p (Any new) k = IsNewStore p new k
+MakesNew p (Fresh new) k = IsNewStore p new k
 
 -- a mount of this store begins, where the opening begins one
-abbrev pub MayBegin : Opening → Stored → KeeperState the_tree → Type 0
-MayBegin Existing z k = Unit {0}
-MayBegin (Any now) z k = Unit {0}
-MayBegin (Fresh now) z k = BeginsAfter z k
+abbrev pub MayBegin : (p : Profile) → Opening → Stored → KeeperState (tree_of p) → Type 0
+MayBegin p Existing z k = Unit {0}
+MayBegin p (Any new) z k = Unit {0}
+MayBegin p (Fresh new) z k = BeginsAfter p z k
 
 -- a keeper was opened so over this database
-pub record OpensOver (how : Opening) (s : State) (k : KeeperState the_tree) : Type 0 where
-  pub keeps : (z : Stored) → WasFor z s → KeepsStore how z k
-  pub begins : (z : Stored) → WasFor z s → MayBegin how z k
-  pub makes : IsBlank s → IsTrue s.is_open → MakesNew how k
+pub record OpensOver (p : Profile) (how : Opening) (s : State) (k : KeeperState (tree_of p)) : Type 0 where
+  pub profile : (z : Stored) → WasFor z s → profile_of (opened_for z).tree ≡ p
+  pub keeps : (z : Stored) → WasFor z s → KeepsStore p how z k
+  pub begins : (z : Stored) → WasFor z s → MayBegin p how z k
+  pub makes : IsBlank s → IsTrue s.is_open → MakesNew p how k
 
 -- what a crash may leave of an opening that failed, beside what it could leave before
 abbrev pub LeavesOver : Opening → State → Trees → Type 0
 LeavesOver Existing s = λ db. (z : Stored) → WasFor z s → LeftAs (OpenedFor z) db
-LeavesOver (Any now) s = LeavesStarted now s
-LeavesOver (Fresh now) s = LeavesFresh now s
+LeavesOver (Any new) s = LeavesStarted new s
+LeavesOver (Fresh new) s = LeavesFresh new s
 
 -- the files were not opened, for this error
 pub record IsNotOpened {D : Type 0} {g : Ghosts D} (image : Image) (it : Leftover D g) (e : Error) : Type 0 where

@@ -8,6 +8,7 @@ use Rattle.fuse_store_tables.specs.Content.{Content, Holds, LeftAs}
 use Rattle.fuse_keeper.specs.declared.fault.StoreFault.{StoreFault}
 use Rattle.fuse_store_tables.specs.Faults.{IsOutside}
 use Rattle.fuse_store_tables.specs.Moves.{IsReady, RestsAs}
+pub use Rattle.fuse_store_tables.specs.Moves.{CommitsNothing, OnlyReads}
 
 -- the statement was run with these values
 abbrev pub Ran : List ℕ → Row → State → State → Result (Unit {0}) Error → Type 0
@@ -28,15 +29,6 @@ abbrev pub IsSure : {C X : Type 0} → (C → Database → Type 0) → State →
 IsSure P old new r = HasCleanDisk new → IfErr r (λ f. IsReady P old → IsOutside f)
 
 -- ---- of any database, whatever its tables
-
-pub record CommitsNothing (old new : State) : Type 0 where
-  pub survives : Survives old new (λ _. ⊥)
-  pub kept : HasCleanDisk new → KeepsCommit old new
-
--- a call that only reads
-pub record OnlyReads {X E : Type 0} (old new : State) (result : Result X E) : Type 0 where
-  pub commits : CommitsNothing old new
-  pub same : OnOk result (HasCleanDisk new → new.now ≡ old.now)
 
 -- a call within a transaction: it commits nothing, and the transaction stays open where the call succeeded
 pub record StaysWithin {X E : Type 0} (old new : State) (result : Result X E) : Type 0 where

@@ -1,16 +1,24 @@
 -- The content of the tables between the steps of a new store, of a migration and of the begin of a mount (own profile).
-use Rattle.std.specs.Prelude.{ℕ, List, [], ◌∷◌, ⊤, not, map, filter, fold, Result, OnOk}
+use Rattle.std.specs.Prelude.{ℕ, ◌-◌, List, [], ◌∷◌, ⊤, not, map, filter, fold, Result, OnOk}
+use Rattle.std.specs.List.{sum_by}
+use Rattle.sqlite.specs.Order.{Row}
+use Rattle.fuse_tree.specs.declared.rows.NodeRow.{NodeRow}
 use Rattle.sqlite.specs.Effect.{Database}
-use Rattle.fuse_store_tables.specs.Content.{Content, Holds, HoldsAs, is_unnamed, kept_key, put_by, set_counter, stored, with_lot, without_blocks_from}
+use Rattle.fuse_store_tables.specs.Content.{Content, Holds, HoldsAs, is_unnamed, kept_key, put_by, with_counter, set_counter, stored, with_lot, without_blocks_from}
 use Rattle.fuse_store_tables.specs.Making.{counters_alone}
 use Rattle.fuse_store_tables.specs.Layout.{with_lots, with_kept}
 use Rattle.sqlite.specs.State.{State, HasCleanDisk}
 use Rattle.fuse_store_tables.specs.Moves.{InsideAs}
 use Rattle.fuse_store_tables.specs.Opening.{IsLaid, IsOld, under}
-use Rattle.fuse_store_tables.specs.Clearing.{counted_to, has_unnamed}
+use Rattle.fuse_store_tables.specs.Clearing.{counted_to, has_unnamed, blocks_in, unnamed_blocks}
+use Rattle.fuse_store_tables.specs.inner.Columns.{number_of}
 
 abbrev pub HasCounters : ⊤ → Database → Type 0
 HasCounters _ = Holds counters_alone
+
+-- the rows of the room are added one after the other
+abbrev pub with_room : ℕ → Content → Content
+with_room capacity c = with_counter 14 0 (with_counter 13 capacity (with_counter 12 2 c))
 
 abbrev pub without_answers : Content → Content
 without_answers c = record c { answers = [] }
@@ -49,6 +57,16 @@ without_lots c = record c { lots = [] }
 
 abbrev pub without_all_kept : Content → Content
 without_all_kept c = record c { kept = [] }
+
+abbrev pub unnamed_sizes : List NodeRow → List ℕ
+unnamed_sizes nodes = map (λ n. n.size) (filter is_unnamed nodes)
+
+-- the blocks of sizes that were read
+abbrev pub read_blocks : List Row → ℕ
+read_blocks rows = sum_by (λ r. blocks_in (number_of r)) rows
+
+abbrev pub lowered_from : ℕ → Content → Content
+lowered_from used c = set_counter 14 (used - unnamed_blocks c.nodes) c
 
 abbrev pub without_blocks_of : List ℕ → Content → Content
 without_blocks_of [] c = c

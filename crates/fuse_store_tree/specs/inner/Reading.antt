@@ -1,9 +1,12 @@
 -- How rows are read from the tables (own profile).
-use Rattle.std.specs.Prelude.{◌==◌, if◌then◌else◌, ◌+◌, replicate, zero, suc, nat_lt, min, ◌-◌, ℕ, List, [], ◌∷◌, Option, Some, None, slice_index_or}
+use Rattle.std.specs.Prelude.{◌==◌, if◌then◌else◌, ◌+◌, replicate, zero, suc, nat_lt, min, length, ◌-◌, ℕ, List, [], ◌∷◌, Option, Some, None, slice_index_or}
 use Rattle.fuse_init.specs.declared.settings.Settings.{Settings}
 use Rattle.fuse_tree.specs.Bounds.{block_bytes}
+use Rattle.fuse_tree.specs.State.{profile_for}
+use Rattle.fuse_tree.specs.declared.agreement.Agreement.{Agreement}
 use Rattle.fuse_tree.specs.declared.rows.NodeRow.{NodeRow}
 use Rattle.fuse_tree.specs.declared.rows.Counters.{Counters as CountersRow}
+use Rattle.fuse_tree.specs.declared.rows.Room.{Room}
 use Rattle.fuse_store_tables.specs.Blocks.{Block}
 use Rattle.fuse_store_tables.specs.Content.{Content, Counter}
 use Rattle.fuse_store_tree.specs.Store.{DescribesAs, Store, byte_in, counter, bodies_of}
@@ -12,11 +15,25 @@ use Rattle.fuse_store_tree.specs.Store.{DescribesAs, Store, byte_in, counter, bo
 abbrev pub value_of : List Counter → ℕ → ℕ
 value_of cs at = (slice_index_or cs at (counter 0 0)).value
 
+-- a store with a room has 14
+abbrev pub room_in : List Counter → Option Room
+room_in cs = if length cs == 14 then Some (record { capacity = value_of cs 12; used = value_of cs 13 }) else None
+
 abbrev pub counted_in : List Counter → CountersRow
-counted_in cs = record { next_node = value_of cs 1; next_fh = value_of cs 2; next_cookie = value_of cs 3; nodes = value_of cs 4; handles = value_of cs 5 }
+counted_in cs = record {
+  next_node = value_of cs 1;
+  next_fh = value_of cs 2;
+  next_cookie = value_of cs 3;
+  nodes = value_of cs 4;
+  handles = value_of cs 5;
+  room = room_in cs;
+}
 
 abbrev pub agreed_in : List Counter → Option Settings
 agreed_in cs = if value_of cs 6 == 0 then None else Some (record { minor = value_of cs 7; max_readahead = value_of cs 8; flags = record { 0 = value_of cs 9 } })
+
+abbrev pub agreement_in : List Counter → Agreement
+agreement_in cs = record { profile = profile_for (room_in cs); settings = agreed_in cs }
 
 -- so many values of a function from a place on
 abbrev pub range_of : (ℕ → ℕ) → ℕ → ℕ → List ℕ

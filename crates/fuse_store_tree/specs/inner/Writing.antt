@@ -1,7 +1,10 @@
 -- How rows are written into the tables (own profile).
-use Rattle.std.specs.Prelude.{◌==◌, if◌then◌else◌, ◌+◌, ◌++◌, ◌&&◌, take, drop, length, not, nat_lt, ◌-◌, min, max, ℕ, List}
+use Rattle.std.specs.Prelude.{◌==◌, if◌then◌else◌, ◌+◌, ◌++◌, ◌&&◌, take, drop, length, not, nat_lt, ◌-◌, min, max, ℕ, List, [], ◌∷◌, Option, Some, None}
+use Rattle.fuse_tree.specs.declared.rows.Room.{Room}
 use Rattle.fuse_tree.specs.declared.rows.Change.{Change}
-use Rattle.fuse_tree.specs.Rows.{Rows, apply_one, apply}
+use Rattle.fuse_tree.specs.declared.rows.Change.TheVariants as changes
+use Rattle.fuse_tree.specs.Rows.{Rows, apply_one}
+use Rattle.fuse_store_tables.specs.Content.{Content, Counter, counter_key, set_by, valued}
 use Rattle.fuse_store_tree.specs.Store.{Store, Bodies, byte_at}
 
 -- a list with a part written over it
@@ -36,10 +39,31 @@ cut_in node at b = record { byte = cut node at b.byte; ends = shortened node at 
 abbrev pub with_rows : Rows → Store → Store
 with_rows rows x = record x { rows = rows }
 
--- a change of the rows
+-- a room keeps its capacity
+abbrev pub room_over : Option Room → Option Room → Option Room
+room_over (Some old) (Some new) = Some (record old { used = new.used })
+room_over old new = old
+
+-- a change of the rows, as the tables make it
+abbrev pub made_one : Rows → Change → Rows
+made_one rows (changes.Counters n) = record rows { counters = record n { room = room_over rows.counters.room n.room } }
+made_one rows change = apply_one rows change
+
+abbrev pub made_all : Rows → List Change → Rows
+made_all rows [] = rows
+made_all rows (change ∷ later) = made_all (made_one rows change) later
+
 abbrev pub with_change : Change → Store → Store
-with_change change x = with_rows (apply_one x.rows change) x
+with_change change x = with_rows (made_one x.rows change) x
 
 -- changes, one after the other
 abbrev pub with_changes : List Change → Store → Store
-with_changes changes x = with_rows (apply x.rows changes) x
+with_changes changes x = with_rows (made_all x.rows changes) x
+
+-- the entry of the blocks in use, where there is a room
+abbrev pub used_in : Option Room → List Counter → List Counter
+used_in None cs = cs
+used_in (Some r) cs = set_by counter_key 14 (valued r.used) cs
+
+abbrev pub with_used : Option Room → Content → Content
+with_used room c = record c { counters = used_in room c.counters }

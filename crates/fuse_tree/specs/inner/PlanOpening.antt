@@ -12,10 +12,11 @@ use Rattle.fuse_tree.specs.declared.rows.Counters.{Counters as CountersRow}
 use Rattle.fuse_tree.specs.declared.rows.Change.{Change}
 use Rattle.fuse_tree.specs.declared.rows.Change.TheVariants as changes
 use Rattle.fuse_tree.specs.declared.rows.Planned.{Planned}
-use Rattle.fuse_tree.specs.State.{is_dir, is_file}
+use Rattle.fuse_tree.specs.State.{is_dir, is_file, profile_for}
 use Rattle.fuse_tree.specs.Rows.{Rows}
 use Rattle.fuse_tree.specs.Handles.{is_open}
 use Rattle.fuse_tree.specs.Opening.{open_fault, new_handle, open_of, not_for_dirs, for_dirs_alone}
+use Rattle.fuse_tree.specs.inner.PlanRemoval.{goes_closed, with_removal}
 use Rattle.fuse_tree.specs.inner.Reading.{refused, refused_for}
 
 -- ---- a handle more
@@ -26,48 +27,56 @@ counters_opened counters = record counters { next_fh = counters.next_fh + 1; han
 abbrev pub opened_changes : CountersRow → AccessMode → ℕ → List Change
 opened_changes counters access node = changes.Handle (new_handle counters.next_fh node access) ∷ changes.Counters (counters_opened counters) ∷ []
 
-abbrev pub plan_opened : CountersRow → AccessMode → ℕ → Planned
-plan_opened counters access node =
-    record { answer = record { errno = 0; body = open_bytes (open_of counters.next_fh) }; changes = opened_changes counters access node }
+abbrev pub plan_opened : ℕ → CountersRow → AccessMode → ℕ → Planned
+plan_opened open_flags counters access node =
+    record { answer = record { errno = 0; body = open_bytes (open_of open_flags counters.next_fh) }; changes = opened_changes counters access node }
 
-abbrev pub plan_open_node : AccessMode → ℕ → Rows → Planned
-plan_open_node access node rows = refused_for (open_fault rows.counters.handles rows.counters.next_fh) (plan_opened rows.counters access node)
+abbrev pub plan_open_node : ℕ → AccessMode → ℕ → Rows → Planned
+plan_open_node open_flags access node rows =
+    refused_for (open_fault rows.counters.handles rows.counters.next_fh) (plan_opened open_flags rows.counters access node)
 
 -- ---- OPEN
 
-abbrev pub plan_open_for : Option AccessMode → NodeRow → Rows → Planned
-plan_open_for None row rows = refused einval
-plan_open_for (Some access) row rows = plan_open_node access row.node rows
+abbrev pub plan_open_for : ℕ → Option AccessMode → NodeRow → Rows → Planned
+plan_open_for open_flags None row rows = refused einval
+plan_open_for open_flags (Some access) row rows = plan_open_node open_flags access row.node rows
 
-abbrev pub plan_open : ℕ → NodeRow → Rows → Planned
-plan_open flags row rows =
+abbrev pub plan_open : ℕ → ℕ → NodeRow → Rows → Planned
+plan_open open_flags flags row rows =
     if is_dir row.mode then refused eisdir
     else if not (is_file row.mode) then refused einval
-    else plan_open_for (access_of flags) row rows
+    else plan_open_for open_flags (access_of flags) row rows
 
 -- ---- OPENDIR
 
 abbrev pub plan_open_dir : NodeRow → Rows → Planned
-plan_open_dir row rows = if not (is_dir row.mode) then refused enotdir else plan_open_node ReadOnly row.node rows
+plan_open_dir row rows = if not (is_dir row.mode) then refused enotdir else plan_open_node 0 ReadOnly row.node rows
 
 -- ---- a handle less
 
 abbrev pub counters_closed : CountersRow → CountersRow
 counters_closed counters = record counters { handles = counters.handles - 1 }
 
-abbrev pub plan_closed : CountersRow → ℕ → Planned
-plan_closed counters fh =
-    record { answer = record { errno = 0; body = [] }; changes = changes.HandleGone fh ∷ changes.Counters (counters_closed counters) ∷ [] }
+abbrev pub closed_changes : CountersRow → ℕ → List Change
+closed_changes counters fh = changes.HandleGone fh ∷ changes.Counters (counters_closed counters) ∷ []
 
-abbrev pub plan_close : ℕ → Option Errno → ℕ → Rows → Planned
-plan_close fh kind_fault node rows =
-    if not (is_open rows.handles fh node) then refused ebadf
-    else refused_for kind_fault (plan_closed rows.counters fh)
+-- the fh goes, and its node where nothing else keeps it
+abbrev pub plan_closed : ℕ → NodeRow → Rows → Planned
+plan_closed fh row rows = record {
+  answer = record { errno = 0; body = [] };
+  changes =
+      with_removal (goes_closed (profile_for rows.counters.room) fh row rows) row (counters_closed rows.counters) (closed_changes rows.counters fh);
+}
+
+abbrev pub plan_close : ℕ → Option Errno → NodeRow → Rows → Planned
+plan_close fh kind_fault row rows =
+    if not (is_open rows.handles fh row.node) then refused ebadf
+    else refused_for kind_fault (plan_closed fh row rows)
 
 -- ---- RELEASE and RELEASEDIR
 
 abbrev pub plan_release : ℕ → NodeRow → Rows → Planned
-plan_release fh row rows = plan_close fh (not_for_dirs row.mode) row.node rows
+plan_release fh row rows = plan_close fh (not_for_dirs row.mode) row rows
 
 abbrev pub plan_release_dir : ℕ → NodeRow → Rows → Planned
-plan_release_dir fh row rows = plan_close fh (for_dirs_alone row.mode) row.node rows
+plan_release_dir fh row rows = plan_close fh (for_dirs_alone row.mode) row rows

@@ -14,10 +14,11 @@ use Rattle.fuse_tree.specs.declared.rows.Counters.{Counters as CountersRow}
 use Rattle.fuse_tree.specs.declared.rows.Change.{Change}
 use Rattle.fuse_tree.specs.declared.rows.Change.TheVariants as changes
 use Rattle.fuse_tree.specs.declared.rows.Planned.{Planned}
-use Rattle.fuse_tree.specs.State.{is_dir}
+use Rattle.fuse_tree.specs.State.{is_dir, profile_for}
 use Rattle.fuse_tree.specs.Rows.{Rows, row_at, row_is_named}
 use Rattle.fuse_tree.specs.inner.Reading.{refused, refused_for, told}
 use Rattle.fuse_tree.specs.Removing.{has_entries}
+use Rattle.fuse_tree.specs.inner.PlanRemoval.{goes_unnamed, with_removal}
 use Rattle.fuse_tree.specs.inner.PlanRemoving.{link_at, unnamed_row}
 use Rattle.fuse_tree.specs.Renaming.{Renaming, is_exchange, is_no_replace, leads_to, asked_fault, kinds_fault}
 
@@ -93,10 +94,19 @@ rename_changes r counters from to source other =
     ∷ entry_change r.new_dir r.new_name source.child counters.next_cookie
     ∷ changes.Counters (record counters { next_cookie = counters.next_cookie + 1 }) ∷ []
 
+-- where an entry stood at the new place, its child goes too where nothing keeps it
+abbrev pub with_lost : CountersRow → Option Link → Rows → List Change → List Change
+with_lost counters None rows before = before
+with_lost counters (Some other) rows before =
+    with_removal (goes_unnamed (profile_for counters.room) other.child.node rows) other.child (record counters { next_cookie = counters.next_cookie + 1 }) before
+
 abbrev pub plan_rename_with_room : Renaming → NodeRow → NodeRow → Link → Option Link → Rows → Planned
 plan_rename_with_room r from to source other rows =
     if nat_le number_end rows.counters.next_cookie then refused enospc
-    else record { answer = record { errno = 0; body = [] }; changes = rename_changes r rows.counters from to source other }
+    else record {
+      answer = record { errno = 0; body = [] };
+      changes = with_lost rows.counters other rows (rename_changes r rows.counters from to source other);
+    }
 
 abbrev pub plan_rename_fitting : Renaming → NodeRow → NodeRow → Link → Option Link → Rows → Planned
 plan_rename_fitting r from to source other rows = refused_for (link_fault rows source other) (plan_rename_with_room r from to source other rows)

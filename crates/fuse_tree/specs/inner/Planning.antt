@@ -7,11 +7,15 @@ use Rattle.fuse_request.specs.declared.request.InHeader.{InHeader}
 use Rattle.fuse_request.specs.declared.request.InitIn.{InitIn}
 use Rattle.fuse_request.specs.Act.{Act, Asked}
 use Rattle.fuse_request.specs.Act as acts
+use Rattle.fuse_answer.specs.Bodies.{entry_bytes}
 use Rattle.fuse_init.specs.Agree.{agree}
+use Rattle.fuse_init.specs.Profile.{terms}
 use Rattle.fuse_tree.specs.declared.rows.NodeRow.{NodeRow}
 use Rattle.fuse_tree.specs.declared.rows.Planned.{Planned}
 use Rattle.fuse_tree.specs.State.{is_dir, name_fault}
-use Rattle.fuse_tree.specs.Rows.{Rows, row_at, row_is_named}
+use Rattle.fuse_tree.specs.declared.agreement.Agreement.{Agreement}
+use Rattle.fuse_tree.specs.Rows.{Rows, row_at, row_is_named, agreement_at}
+use Rattle.fuse_tree.specs.Keeping.{keeps, valid_of, attr_valid_of, absent_entry}
 use Rattle.fuse_tree.specs.Do.{names_node, offer_of}
 use Rattle.fuse_tree.specs.inner.Reading.{refused, refused_for, told, entry_body, attr_body, child_at}
 use Rattle.fuse_tree.specs.inner.PlanMaking.{plan_mkdir, plan_mknod}
@@ -26,17 +30,20 @@ use Rattle.fuse_tree.specs.inner.PlanRenaming.{plan_rename}
 
 -- ---- LOOKUP
 
-abbrev pub plan_child : Option NodeRow → Planned
-plan_child None = refused enoent
-plan_child (Some child) = told (entry_body child)
+abbrev pub plan_absent : Agreement → Planned
+plan_absent a = if keeps a then told (entry_bytes absent_entry) else refused enoent
 
-abbrev pub plan_lookup_named : List ℕ → NodeRow → Rows → Planned
-plan_lookup_named name row rows = if not (row_is_named row) then refused enoent else plan_child (child_at rows row.node name)
+abbrev pub plan_child : Agreement → Option NodeRow → Planned
+plan_child a None = plan_absent a
+plan_child a (Some child) = told (entry_body (valid_of a) child)
 
-abbrev pub plan_lookup : List ℕ → NodeRow → Rows → Planned
-plan_lookup name row rows =
+abbrev pub plan_lookup_named : Agreement → List ℕ → NodeRow → Rows → Planned
+plan_lookup_named a name row rows = if not (row_is_named row) then refused enoent else plan_child a (child_at rows row.node name)
+
+abbrev pub plan_lookup : Agreement → List ℕ → NodeRow → Rows → Planned
+plan_lookup a name row rows =
     if not (is_dir row.mode) then refused enotdir
-    else refused_for (name_fault name) (plan_lookup_named name row rows)
+    else refused_for (name_fault name) (plan_lookup_named a name row rows)
 
 -- ---- all requests
 
@@ -52,36 +59,36 @@ tells_name (acts.Rename2 new_dir flags old_name new_name) = true
 tells_name _ = false
 
 -- the operation, at the node of the header; the last line is of requests that aren't performed here
-abbrev pub plan_act : InHeader → Act → Moment → NodeRow → Rows → Planned
-plan_act header (acts.Lookup name) now row rows = plan_lookup name row rows
-plan_act header (acts.Getattr flags fh) now row rows = told (attr_body row)
-plan_act header (acts.Setattr set) now row rows = plan_setattr set now row
-plan_act header (acts.Mkdir mode umask name) now row rows = plan_mkdir header mode name now row rows
-plan_act header (acts.Mknod mode rdev umask name) now row rows = plan_mknod header mode rdev name now row rows
-plan_act header (acts.Unlink name) now row rows = plan_unlink name now row rows
-plan_act header (acts.Rmdir name) now row rows = plan_rmdir name now row rows
-plan_act header (acts.OpenFile flags open_flags) now row rows = plan_open flags row rows
-plan_act header (acts.Read asked) now row rows = plan_read asked row rows
-plan_act header (acts.Write fh offset write_flags lock_owner flags payload) now row rows = plan_write fh offset payload now row rows
-plan_act header (acts.OpenDir flags open_flags) now row rows = plan_open_dir row rows
-plan_act header (acts.ReadDir x) now row rows = plan_read_dir x row rows
-plan_act header (acts.Release x) now row rows = plan_release x.fh row rows
-plan_act header (acts.ReleaseDir x) now row rows = plan_release_dir x.fh row rows
-plan_act header (acts.Rename new_dir old_name new_name) now row rows = plan_rename (asking new_dir 0 old_name new_name now) row rows
-plan_act header (acts.Rename2 new_dir flags old_name new_name) now row rows = plan_rename (asking new_dir flags old_name new_name now) row rows
-plan_act header _ now row rows = refused enosys
+abbrev pub plan_act : Agreement → InHeader → Act → Moment → NodeRow → Rows → Planned
+plan_act a header (acts.Lookup name) now row rows = plan_lookup a name row rows
+plan_act a header (acts.Getattr flags fh) now row rows = told (attr_body (attr_valid_of a row.node) row)
+plan_act a header (acts.Setattr set) now row rows = plan_setattr a set now row rows
+plan_act a header (acts.Mkdir mode umask name) now row rows = plan_mkdir a header mode name now row rows
+plan_act a header (acts.Mknod mode rdev umask name) now row rows = plan_mknod a header mode rdev name now row rows
+plan_act a header (acts.Unlink name) now row rows = plan_unlink a.profile name now row rows
+plan_act a header (acts.Rmdir name) now row rows = plan_rmdir a.profile name now row rows
+plan_act a header (acts.OpenFile flags open_flags) now row rows = plan_open (terms a.profile).open_flags flags row rows
+plan_act a header (acts.Read asked) now row rows = plan_read asked row rows
+plan_act a header (acts.Write fh offset write_flags lock_owner flags payload) now row rows = plan_write a.profile fh offset payload now row rows
+plan_act a header (acts.OpenDir flags open_flags) now row rows = plan_open_dir row rows
+plan_act a header (acts.ReadDir x) now row rows = plan_read_dir x row rows
+plan_act a header (acts.Release x) now row rows = plan_release x.fh row rows
+plan_act a header (acts.ReleaseDir x) now row rows = plan_release_dir x.fh row rows
+plan_act a header (acts.Rename new_dir old_name new_name) now row rows = plan_rename (asking new_dir 0 old_name new_name now) row rows
+plan_act a header (acts.Rename2 new_dir flags old_name new_name) now row rows = plan_rename (asking new_dir flags old_name new_name now) row rows
+plan_act a header _ now row rows = refused enosys
 
-abbrev pub plan_at : Asked → Moment → Option NodeRow → Rows → Planned
-plan_at request now None rows = refused estale
-plan_at request now (Some row) rows = plan_act request.header request.act now row rows
+abbrev pub plan_at : Agreement → Asked → Moment → Option NodeRow → Rows → Planned
+plan_at a request now None rows = refused estale
+plan_at a request now (Some row) rows = plan_act a request.header request.act now row rows
 
 -- where settings are agreed on
-abbrev pub plan_agreed : Asked → Moment → Rows → Planned
-plan_agreed request now rows = if names_node request.act then plan_at request now (row_at rows request.header.nodeid) rows else told []
+abbrev pub plan_agreed : Agreement → Asked → Moment → Rows → Planned
+plan_agreed a request now rows = if names_node request.act then plan_at a request now (row_at rows request.header.nodeid) rows else told []
 
 abbrev pub plan_offered : Asked → Moment → Option InitIn → Rows → Planned
-plan_offered request now (Some offer) rows = plan_init (agree offer)
-plan_offered request now None rows = if is_some rows.settings then plan_agreed request now rows else refused eproto
+plan_offered request now (Some offer) rows = plan_init (agree (agreement_at rows).profile offer)
+plan_offered request now None rows = if is_some rows.settings then plan_agreed (agreement_at rows) request now rows else refused eproto
 
 abbrev pub plan_of : Asked → Moment → Rows → Planned
 plan_of request now rows = plan_offered request now (offer_of request.act) rows

@@ -96,11 +96,11 @@ row_attr row = record {
   flags = 0;
 }
 
-abbrev pub entry_body : NodeRow → List ℕ
-entry_body row = entry_bytes (entry_of (row_attr row))
+abbrev pub entry_body : ℕ → NodeRow → List ℕ
+entry_body valid row = entry_bytes (entry_of valid (row_attr row))
 
-abbrev pub attr_body : NodeRow → List ℕ
-attr_body row = attr_out_bytes (attr_out_of (row_attr row))
+abbrev pub attr_body : ℕ → NodeRow → List ℕ
+attr_body valid row = attr_out_bytes (attr_out_of valid (row_attr row))
 
 -- ---- the child of an entry
 

@@ -2,6 +2,7 @@ use crate::limits::ROOT_ID;
 use crate::mode::S_IFDIR;
 use crate::plain::contents::{part_of, with_bytes, with_size};
 use crate::rows::{Full, NodeRow};
+use crate::space::blocks_of;
 use fuse_wire::{ByteList, Memory, Moment};
 use std::alloc::Global;
 use std::marker::Model;
@@ -26,10 +27,10 @@ impl Model for NodeList {
 
 impl NodeList {
     ghost use Rattle.std.specs.Prelude.{◌≡◌, ◌==◌, IfOk, OnOk, OnErr, [], length, map, filter};
-    ghost use Rattle.std.specs.Prelude.{find, take, drop};
+    ghost use Rattle.std.specs.Prelude.{◌-◌, not, find, take, drop};
     ghost use Rattle.std.specs.Option.{option_map};
     ghost use Rattle.fuse_tree.specs.Rows.{put_node, at_node, written, sized, content_of};
-    ghost use Rattle.fuse_tree.specs.Clearing.{is_named_row};
+    ghost use Rattle.fuse_tree.specs.Clearing.{is_named_row, blocks_freed};
 
     pub(super) fn new(alloc: Global) -> NodeList
         ensures { result ≡ [] }
@@ -114,6 +115,19 @@ impl NodeList {
         self.nodes.retain(|full| full.row.is_named());
     }
 
+    pub(super) fn remove(&mut self, number: u64)
+        ensures { self.new ≡ filter (λ f. not (f.row.node == number)) self.old }
+    {
+        self.nodes.retain(|full| full.row.node != number);
+    }
+
+    // What is left of these blocks without the nodes that have no name.
+    pub(super) fn left_of(&self, used: u64) -> u64
+        ensures { result ≡ used - blocks_freed self.now }
+    {
+        left_in(self.nodes.as_slice(), used)
+    }
+
     pub(super) fn len(&self) -> usize
         ensures { result ≡ length self.now }
     {
@@ -121,14 +135,16 @@ impl NodeList {
     }
 }
 
-ghost use Rattle.std.specs.Prelude.{◌≡◌, ◌==◌, IfOk, find, take, drop, position};
+ghost use Rattle.std.specs.Prelude.{◌≡◌, ◌==◌, ◌-◌, ℕ, IfOk, find, take, drop, position};
 ghost use Rattle.std.specs.Option.{option_map};
+ghost use Rattle.fuse_init.specs.declared.profile.Profile.{Profile};
 ghost use Rattle.fuse_tree.specs.State.{root_node, new_store};
+ghost use Rattle.fuse_tree.specs.Clearing.{blocks_freed};
 ghost use Rattle.fuse_tree.specs.Rows.{row_of, content_of};
 
 /// The root of a new store.
 pub(super) fn root_row(now: Moment) -> NodeRow
-    ensures { result ≡ row_of (new_store now) (root_node now) }
+    ensures { (p : Profile) (capacity : ℕ) → result ≡ row_of (new_store p capacity now) (root_node now) }
 {
     NodeRow {
         node: ROOT_ID,
@@ -178,6 +194,18 @@ fn bytes_in(
         }
     }
     Ok(ByteList::from_vec(Vec::new(alloc)))
+}
+
+fn left_in(nodes: &[Full], used: u64) -> u64
+    ensures { result ≡ used - blocks_freed nodes.now }
+{
+    let mut left = used;
+    for full in nodes {
+        if !full.row.is_named() {
+            left = left.saturating_sub(blocks_of(full.row.size));
+        }
+    }
+    left
 }
 
 fn copy_of(alloc: Global, full: &Full) -> Result<Full, Memory>

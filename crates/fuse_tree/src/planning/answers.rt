@@ -1,11 +1,13 @@
 ghost use Rattle.std.specs.Prelude.{◌≡◌, [], IfOk};
+ghost use Rattle.fuse_answer.specs.Bodies.{entry_bytes};
+ghost use Rattle.fuse_tree.specs.Keeping.{absent_entry};
 ghost use Rattle.fuse_tree.specs.inner.Reading as planning;
 ghost use Rattle.fuse_tree.specs.inner.Reading.{IsWithin, entry_body, attr_body, told};
 
 use super::attributes::attributes_of;
-use crate::limits::VALID_SECS;
+use crate::limits::KEPT_SECS;
 use crate::rows::{ChangeList, NodeRow, Planned};
-use fuse_answer::{Answer, AttrOut, EntryOut};
+use fuse_answer::{Answer, Attr, AttrOut, EntryOut};
 use fuse_wire::{ByteList, Errno, Memory};
 use std::alloc::Global;
 
@@ -36,17 +38,17 @@ pub(crate) fn done_nothing(alloc: Global) -> Planned
     unchanged(alloc, Answer::success(ByteList::from_vec(Vec::new(alloc))))
 }
 
-// The entry of a node, as LOOKUP, MKNOD and MKDIR answer it.
-pub(crate) fn entry_answer(alloc: Global, row: &NodeRow) -> Result<Answer, Memory>
+// The entry of a node, valid for so many seconds, as LOOKUP, MKNOD and MKDIR answer it.
+pub(crate) fn entry_answer(alloc: Global, valid: u64, row: &NodeRow) -> Result<Answer, Memory>
     requires { IsWithin row.now }
-    ensures { IfOk result (λ answer. answer ≡ (told (entry_body row.now)).answer) }
+    ensures { IfOk result (λ answer. answer ≡ (told (entry_body valid row.now)).answer) }
 {
     let attr = attributes_of(row);
     let entry = EntryOut {
         nodeid: attr.ino,
         generation: 0,
-        entry_valid: VALID_SECS,
-        attr_valid: VALID_SECS,
+        entry_valid: valid,
+        attr_valid: valid,
         entry_valid_nsec: 0,
         attr_valid_nsec: 0,
         attr,
@@ -55,13 +57,48 @@ pub(crate) fn entry_answer(alloc: Global, row: &NodeRow) -> Result<Answer, Memor
     Ok(Answer::success(ByteList::from_vec(body)))
 }
 
-// The attributes of a node, as GETATTR and SETATTR answer them.
-pub(crate) fn attr_answer(alloc: Global, row: &NodeRow) -> Result<Answer, Memory>
+// The entry that says that a name is absent.
+pub(crate) fn absent_answer(alloc: Global) -> Result<Answer, Memory>
+    ensures { IfOk result (λ answer. answer ≡ (told (entry_bytes absent_entry)).answer) }
+{
+    let attr = Attr {
+        ino: 0,
+        size: 0,
+        blocks: 0,
+        atime: 0,
+        mtime: 0,
+        ctime: 0,
+        atimensec: 0,
+        mtimensec: 0,
+        ctimensec: 0,
+        mode: 0,
+        nlink: 0,
+        uid: 0,
+        gid: 0,
+        rdev: 0,
+        blksize: 0,
+        flags: 0,
+    };
+    let entry = EntryOut {
+        nodeid: 0,
+        generation: 0,
+        entry_valid: KEPT_SECS,
+        attr_valid: 0,
+        entry_valid_nsec: 0,
+        attr_valid_nsec: 0,
+        attr,
+    };
+    let body = entry.body_of(alloc)?;
+    Ok(Answer::success(ByteList::from_vec(body)))
+}
+
+// The attributes of a node, valid for so many seconds, as GETATTR and SETATTR answer them.
+pub(crate) fn attr_answer(alloc: Global, valid: u64, row: &NodeRow) -> Result<Answer, Memory>
     requires { IsWithin row.now }
-    ensures { IfOk result (λ answer. answer ≡ (told (attr_body row.now)).answer) }
+    ensures { IfOk result (λ answer. answer ≡ (told (attr_body valid row.now)).answer) }
 {
     let attributes = AttrOut {
-        attr_valid: VALID_SECS,
+        attr_valid: valid,
         attr_valid_nsec: 0,
         attr: attributes_of(row),
     };

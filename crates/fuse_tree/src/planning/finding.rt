@@ -1,11 +1,12 @@
 ghost use Rattle.std.specs.Prelude.{◌≡◌, None, is_some, IfOk, IfSome};
-ghost use Rattle.fuse_tree.specs.Rows.{row_at, entry_at, handle_at};
+ghost use Rattle.fuse_tree.specs.Rows.{row_at, entry_at, handle_at, agreement_at};
 ghost use Rattle.fuse_tree.specs.Handles.{access_at, is_open};
 ghost use Rattle.fuse_tree.specs.inner.Reading.{IsWithin, child_at, LooksUp, view};
 ghost use Rattle.fuse_tree.specs.Removing as removing;
 ghost use Rattle.fuse_tree.specs.inner.PlanRemoving.{link_at};
 
 use super::fault::PlanFault;
+use crate::agreement::Agreement;
 use crate::limits::{MAX_FILE, MAX_NODES};
 use crate::look::Look;
 use crate::rows::{Counters, EntryRow, HandleRow, NodeRow};
@@ -143,11 +144,11 @@ pub(crate) fn is_open_at<L: Look>(look: &mut L, fh: u64, node: u64) -> Result<bo
     Ok(find_access(look, fh, node)?.is_some())
 }
 
-// Whether an INIT is agreed on.
-pub(crate) fn has_settings<L: Look>(look: &mut L) -> Result<bool, PlanFault>
+// The profile of the tree, and what INIT agreed on.
+pub(crate) fn find_agreement<L: Look>(look: &mut L) -> Result<Agreement, PlanFault>
     requires { L.fault look.old ≡ None }
     ensures { LooksUp (view L.is_clean L.sees L.fault L.looks L.fails) look.old look.new result
-        (λ rows. is_some rows.settings) }
+        (λ rows. agreement_at rows) }
 {
-    Ok(look.settings()?.is_some())
+    Ok(look.agreement()?)
 }

@@ -7,16 +7,16 @@ ghost use Rattle.fuse_tree.specs.inner.Reading.{told};
 use super::answers::{refused, unchanged};
 use crate::rows::{Change, ChangeList, Planned};
 use fuse_answer::{Answer, InitOut};
-use fuse_init::{Negotiated, Settings, negotiate};
+use fuse_init::{Negotiated, Profile, Settings, negotiate};
 use fuse_request::InitIn;
 use fuse_wire::{ByteList, Memory};
 use std::alloc::Global;
 
 // INIT. The new settings replace the old ones.
-pub(crate) fn plan_init(alloc: Global, offer: &InitIn) -> Result<Planned, Memory>
-    ensures { IfOk result (λ p. p ≡ planning.plan_init (agree offer.now)) }
+pub(crate) fn plan_init(alloc: Global, profile: Profile, offer: &InitIn) -> Result<Planned, Memory>
+    ensures { IfOk result (λ p. p ≡ planning.plan_init (agree profile offer.now)) }
 {
-    match negotiate(offer) {
+    match negotiate(profile, offer) {
         Negotiated::Agreed { out, settings } => Ok(Planned {
             answer: init_answer(alloc, &out)?,
             changes: settled(alloc, settings)?,

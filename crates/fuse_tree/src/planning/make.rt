@@ -1,25 +1,75 @@
-ghost use Rattle.std.specs.Prelude.{◌≡◌, None, false, IfOk};
+ghost use Rattle.std.specs.Prelude.{◌≡◌, ◌<◌, ◌^◌, None, false, IfOk};
+ghost use Rattle.fuse_init.specs.Profile.{terms};
+ghost use Rattle.fuse_tree.specs.State.{profile_for};
+ghost use Rattle.fuse_tree.specs.Making as making;
 ghost use Rattle.fuse_tree.specs.Making.{is_full};
 ghost use Rattle.fuse_tree.specs.inner.PlanMaking as planning;
 ghost use Rattle.fuse_tree.specs.inner.Reading.{IsWithin, LooksUp, view};
 ghost use Rattle.fuse_tree.specs.inner.PlanMaking.{dir_row, new_row, changes_of, plan_new};
-ghost use Rattle.fuse_tree.specs.inner.PlanMaking.{plan_make_with_room};
+ghost use Rattle.fuse_tree.specs.inner.PlanMaking.{plan_make_with_room, HasPlace};
 
 use super::answers::{entry_answer, refused};
 use super::attributes::is_directory;
 use super::fault::PlanFault;
 use super::finding::{find_counters, is_taken};
-use crate::limits::{COUNTER_END, MAX_NODES};
+use crate::limits::COUNTER_END;
 use crate::look::Look;
+use crate::mode::S_ISGID;
 use crate::new_node::NewNode;
 use crate::rows::{Change, ChangeList, Counters, EntryRow, NodeRow, Planned};
+use crate::terms::{inherits, max_nodes};
+use fuse_init::Profile;
+use fuse_request::InHeader;
 use fuse_wire::{ByteList, Errno, Memory, Moment};
 use std::alloc::Global;
+
+// Whether what is made in a directory of this mode gets its group.
+fn gives_group(profile: Profile, mode: u32) -> bool
+    ensures { result ≡ making.gives_group (terms profile) mode }
+{
+    inherits(profile) && mode / S_ISGID % 2 == 1
+}
+
+// The mode of what is made there: a directory gives its group too.
+fn mode_in(gives: bool, mode: u32) -> u32
+    requires { mode < 2 ^ 16 }
+    ensures { result ≡ making.mode_in gives mode }
+{
+    if gives && is_directory(mode) && mode / S_ISGID % 2 == 0 {
+        mode + S_ISGID
+    } else {
+        mode
+    }
+}
+
+// The initial attributes of a node that is made in the directory of this row.
+pub(crate) fn begun(
+    profile: Profile,
+    row: &NodeRow,
+    header: &InHeader,
+    mode: u32,
+    rdev: u32,
+    now: Moment,
+) -> NewNode
+    requires { mode < 2 ^ 16 }
+    ensures { result ≡ making.begun (terms profile) row.now.mode row.now.gid header.now mode rdev
+        now }
+{
+    let gives = gives_group(profile, row.mode);
+    NewNode {
+        mode: mode_in(gives, mode),
+        uid: header.uid,
+        gid: if gives { row.gid } else { header.gid },
+        rdev,
+        made: now,
+    }
+}
 
 // A new node in the directory of this row, where the name is free.
 pub(crate) fn plan_make<L: Look>(
     alloc: Global,
     look: &mut L,
+    valid: u64,
     fresh: &NewNode,
     name: &[u8],
     row: &NodeRow,
@@ -27,7 +77,7 @@ pub(crate) fn plan_make<L: Look>(
     requires fault { L.fault look.old ≡ None }
     requires within { IsWithin row.now }
     ensures { LooksUp (view L.is_clean L.sees L.fault L.looks L.fails) look.old look.new result
-        (planning.plan_make fresh.now name.now row.now) }
+        (planning.plan_make valid fresh.now name.now row.now) }
 {
     if !row.is_named() {
         return Ok(refused(alloc, Errno::ENOENT));
@@ -35,13 +85,14 @@ pub(crate) fn plan_make<L: Look>(
     if is_taken(look, row.node, name)? {
         return Ok(refused(alloc, Errno::EEXIST));
     }
-    make_with_room(alloc, look, fresh, name, row)
+    make_with_room(alloc, look, valid, fresh, name, row)
 }
 
 // A new node in the directory of this row, where there is room for it.
 fn make_with_room<L: Look>(
     alloc: Global,
     look: &mut L,
+    valid: u64,
     fresh: &NewNode,
     name: &[u8],
     row: &NodeRow,
@@ -49,36 +100,38 @@ fn make_with_room<L: Look>(
     requires fault { L.fault look.old ≡ None }
     requires within { IsWithin row.now }
     ensures { LooksUp (view L.is_clean L.sees L.fault L.looks L.fails) look.old look.new result
-        (plan_make_with_room fresh.now name.now row.now) }
+        (plan_make_with_room valid fresh.now name.now row.now) }
 {
     let counters = find_counters(look)?;
     if is_full_of(&counters) {
         return Ok(refused(alloc, Errno::ENOSPC));
     }
-    Ok(make(alloc, &counters, fresh, name, row)?)
+    Ok(make(alloc, valid, &counters, fresh, name, row)?)
 }
 
 fn is_full_of(counters: &Counters) -> bool
-    ensures { result ≡ is_full counters.now.nodes counters.now.next_node counters.now.next_cookie }
+    ensures full { result ≡ is_full (terms (profile_for counters.now.room)).node_limit
+        counters.now.nodes counters.now.next_node counters.now.next_cookie }
+    ensures few { result ≡ false → HasPlace counters.now }
 {
-    counters.nodes >= MAX_NODES
+    counters.nodes >= max_nodes(counters.profile())
         || counters.next_node >= COUNTER_END
         || counters.next_cookie >= COUNTER_END
 }
 
 fn make(
     alloc: Global,
+    valid: u64,
     counters: &Counters,
     fresh: &NewNode,
     name: &[u8],
     row: &NodeRow,
 ) -> Result<Planned, Memory>
     requires within { IsWithin row.now }
-    requires room { is_full counters.now.nodes counters.now.next_node counters.now.next_cookie
-        ≡ false }
-    ensures { IfOk result (λ p. p ≡ plan_new counters.now fresh.now name.now row.now) }
+    requires room { HasPlace counters.now }
+    ensures { IfOk result (λ p. p ≡ plan_new valid counters.now fresh.now name.now row.now) }
 {
-    let answer = entry_answer(alloc, &new_row_of(counters, fresh, row.node))?;
+    let answer = entry_answer(alloc, valid, &new_row_of(counters, fresh, row.node))?;
     let changes = make_changes(alloc, counters, fresh, name, row)?;
     Ok(Planned { answer, changes })
 }
@@ -92,8 +145,7 @@ fn make_changes(
     row: &NodeRow,
 ) -> Result<ChangeList, Memory>
     requires within { IsWithin row.now }
-    requires room { is_full counters.now.nodes counters.now.next_node counters.now.next_cookie
-        ≡ false }
+    requires room { HasPlace counters.now }
     ensures { IfOk result (λ changes. changes ≡ changes_of counters.now fresh.now name.now
         row.now) }
 {

@@ -7,11 +7,11 @@ ghost use Rattle.fuse_tree.specs.inner.Reading.{IsWithin, LooksUp, view};
 use super::answers::refused;
 use super::attributes::is_directory;
 use super::fault::PlanFault;
-use super::make::plan_make;
+use super::make::{begun, plan_make};
 use super::names::fault_of_name;
+use crate::agreement::Agreement;
 use crate::look::Look;
 use crate::mode::{S_IFBLK, S_IFCHR, S_IFIFO, S_IFREG, S_IFSOCK, TYPE_UNIT, TYPES};
-use crate::new_node::NewNode;
 use crate::rows::{NodeRow, Planned};
 use fuse_request::InHeader;
 use fuse_wire::{Errno, Moment};
@@ -29,6 +29,7 @@ pub(crate) struct MknodIn<'a> {
 pub(crate) fn plan_mknod<L: Look>(
     alloc: Global,
     look: &mut L,
+    agreement: &Agreement,
     header: &InHeader,
     asked: &MknodIn<'_>,
     now: Moment,
@@ -37,7 +38,7 @@ pub(crate) fn plan_mknod<L: Look>(
     requires fault { L.fault look.old ≡ None }
     requires within { IsWithin row.now }
     ensures { LooksUp (view L.is_clean L.sees L.fault L.looks L.fails) look.old look.new result
-        (planning.plan_mknod header.now asked.now.mode asked.now.rdev asked.now.name.now now
+        (planning.plan_mknod agreement.now header.now asked.now.mode asked.now.rdev asked.now.name.now now
         row.now) }
 {
     if !is_directory(row.mode) {
@@ -49,14 +50,10 @@ pub(crate) fn plan_mknod<L: Look>(
     if let Some(errno) = fault_of_name(asked.name) {
         return Ok(refused(alloc, errno));
     }
-    let fresh = NewNode {
-        mode: mode_of_node(asked.mode),
-        uid: header.uid,
-        gid: header.gid,
-        rdev: rdev_of_node(asked.mode, asked.rdev),
-        made: now,
-    };
-    plan_make(alloc, look, &fresh, asked.name, row)
+    let mode = mode_of_node(asked.mode);
+    let rdev = rdev_of_node(asked.mode, asked.rdev);
+    let fresh = begun(agreement.profile, row, header, mode, rdev, now);
+    plan_make(alloc, look, agreement.valid_secs(), &fresh, asked.name, row)
 }
 
 // The bits of the type.

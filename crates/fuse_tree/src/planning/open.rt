@@ -19,12 +19,13 @@ use std::alloc::Global;
 pub(crate) fn plan_open<L: Look>(
     alloc: Global,
     look: &mut L,
+    open_flags: u32,
     flags: u32,
     row: &NodeRow,
 ) -> Result<Planned, PlanFault>
     requires { L.fault look.old ≡ None }
     ensures { LooksUp (view L.is_clean L.sees L.fault L.looks L.fails) look.old look.new result
-        (planning.plan_open flags row.now) }
+        (planning.plan_open open_flags flags row.now) }
 {
     if is_directory(row.mode) {
         return Ok(refused(alloc, Errno::EISDIR));
@@ -35,7 +36,7 @@ pub(crate) fn plan_open<L: Look>(
     let Some(access) = AccessMode::of(flags) else {
         return Ok(refused(alloc, Errno::EINVAL));
     };
-    open_node(alloc, look, access, row.node)
+    open_node(alloc, look, open_flags, access, row.node)
 }
 
 // OPENDIR of the node of this row.
@@ -51,25 +52,26 @@ pub(crate) fn plan_open_dir<L: Look>(
     if !is_directory(row.mode) {
         return Ok(refused(alloc, Errno::ENOTDIR));
     }
-    open_node(alloc, look, AccessMode::ReadOnly, row.node)
+    open_node(alloc, look, 0, AccessMode::ReadOnly, row.node)
 }
 
 // One more handle of the node, where there is one left.
 fn open_node<L: Look>(
     alloc: Global,
     look: &mut L,
+    open_flags: u32,
     access: AccessMode,
     node: u64,
 ) -> Result<Planned, PlanFault>
     requires { L.fault look.old ≡ None }
     ensures { LooksUp (view L.is_clean L.sees L.fault L.looks L.fails) look.old look.new result
-        (plan_open_node access node) }
+        (plan_open_node open_flags access node) }
 {
     let counters = find_counters(look)?;
     if let Some(errno) = fault_of_opening(&counters) {
         return Ok(refused(alloc, errno));
     }
-    Ok(open(alloc, &counters, access, node)?)
+    Ok(open(alloc, open_flags, &counters, access, node)?)
 }
 
 // Why no handle is given out.
@@ -87,16 +89,17 @@ fn fault_of_opening(counters: &Counters) -> Option<Errno>
 
 fn open(
     alloc: Global,
+    open_flags: u32,
     counters: &Counters,
     access: AccessMode,
     node: u64,
 ) -> Result<Planned, Memory>
     requires { open_fault counters.now.handles counters.now.next_fh ≡ None }
-    ensures { IfOk result (λ p. p ≡ plan_opened counters.now access node) }
+    ensures { IfOk result (λ p. p ≡ plan_opened open_flags counters.now access node) }
 {
     let opened = OpenOut {
         fh: counters.next_fh,
-        open_flags: 0,
+        open_flags,
         backing_id: 0,
     };
     let answer = Answer::success(ByteList::from_vec(opened.body_of(alloc)?));

@@ -1,16 +1,17 @@
-ghost use Rattle.std.specs.Prelude.{◌≡◌, ◌≢◌, None, IfOk};
+ghost use Rattle.std.specs.Prelude.{◌≡◌, ◌∷◌, [], None, IfOk};
 ghost use Rattle.fuse_tree.specs.inner.PlanOpening as planning;
-ghost use Rattle.fuse_tree.specs.inner.PlanOpening.{plan_closed, plan_close};
+ghost use Rattle.fuse_tree.specs.inner.PlanOpening.{plan_close};
+ghost use Rattle.fuse_tree.specs.declared.rows.Change.TheVariants.{HandleGone, Counters as CountersLeft};
 ghost use Rattle.fuse_tree.specs.inner.Reading.{LooksUp, view};
 
-use super::answers::refused;
+use super::answers::{done_nothing, refused};
 use super::attributes::is_directory;
 use super::fault::PlanFault;
 use super::finding::{find_counters, is_open_at};
+use super::removal::{goes_with_handle, push_removal};
 use crate::look::Look;
 use crate::rows::{Change, ChangeList, Counters, NodeRow, Planned};
-use fuse_answer::Answer;
-use fuse_wire::{ByteList, Errno, Memory};
+use fuse_wire::{Errno, Memory};
 use std::alloc::Global;
 
 // RELEASE of a handle of the node of this row.
@@ -29,7 +30,7 @@ pub(crate) fn plan_release<L: Look>(
     } else {
         None
     };
-    close(alloc, look, fh, kind_fault, row.node)
+    close(alloc, look, fh, kind_fault, row)
 }
 
 // RELEASEDIR of a handle of the node of this row.
@@ -48,47 +49,67 @@ pub(crate) fn plan_release_dir<L: Look>(
     } else {
         Some(Errno::ENOTDIR)
     };
-    close(alloc, look, fh, kind_fault, row.node)
+    close(alloc, look, fh, kind_fault, row)
 }
 
 // Closes a handle that is open at this node, unless the node is of another kind.
-#[tactic(auto, using(crate::proofs::Bounds::handle_counted))]
 fn close<L: Look>(
     alloc: Global,
     look: &mut L,
     fh: u64,
     kind_fault: Option<Errno>,
-    node: u64,
+    row: &NodeRow,
 ) -> Result<Planned, PlanFault>
     requires { L.fault look.old ≡ None }
     ensures { LooksUp (view L.is_clean L.sees L.fault L.looks L.fails) look.old look.new result
-        (plan_close fh kind_fault node) }
+        (plan_close fh kind_fault row.now) }
 {
-    if !is_open_at(look, fh, node)? {
+    if !is_open_at(look, fh, row.node)? {
         return Ok(refused(alloc, Errno::EBADF));
     }
     if let Some(errno) = kind_fault {
         return Ok(refused(alloc, errno));
     }
-    let counters = find_counters(look)?;
-    if counters.handles == 0 {
-        return Err(PlanFault::NotATree);
-    }
-    Ok(closed(alloc, &counters, fh)?)
+    plan_closed(alloc, look, fh, row)
 }
 
-fn closed(alloc: Global, counters: &Counters, fh: u64) -> Result<Planned, Memory>
-    requires { counters.now.handles ≢ 0 }
-    ensures { IfOk result (λ p. p ≡ plan_closed counters.now fh) }
+// The fh goes, and its node where nothing else keeps it.
+fn plan_closed<L: Look>(
+    alloc: Global,
+    look: &mut L,
+    fh: u64,
+    row: &NodeRow,
+) -> Result<Planned, PlanFault>
+    requires { L.fault look.old ≡ None }
+    ensures { LooksUp (view L.is_clean L.sees L.fault L.looks L.fails) look.old look.new result
+        (planning.plan_closed fh row.now) }
+{
+    let counters = find_counters(look)?;
+    let left = counters_closed(&counters);
+    let mut changes = changes_of(alloc, left, fh)?;
+    if goes_with_handle(look, counters.profile(), fh, row)? {
+        push_removal(&mut changes, row, &left)?;
+    }
+    Ok(Planned {
+        answer: done_nothing(alloc).answer,
+        changes: ChangeList::from_vec(changes),
+    })
+}
+
+fn counters_closed(counters: &Counters) -> Counters
+    ensures { result ≡ planning.counters_closed counters.now }
+{
+    Counters {
+        handles: counters.handles.saturating_sub(1),
+        ..*counters
+    }
+}
+
+fn changes_of(alloc: Global, left: Counters, fh: u64) -> Result<Vec<Change>, Memory>
+    ensures { IfOk result (λ changes. changes.items ≡ HandleGone fh ∷ CountersLeft left ∷ []) }
 {
     let mut changes = Vec::new(alloc);
     changes.push(Change::HandleGone { fh })?;
-    changes.push(Change::Counters(Counters {
-        handles: counters.handles - 1,
-        ..*counters
-    }))?;
-    Ok(Planned {
-        answer: Answer::success(ByteList::from_vec(Vec::new(alloc))),
-        changes: ChangeList::from_vec(changes),
-    })
+    changes.push(Change::Counters(left))?;
+    Ok(changes)
 }

@@ -1,31 +1,45 @@
-ghost use Rattle.std.specs.Prelude.{◌≡◌, IfOk};
+ghost use Rattle.std.specs.Prelude.{◌≡◌, None, IfOk};
 ghost use Rattle.fuse_tree.specs.inner.PlanRemoving as planning;
 ghost use Rattle.fuse_tree.specs.inner.PlanRemoving.{gone_changes, left_row, unnamed_row};
+ghost use Rattle.fuse_tree.specs.inner.Reading.{LooksUp, view};
 
 use super::answers::done_nothing;
 use super::attributes::is_directory;
-use super::finding::Link;
+use super::fault::PlanFault;
+use super::finding::{Link, find_counters};
+use super::removal::{goes_without_name, push_removal};
+use crate::look::Look;
 use crate::rows::{Change, ChangeList, NodeRow, Planned};
+use fuse_init::Profile;
 use fuse_wire::{Memory, Moment};
 use std::alloc::Global;
 
-// The entry of this link goes from the directory of this row.
-pub(crate) fn plan_gone(
+// The entry of this link goes from the directory of this row, and its child where nothing keeps it.
+pub(crate) fn plan_gone<L: Look>(
     alloc: Global,
+    look: &mut L,
+    profile: Profile,
     now: Moment,
     link: &Link,
     row: &NodeRow,
-) -> Result<Planned, Memory>
-    ensures { IfOk result (λ p. p ≡ planning.plan_gone now link.now row.now) }
+) -> Result<Planned, PlanFault>
+    requires { L.fault look.old ≡ None }
+    ensures { LooksUp (view L.is_clean L.sees L.fault L.looks L.fails) look.old look.new result
+        (planning.plan_gone profile now link.now row.now) }
 {
+    let mut changes = changes_of(alloc, now, link, row)?;
+    if goes_without_name(look, profile, link.child.node)? {
+        let counters = find_counters(look)?;
+        push_removal(&mut changes, &link.child, &counters)?;
+    }
     Ok(Planned {
         answer: done_nothing(alloc).answer,
-        changes: changes_of(alloc, now, link, row)?,
+        changes: ChangeList::from_vec(changes),
     })
 }
 
-fn changes_of(alloc: Global, now: Moment, link: &Link, row: &NodeRow) -> Result<ChangeList, Memory>
-    ensures { IfOk result (λ changes. changes ≡ gone_changes now link.now row.now) }
+fn changes_of(alloc: Global, now: Moment, link: &Link, row: &NodeRow) -> Result<Vec<Change>, Memory>
+    ensures { IfOk result (λ changes. changes.items ≡ gone_changes now link.now row.now) }
 {
     let mut changes = Vec::new(alloc);
     changes.push(Change::EntryGone {
@@ -33,7 +47,7 @@ fn changes_of(alloc: Global, now: Moment, link: &Link, row: &NodeRow) -> Result<
     })?;
     changes.push(Change::Node(left_row_of(now, &link.child, row)))?;
     changes.push(Change::Node(unnamed_row_of(now, &link.child)))?;
-    Ok(ChangeList::from_vec(changes))
+    Ok(changes)
 }
 
 // The row of a directory when the entry of this child goes from it.

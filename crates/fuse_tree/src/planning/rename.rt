@@ -1,5 +1,6 @@
-ghost use Rattle.std.specs.Prelude.{◌≡◌, ◌==◌, ◌&&◌, nat_eq, None, IfOk, IfSome};
+ghost use Rattle.std.specs.Prelude.{◌≡◌, ◌<◌, ◌==◌, ◌&&◌, nat_eq, None, IfOk, IfSome};
 ghost use Rattle.std.specs.Cmp.Lexicographic.{pointwise};
+ghost use Rattle.fuse_tree.specs.declared.limits.TheConstants.{COUNTER_END as counter_end};
 ghost use Rattle.fuse_tree.specs.State.{is_dir};
 ghost use Rattle.fuse_tree.specs.Rows.{row_is_named};
 ghost use Rattle.fuse_tree.specs.inner.Reading.{IsWithin, LooksUp, view};
@@ -19,11 +20,12 @@ use super::fault::PlanFault;
 use super::finding::{Link, find_counters, find_link, find_node, has_entries};
 use super::moving::rename_changes_of;
 use super::names::fault_of_name;
+use super::removal::{goes_without_name, push_removal};
 use super::walking::lies_in;
 use crate::limits::COUNTER_END;
 use crate::look::Look;
 use crate::rename_mode::RenameMode;
-use crate::rows::{NodeRow, Planned};
+use crate::rows::{ChangeList, Counters, NodeRow, Planned};
 use fuse_wire::{Errno, Moment};
 use std::alloc::Global;
 
@@ -347,9 +349,36 @@ fn rename_with_room<L: Look>(
     if counters.next_cookie >= COUNTER_END {
         return Ok(refused(alloc, Errno::ENOSPC));
     }
-    let changes = rename_changes_of(alloc, asked, &counters, from, to, source, other)?;
+    let moved = rename_changes_of(alloc, asked, &counters, from, to, source, other)?;
     Ok(Planned {
         answer: done_nothing(alloc).answer,
-        changes,
+        changes: with_lost(look, moved, &counters, other)?,
     })
+}
+
+// The changes, and those by which the child of the lost link goes where nothing keeps it.
+fn with_lost<L: Look>(
+    look: &mut L,
+    moved: ChangeList,
+    counters: &Counters,
+    other: Option<Link>,
+) -> Result<ChangeList, PlanFault>
+    requires fault { L.fault look.old ≡ None }
+    requires room { counters.now.next_cookie < counter_end }
+    ensures { LooksUp (view L.is_clean L.sees L.fault L.looks L.fails) look.old look.new result
+        (λ rows. planning.with_lost counters.now other rows moved) }
+{
+    let Some(other) = other else {
+        return Ok(moved);
+    };
+    if !goes_without_name(look, counters.profile(), other.child.node)? {
+        return Ok(moved);
+    }
+    let mut changes = moved.into_vec();
+    let given = Counters {
+        next_cookie: counters.next_cookie + 1,
+        ..*counters
+    };
+    push_removal(&mut changes, &other.child, &given)?;
+    Ok(ChangeList::from_vec(changes))
 }

@@ -1,37 +1,70 @@
-ghost use Rattle.std.specs.Prelude.{◌≡◌, ◌∷◌, IfOk};
+ghost use Rattle.std.specs.Prelude.{◌≡◌, ◌≤◌, ◌&&◌, None, not, true, false, IfOk};
+ghost use Rattle.fuse_tree.specs.Bounds.{file_limit};
+ghost use Rattle.fuse_init.specs.Profile.{terms};
+ghost use Rattle.fuse_wire.specs.Bits.{fattr_size};
+ghost use Rattle.fuse_tree.specs.Space.{has_room};
 ghost use Rattle.fuse_tree.specs.Setting as setting;
 ghost use Rattle.fuse_tree.specs.Setting.{set_fault};
 ghost use Rattle.fuse_tree.specs.inner.PlanSetting as planning;
-ghost use Rattle.fuse_tree.specs.inner.PlanSetting.{set_row, size_changes};
-ghost use Rattle.fuse_tree.specs.inner.Reading.{IsWithin};
+ghost use Rattle.fuse_tree.specs.inner.PlanSetting.{set_row, set_changes, set_counters};
+ghost use Rattle.fuse_tree.specs.inner.PlanSpace.{room_in};
+ghost use Rattle.fuse_tree.specs.inner.Reading.{IsWithin, LooksUp, view};
 
 use super::answers::{attr_answer, refused};
 use super::attributes::{is_directory, is_regular_file};
-use crate::limits::MAX_FILE;
+use super::fault::PlanFault;
+use super::space::{find_sized, is_room_for, push_room};
+use crate::agreement::Agreement;
+use crate::look::Look;
 use crate::mode::TYPE_UNIT;
-use crate::rows::{Change, ChangeList, NodeRow, Planned};
+use crate::rows::{Change, ChangeList, Counters, NodeRow, Planned};
+use crate::terms::max_file;
 use bitflags::Flags;
+use fuse_init::Profile;
 use fuse_request::SetattrIn;
 use fuse_wire::{Errno, Memory, Moment, SetattrValid};
 use std::alloc::Global;
 
 // SETATTR of the node of this row.
-pub(crate) fn plan_setattr(
+pub(crate) fn plan_setattr<L: Look>(
     alloc: Global,
+    look: &mut L,
+    agreement: &Agreement,
     set: &SetattrIn,
     now: Moment,
     row: &NodeRow,
-) -> Result<Planned, Memory>
-    requires { IsWithin row.now }
-    ensures { IfOk result (λ p. p ≡ planning.plan_setattr set.now now row.now) }
+) -> Result<Planned, PlanFault>
+    requires fault { L.fault look.old ≡ None }
+    requires within { IsWithin row.now }
+    ensures { LooksUp (view L.is_clean L.sees L.fault L.looks L.fails) look.old look.new result
+        (planning.plan_setattr agreement.now set.now now row.now) }
 {
-    if let Some(errno) = fault_of_set(set, row.mode) {
+    if let Some(errno) = fault_of_set(agreement.profile, set, row.mode) {
         return Ok(refused(alloc, errno));
     }
-    let after = row_after(set, now, row);
-    let answer = attr_answer(alloc, &after)?;
-    let changes = changes_to(alloc, set, after)?;
-    Ok(Planned { answer, changes })
+    let counters = find_set(look, agreement.profile, set)?;
+    if has(set, SetattrValid::SIZE) && !is_room_for(&counters, row.size, set.size) {
+        return Ok(refused(alloc, Errno::ENOSPC));
+    }
+    let valid = agreement.attr_valid_secs(row.node);
+    Ok(set_with_room(alloc, valid, set, now, row, &counters)?)
+}
+
+// The counters, where the size is set and blocks are counted.
+fn find_set<L: Look>(
+    look: &mut L,
+    profile: Profile,
+    set: &SetattrIn,
+) -> Result<Option<Counters>, PlanFault>
+    requires { L.fault look.old ≡ None }
+    ensures { LooksUp (view L.is_clean L.sees L.fault L.looks L.fails) look.old look.new result
+        (set_counters profile set.now) }
+{
+    if has(set, SetattrValid::SIZE) {
+        find_sized(look, profile)
+    } else {
+        Ok(None)
+    }
 }
 
 // Whether this bit is set. Bits without names are ignored.
@@ -55,8 +88,10 @@ fn sets_any(set: &SetattrIn) -> bool
 }
 
 // The fault of a SETATTR for a node of this mode.
-fn fault_of_set(set: &SetattrIn, mode: u32) -> Option<Errno>
-    ensures { result ≡ set_fault set.now mode }
+fn fault_of_set(profile: Profile, set: &SetattrIn, mode: u32) -> Option<Errno>
+    ensures fault { result ≡ set_fault (terms profile).file_limit set.now mode }
+    ensures within { result ≡ None → setting.has set.now fattr_size ≡ true
+        → set.now.size ≤ file_limit }
 {
     if !has(set, SetattrValid::SIZE) {
         None
@@ -64,7 +99,7 @@ fn fault_of_set(set: &SetattrIn, mode: u32) -> Option<Errno>
         Some(Errno::EISDIR)
     } else if !is_regular_file(mode) {
         Some(Errno::EINVAL)
-    } else if set.size > MAX_FILE {
+    } else if set.size > max_file(profile) {
         Some(Errno::EFBIG)
     } else {
         None
@@ -150,18 +185,47 @@ fn row_after(set: &SetattrIn, now: Moment, row: &NodeRow) -> NodeRow
     after
 }
 
-// The row, and where the size is set the bytes.
-fn changes_to(alloc: Global, set: &SetattrIn, after: NodeRow) -> Result<ChangeList, Memory>
-    ensures { IfOk result (λ changes. changes ≡ Change.Node after
-        ∷ size_changes set.now after.node) }
+// Where there is room for the size.
+fn set_with_room(
+    alloc: Global,
+    valid: u64,
+    set: &SetattrIn,
+    now: Moment,
+    row: &NodeRow,
+    counters: &Option<Counters>,
+) -> Result<Planned, Memory>
+    requires within { IsWithin row.now }
+    requires size { setting.has set.now fattr_size ≡ true → set.now.size ≤ file_limit }
+    requires room { (setting.has set.now fattr_size
+        && not (has_room (room_in counters.now) row.now.size set.now.size)) ≡ false }
+    ensures { IfOk result (λ p. p ≡ planning.plan_set valid set.now now row.now counters.now) }
+{
+    let after = row_after(set, now, row);
+    let answer = attr_answer(alloc, valid, &after)?;
+    let changes = changes_to(alloc, set, now, row, counters)?;
+    Ok(Planned { answer, changes })
+}
+
+// The row, and where the size is set the bytes and the room.
+fn changes_to(
+    alloc: Global,
+    set: &SetattrIn,
+    now: Moment,
+    row: &NodeRow,
+    counters: &Option<Counters>,
+) -> Result<ChangeList, Memory>
+    requires { (setting.has set.now fattr_size
+        && not (has_room (room_in counters.now) row.now.size set.now.size)) ≡ false }
+    ensures { IfOk result (λ changes. changes ≡ set_changes set.now now row.now counters.now) }
 {
     let mut changes = Vec::new(alloc);
-    changes.push(Change::Node(after))?;
+    changes.push(Change::Node(row_after(set, now, row)))?;
     if has(set, SetattrValid::SIZE) {
         changes.push(Change::Sized {
-            node: after.node,
+            node: row.node,
             size: set.size,
         })?;
+        push_room(&mut changes, counters, row.size, set.size)?;
     }
     Ok(ChangeList::from_vec(changes))
 }

@@ -11,6 +11,7 @@ use super::names::fault_of_name;
 use super::remove::plan_gone;
 use crate::look::Look;
 use crate::rows::{NodeRow, Planned};
+use fuse_init::Profile;
 use fuse_wire::{Errno, Moment};
 use std::alloc::Global;
 
@@ -18,13 +19,14 @@ use std::alloc::Global;
 pub(crate) fn plan_unlink<L: Look>(
     alloc: Global,
     look: &mut L,
+    profile: Profile,
     name: &[u8],
     now: Moment,
     row: &NodeRow,
 ) -> Result<Planned, PlanFault>
     requires { L.fault look.old ≡ None }
     ensures { LooksUp (view L.is_clean L.sees L.fault L.looks L.fails) look.old look.new result
-        (planning.plan_unlink name.now now row.now) }
+        (planning.plan_unlink profile name.now now row.now) }
 {
     if !is_directory(row.mode) {
         return Ok(refused(alloc, Errno::ENOTDIR));
@@ -32,20 +34,21 @@ pub(crate) fn plan_unlink<L: Look>(
     if let Some(errno) = fault_of_name(name) {
         return Ok(refused(alloc, errno));
     }
-    unlink_named(alloc, look, name, now, row)
+    unlink_named(alloc, look, profile, name, now, row)
 }
 
 // UNLINK where the name may stand in a directory.
 fn unlink_named<L: Look>(
     alloc: Global,
     look: &mut L,
+    profile: Profile,
     name: &[u8],
     now: Moment,
     row: &NodeRow,
 ) -> Result<Planned, PlanFault>
     requires { L.fault look.old ≡ None }
     ensures { LooksUp (view L.is_clean L.sees L.fault L.looks L.fails) look.old look.new result
-        (plan_unlink_named name.now now row.now) }
+        (plan_unlink_named profile name.now now row.now) }
 {
     if !row.is_named() {
         return Ok(refused(alloc, Errno::ENOENT));
@@ -56,5 +59,5 @@ fn unlink_named<L: Look>(
     if is_directory(link.child.mode) {
         return Ok(refused(alloc, Errno::EISDIR));
     }
-    Ok(plan_gone(alloc, now, &link, row)?)
+    plan_gone(alloc, look, profile, now, &link, row)
 }

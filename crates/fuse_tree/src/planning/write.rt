@@ -1,18 +1,23 @@
-ghost use Rattle.std.specs.Prelude.{◌≡◌, ◌+◌, None, length, nat_lt, false, IfOk};
-ghost use Rattle.fuse_tree.specs.declared.limits.TheConstants.{MAX_FILE as max_file};
+ghost use Rattle.std.specs.Prelude.{◌≡◌, ◌≤◌, ◌+◌, max, None, length, nat_lt, true, false, IfOk};
+ghost use Rattle.fuse_init.specs.Profile.{terms};
+ghost use Rattle.fuse_tree.specs.Bounds.{file_limit};
+ghost use Rattle.fuse_tree.specs.Space.{has_room};
 ghost use Rattle.fuse_tree.specs.Writing as writing;
 ghost use Rattle.fuse_tree.specs.Writing.{count_body};
 ghost use Rattle.fuse_tree.specs.inner.PlanWriting as planning;
 ghost use Rattle.fuse_tree.specs.inner.PlanWriting.{written_row, write_changes, plan_written};
+ghost use Rattle.fuse_tree.specs.inner.PlanSpace.{room_in};
 ghost use Rattle.fuse_tree.specs.inner.Reading.{told, LooksUp, view};
 
 use super::answers::{refused, unchanged};
 use super::fault::PlanFault;
 use super::finding::find_access;
-use crate::limits::MAX_FILE;
+use super::space::{find_sized, is_room_for, push_room};
 use crate::look::Look;
-use crate::rows::{Change, ChangeList, NodeRow, Planned};
+use crate::rows::{Change, ChangeList, Counters, NodeRow, Planned};
+use crate::terms::max_file;
 use fuse_answer::{Answer, WriteOut};
+use fuse_init::Profile;
 use fuse_wire::{AccessMode, ByteList, Errno, Memory, Moment};
 use std::alloc::Global;
 
@@ -20,6 +25,7 @@ use std::alloc::Global;
 pub(crate) fn plan_write<L: Look>(
     alloc: Global,
     look: &mut L,
+    profile: Profile,
     fh: u64,
     offset: u64,
     payload: &[u8],
@@ -28,7 +34,7 @@ pub(crate) fn plan_write<L: Look>(
 ) -> Result<Planned, PlanFault>
     requires { L.fault look.old ≡ None }
     ensures { LooksUp (view L.is_clean L.sees L.fault L.looks L.fails) look.old look.new result
-        (planning.plan_write fh offset payload.now now row.now) }
+        (planning.plan_write profile fh offset payload.now now row.now) }
 {
     if !may_write(find_access(look, fh, row.node)?) {
         return Ok(refused(alloc, Errno::EBADF));
@@ -36,10 +42,15 @@ pub(crate) fn plan_write<L: Look>(
     if payload.is_empty() {
         return Ok(unchanged(alloc, count_answer(alloc, 0)?));
     }
-    if ends_too_far(offset, payload.len()) {
+    if ends_too_far(profile, offset, payload.len()) {
         return Ok(refused(alloc, Errno::EFBIG));
     }
-    Ok(write(alloc, offset, payload, now, row)?)
+    let counters = find_sized(look, profile)?;
+    let size = row.size.max(offset + payload.len() as u64);
+    if !is_room_for(&counters, row.size, size) {
+        return Ok(refused(alloc, Errno::ENOSPC));
+    }
+    Ok(write(alloc, offset, payload, now, row, &counters)?)
 }
 
 // Whether what is open so may be written to.
@@ -50,16 +61,23 @@ fn may_write(access: Option<AccessMode>) -> bool
 }
 
 // Whether so many bytes end past the end of every file.
-fn ends_too_far(offset: u64, len: usize) -> bool
-    ensures { result ≡ nat_lt max_file (offset + len) }
+fn ends_too_far(profile: Profile, offset: u64, len: usize) -> bool
+    ensures far { result ≡ nat_lt (terms profile).file_limit (offset + len) }
+    ensures within { result ≡ false → offset + len ≤ file_limit }
 {
-    offset > MAX_FILE || len as u64 > MAX_FILE - offset
+    let most = max_file(profile);
+    offset > most || len as u64 > most - offset
 }
 
 // How many bytes were written.
-fn count_answer(alloc: Global, size: u32) -> Result<Answer, Memory>
-    ensures { IfOk result (λ answer. answer ≡ (told (count_body size)).answer) }
+fn count_answer(alloc: Global, count: usize) -> Result<Answer, Memory>
+    ensures { IfOk result (λ answer. answer ≡ (told (count_body count)).answer) }
 {
+    // No message is that long.
+    if count > u32::MAX as usize {
+        return Err(Memory);
+    }
+    let size = count as u32;
     let body = WriteOut { size }.body_of(alloc)?;
     Ok(Answer::success(ByteList::from_vec(body)))
 }
@@ -70,25 +88,32 @@ fn write(
     payload: &[u8],
     now: Moment,
     row: &NodeRow,
+    counters: &Option<Counters>,
 ) -> Result<Planned, Memory>
-    requires { nat_lt max_file (offset + length payload.now) ≡ false }
-    ensures { IfOk result (λ p. p ≡ plan_written offset payload.now now row.now) }
+    requires within { offset + length payload.now ≤ file_limit }
+    requires room { has_room (room_in counters.now) row.now.size
+        (max row.now.size (offset + length payload.now)) ≡ true }
+    ensures { IfOk result (λ p. p ≡ plan_written offset payload.now now row.now counters.now) }
 {
-    let answer = count_answer(alloc, payload.len() as u32)?;
-    let changes = changes_to(alloc, offset, payload, now, row)?;
+    let answer = count_answer(alloc, payload.len())?;
+    let changes = changes_to(alloc, offset, payload, now, row, counters)?;
     Ok(Planned { answer, changes })
 }
 
-// The row and the bytes: no more than the payload is written.
+// The row, the bytes and the room: no more than the payload is written.
 fn changes_to(
     alloc: Global,
     offset: u64,
     payload: &[u8],
     now: Moment,
     row: &NodeRow,
+    counters: &Option<Counters>,
 ) -> Result<ChangeList, Memory>
-    requires { nat_lt max_file (offset + length payload.now) ≡ false }
-    ensures { IfOk result (λ changes. changes ≡ write_changes offset payload.now now row.now) }
+    requires within { offset + length payload.now ≤ file_limit }
+    requires room { has_room (room_in counters.now) row.now.size
+        (max row.now.size (offset + length payload.now)) ≡ true }
+    ensures { IfOk result (λ changes. changes
+        ≡ write_changes offset payload.now now row.now counters.now) }
 {
     let mut changes = Vec::new(alloc);
     let end = offset + payload.len() as u64;
@@ -99,6 +124,7 @@ fn changes_to(
         offset,
         bytes,
     })?;
+    push_room(&mut changes, counters, row.size, row.size.max(end))?;
     Ok(ChangeList::from_vec(changes))
 }
 

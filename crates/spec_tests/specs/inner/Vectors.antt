@@ -7,7 +7,8 @@ use Rattle.fuse_answer.specs.Wire.{wire}
 use Rattle.fuse_request.specs.Act as acts
 use Rattle.fuse_request.specs.Canon.{canon}
 use Rattle.fuse_request.specs.Opcodes.{no_others}
-use Rattle.fuse_tree.specs.TheTree.{the_tree}
+use Rattle.fuse_init.specs.declared.profile.Profile.TheVariants.{Plain}
+use Rattle.fuse_tree.specs.TheTree.{tree_of}
 use Rattle.fuse_keeper.specs.History.{Entry}
 use Rattle.fuse_tree.specs.inner.Vectors.{at, asks, first, mkdir_a, entry_a}
 use Rattle.fuse_sim.specs.declared.event.Fate.{Fate}
@@ -28,7 +29,7 @@ events = mkdir_event 6 DiedAfterCommit ∷ mkdir_event (2 ^ 63 + 6) Answered ∷
 abbrev pub Resent : Type 0
 Resent =
     (committed no_others [] events ≡ entry 6 ∷ entry 10 ∷ [])
-    × (map (outcome_of the_tree first (committed no_others [] events)) events ≡ None ∷ Some (wire 0 entry_a (2 ^ 63 + 6)) ∷ None ∷ Some (wire eexist.0 [] 10) ∷ [])
+    × (map (outcome_of (tree_of Plain) first (committed no_others [] events)) events ≡ None ∷ Some (wire 0 entry_a (2 ^ 63 + 6)) ∷ None ∷ Some (wire eexist.0 [] 10) ∷ [])
     × (settled_by no_others [] events ≡ 6 ∷ 10 ∷ [])
 
 -- a message with an opcode outside the profile, and FORGET
@@ -45,5 +46,5 @@ bare_and_silent =
 abbrev pub NotKept : Type 0
 NotKept =
     (committed no_others [] bare_and_silent ≡ [])
-    × (map (outcome_of the_tree first []) bare_and_silent ≡ Some (wire enosys.0 [] 4) ∷ None ∷ [])
+    × (map (outcome_of (tree_of Plain) first []) bare_and_silent ≡ Some (wire enosys.0 [] 4) ∷ None ∷ [])
     × (settled_by no_others [] bare_and_silent ≡ [])

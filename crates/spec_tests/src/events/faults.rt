@@ -14,11 +14,12 @@ struct Closed {
 }
 
 impl Keeper for Closed {
-    ghost use Rattle.fuse_tree.specs.TheTree.{the_tree};
+    ghost use Rattle.fuse_init.specs.declared.profile.Profile.TheVariants.{Plain};
+    ghost use Rattle.fuse_tree.specs.TheTree.{tree_of};
     ghost use Rattle.spec_tests.specs.inner.TreeInLists.{tree_told};
     ghost use Rattle.std.proofs.Common.{sym, ◌∙◌};
 
-    ghost model = { the_tree };
+    ghost model = { tree_of Plain };
 
     ghost told = { λ k. tree_told k.inner };
 

@@ -1,5 +1,6 @@
 //! Two lives of a server over a port that loses answers.
 use crate::hex::put_hex;
+use fuse_init::PlainProfile;
 use fuse_keeper::{Keeper, PlainKeeper, Restart};
 use fuse_session::{Ended, Fixed, Port, SessionCounts, serve};
 use fuse_tree::PlainTree;
@@ -53,7 +54,7 @@ fn counts_of(kept: u64, repeated: u64) -> SessionCounts {
 // messages arrive at once.
 fn serves(
     alloc: Global,
-    keeper: &mut PlainKeeper<PlainTree>,
+    keeper: &mut PlainKeeper<PlainTree<PlainProfile>>,
     every: u32,
     exchanges: &[Exchange],
     counts: SessionCounts,
@@ -73,7 +74,7 @@ fn serves(
 }
 
 // Whether the keeper has these numbers of nodes and handles.
-fn holds(keeper: &mut PlainKeeper<PlainTree>, nodes: u64, handles: u64) -> bool {
+fn holds(keeper: &mut PlainKeeper<PlainTree<PlainProfile>>, nodes: u64, handles: u64) -> bool {
     matches!(keeper.counts(), Ok(counts) if counts.nodes == nodes && counts.handles == handles)
 }
 
@@ -82,7 +83,7 @@ fn holds(keeper: &mut PlainKeeper<PlainTree>, nodes: u64, handles: u64) -> bool 
 // not, and changes nothing: there are the root and f, handles 1 and 2, and the new one of the second
 // life.
 fn lives(alloc: Global) -> Result<([[bool; 4]; 2], bool), Fail> {
-    let mut keeper: PlainKeeper<PlainTree> = PlainKeeper::new(alloc, NOW)?;
+    let mut keeper: PlainKeeper<PlainTree<PlainProfile>> = PlainKeeper::new(alloc, NOW)?;
     let first = serves(alloc, &mut keeper, 3, &FIRST, counts_of(4, 0))?;
     let mut opened = keeper.restart()?;
     let second = serves(alloc, &mut opened, 0, &SECOND, counts_of(6, 5))?;

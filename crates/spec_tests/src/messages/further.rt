@@ -1,7 +1,10 @@
 // Messages of opcodes outside the profile, their bodies, and answers to them: the bytes of the
 // cases of CREATE, SYMLINK and STATFS in the specification, and of structs of fuse.h.
-use fuse_answer::{Attr, CreateOut, EntryOut, LseekOut, OpenOut, StatfsOut, XattrOut};
-use fuse_request::opcode::{CREATE, LOOKUP, LSEEK, READLINK, SETXATTR, SYMLINK};
+use fuse_answer::{
+    Attr, CreateOut, Dirent, EntryOut, LseekOut, OpenOut, PackFault, PlusDirent, StatfsOut,
+    XattrOut, epoch_notice, pack_plus, resend_notice,
+};
+use fuse_request::opcode::{CREATE, LOOKUP, LSEEK, READDIRPLUS, READLINK, SETXATTR, SYMLINK};
 use fuse_request::{Body, Class, Malformed, Op, classify_for, decode, decode_body, is_message};
 use fuse_wire::{Errno, Memory};
 use std::alloc::Global;
@@ -65,8 +68,27 @@ fn reads_lseek() -> bool {
     }
 }
 
+// READDIRPLUS by handle 1 from 2, of 4,096 bytes.
+fn reads_readdirplus() -> bool {
+    match decode_body(
+        READDIRPLUS,
+        b"\x01\0\0\0\0\0\0\0\x02\0\0\0\0\0\0\0\0\x10\0\0\0\0\0\0\
+            \0\0\0\0\0\0\0\0\0\0\0\0\0\0\0\0"
+            .as_slice(),
+    ) {
+        Ok(Some(Body::ReadDirPlus(asked))) => {
+            asked.fh == 1 && asked.offset == 2 && asked.size == 4096
+        }
+        _ => false,
+    }
+}
+
 // A body is refused by its first fault, and a LOOKUP isn't read here.
 fn refuses() -> bool {
+    let longer = matches!(
+        decode_body(READDIRPLUS, &[0; 41]),
+        Err(Malformed::BodyLength)
+    );
     let short = matches!(
         decode_body(CREATE, b"\x42\0\0\0".as_slice()),
         Err(Malformed::BodyLength)
@@ -84,7 +106,7 @@ fn refuses() -> bool {
         Err(Malformed::CountDiffers)
     );
     let other = matches!(decode_body(LOOKUP, b"f\0".as_slice()), Ok(None));
-    short && endless && after && counted && other
+    longer && short && endless && after && counted && other
 }
 
 #[test]
@@ -92,6 +114,7 @@ fn further_bodies(rt: HostRuntime) {
     assert!(rt; reads_create());
     assert!(rt; reads_symlink());
     assert!(rt; reads_setxattr());
+    assert!(rt; reads_readdirplus());
     assert!(rt; reads_lseek());
     assert!(rt; refuses());
 }
@@ -112,34 +135,37 @@ const ROOM_BYTES: &[u8] = b"\0\0\0\x10\0\0\0\0\0\0\0\x10\0\0\0\0\0\0\0\x10\0\0\0
     \0\0\x10\0\0\0\0\0\xff\xff\x0f\0\0\0\0\0\0\x10\0\0\xff\0\0\0\0\x10\0\0\0\0\0\0\
     \0\0\0\0\0\0\0\0\0\0\0\0\0\0\0\0\0\0\0\0\0\0\0\0";
 
-// The regular file `f` that CREATE made as node 2 at second 1,000, open as handle 1.
-const CREATED: CreateOut = CreateOut {
-    entry: EntryOut {
-        nodeid: 2,
-        generation: 0,
-        entry_valid: 86400,
-        attr_valid: 86400,
-        entry_valid_nsec: 0,
-        attr_valid_nsec: 0,
-        attr: Attr {
-            ino: 2,
-            size: 0,
-            blocks: 0,
-            atime: 1000,
-            mtime: 1000,
-            ctime: 1000,
-            atimensec: 0,
-            mtimensec: 0,
-            ctimensec: 0,
-            mode: 0o100644,
-            nlink: 1,
-            uid: 1000,
-            gid: 1000,
-            rdev: 0,
-            blksize: 4096,
-            flags: 0,
-        },
+// The regular file `f` that CREATE made as node 2 at second 1,000.
+const CREATED_ENTRY: EntryOut = EntryOut {
+    nodeid: 2,
+    generation: 0,
+    entry_valid: 86400,
+    attr_valid: 86400,
+    entry_valid_nsec: 0,
+    attr_valid_nsec: 0,
+    attr: Attr {
+        ino: 2,
+        size: 0,
+        blocks: 0,
+        atime: 1000,
+        mtime: 1000,
+        ctime: 1000,
+        atimensec: 0,
+        mtimensec: 0,
+        ctimensec: 0,
+        mode: 0o100644,
+        nlink: 1,
+        uid: 1000,
+        gid: 1000,
+        rdev: 0,
+        blksize: 4096,
+        flags: 0,
     },
+};
+
+// It is open as handle 1.
+const CREATED: CreateOut = CreateOut {
+    entry: CREATED_ENTRY,
     open: OpenOut {
         fh: 1,
         open_flags: 2,
@@ -176,6 +202,89 @@ fn further_answers(rt: HostRuntime) -> Result<(), Memory> {
     let numbers = writes_numbers(rt.alloc())?;
     assert!(rt; room && created && numbers);
     Ok(())
+}
+
+// The entry of `f` in the root, with what LOOKUP answers.
+const F: PlusDirent<'static> = PlusDirent {
+    entry_out: Some(CREATED_ENTRY),
+    dirent: Dirent {
+        ino: 2,
+        off: 3,
+        kind: 8,
+        name: b"f",
+    },
+};
+
+const F_DIRENT: &[u8] = b"\x02\0\0\0\0\0\0\0\x03\0\0\0\0\0\0\0\
+    \x01\0\0\0\x08\0\0\0f\0\0\0\0\0\0\0";
+
+// The entry of `.`, of which nothing is said.
+const DOT: PlusDirent<'static> = PlusDirent {
+    entry_out: None,
+    dirent: Dirent {
+        ino: 1,
+        off: 1,
+        kind: 4,
+        name: b".",
+    },
+};
+
+const NO_ENTRY: &[u8] = &[0; 128];
+
+const DOT_DIRENT: &[u8] = b"\x01\0\0\0\0\0\0\0\x01\0\0\0\0\0\0\0\
+    \x01\0\0\0\x04\0\0\0.\0\0\0\0\0\0\0";
+
+// Zeros and `.`, and then the entry of LOOKUP and `f`.
+fn writes_plus(alloc: Global) -> Result<bool, PackFault> {
+    let packed = pack_plus(alloc, &[DOT, F], 4096)?;
+    let body = packed.body.as_slice();
+    let dot = body.get(..128) == Some(NO_ENTRY) && body.get(128..160) == Some(DOT_DIRENT);
+    let f = body.get(160..288) == CREATED_BYTES.get(..128) && body.get(288..) == Some(F_DIRENT);
+    Ok(packed.taken == 2 && dot && f)
+}
+
+// How many of two entries fit, and their size; none where the first doesn't fit.
+fn plus_size(alloc: Global, size: u32) -> Result<Option<(usize, usize)>, PackFault> {
+    match pack_plus(alloc, &[DOT, F], size) {
+        Ok(packed) => Ok(Some((packed.taken, packed.body.as_slice().len()))),
+        Err(PackFault::FirstTooBig) => Ok(None),
+        Err(fault) => Err(fault),
+    }
+}
+
+const NINE: PlusDirent<'static> = PlusDirent {
+    entry_out: None,
+    dirent: Dirent {
+        ino: 2,
+        off: 3,
+        kind: 8,
+        name: b"ninebytes",
+    },
+};
+
+#[test]
+fn plus_entries(rt: HostRuntime) -> Result<(), PackFault> {
+    let alloc = rt.alloc();
+    let written = writes_plus(alloc)?;
+    let sizes = [
+        plus_size(alloc, 159)?,
+        plus_size(alloc, 160)?,
+        plus_size(alloc, 319)?,
+        plus_size(alloc, 320)?,
+    ];
+    let nine = pack_plus(alloc, &[NINE], 168)?;
+    assert!(rt; written);
+    assert!(rt; sizes == [None, Some((1, 160)), Some((1, 160)), Some((2, 320))]);
+    assert!(rt; nine.body.as_slice().len() == 168);
+    Ok(())
+}
+
+#[test]
+fn notices(rt: HostRuntime) {
+    let resend = resend_notice();
+    let epoch = epoch_notice();
+    assert!(rt; resend.as_slice() == b"\x10\0\0\0\x07\0\0\0\0\0\0\0\0\0\0\0".as_slice());
+    assert!(rt; epoch.as_slice() == b"\x10\0\0\0\x08\0\0\0\0\0\0\0\0\0\0\0".as_slice());
 }
 
 // READLINK of node 2, and NOTIFY_REPLY.

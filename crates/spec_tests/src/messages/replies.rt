@@ -52,9 +52,26 @@ fn has_fault(opcode: u32, bytes: &[u8], fault: Option<BadAnswer>) -> bool {
     !is_silent(opcode) && read_answer(opcode, bytes).err() == fault
 }
 
+// Whether it is read as an answer with this error alone, to the request of id 4.
+fn has_error(opcode: u32, bytes: &[u8], number: u32) -> bool {
+    if is_silent(opcode) {
+        return false;
+    }
+    match read_answer(opcode, bytes) {
+        Ok(
+            Reply {
+                unique: 4,
+                errno: Errno(found),
+                body: ReplyBody::Nothing,
+            },
+        ) => found == number,
+        _ => false,
+    }
+}
+
 fn headers() -> [bool; 8] {
     [
-        has_fault(LOOKUP, LAST_ERROR, None),
+        has_error(LOOKUP, LAST_ERROR, 511),
         has_fault(LOOKUP, PAST_IT, Some(BadAnswer::ErrorRange)),
         has_fault(LOOKUP, NOTICE, Some(BadAnswer::ErrorRange)),
         has_fault(READ, NOTICE, Some(BadAnswer::ErrorRange)),

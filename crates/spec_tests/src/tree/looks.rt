@@ -1,10 +1,10 @@
 //! A `Look` of the tests that counts its calls, about which contracts say nothing.
 use crate::tree::requests::request_of;
-use fuse_init::Settings;
+use fuse_init::{Profile, Settings};
 use fuse_request::{Op, ReadIn};
 use fuse_tree::{
-    Counters, EntryRow, HandleRow, Look, LookFault, NodeRow, Planned, ROOT_ID, S_IFDIR, S_IFREG,
-    plan,
+    Agreement, Counters, EntryRow, HandleRow, Look, LookFault, NodeRow, Planned, ROOT_ID, S_IFDIR,
+    S_IFREG, plan,
 };
 use fuse_wire::{AccessMode, ByteList, InitFlags, Memory, Moment};
 use std::alloc::Global;
@@ -16,7 +16,7 @@ pub type Looks = [u64; 4];
 /// As many computed nodes and handles as the counters say. Node 1 is the root and holds the others:
 /// even numbers are files, odd ones empty directories. The name `n2` is that of node 2, and so on to
 /// `n9`; no other name is found. The root lists as many entries as are asked for, all of node 2 and
-/// under a name of nine bytes. Even handles are of file 2, odd ones of the root.
+/// under a name of nine bytes. Even handles are of file 2, odd ones of the root; none is listed.
 #[derive(Drop)]
 pub struct Many {
     pub alloc: Global,
@@ -81,6 +81,10 @@ impl Look for Many {
         }))
     }
 
+    fn handles_of(&mut self, _node: u64, _limit: usize) -> Result<Vec<HandleRow>, LookFault> {
+        Ok(Vec::new(self.alloc))
+    }
+
     fn bytes(&mut self, _node: u64, _offset: u64, _len: u32) -> Result<ByteList, LookFault> {
         Ok(ByteList::from_vec(Vec::new(self.alloc)))
     }
@@ -90,12 +94,16 @@ impl Look for Many {
         Ok(self.counters)
     }
 
-    fn settings(&mut self) -> Result<Option<Settings>, LookFault> {
-        Ok(Some(Settings {
+    fn agreement(&mut self) -> Result<Agreement, LookFault> {
+        let settings = Settings {
             minor: 40,
             max_readahead: 131_072,
             flags: InitFlags(0),
-        }))
+        };
+        Ok(Agreement {
+            profile: Profile::Plain,
+            settings: Some(settings),
+        })
     }
 
     fn failed(&self) -> Option<LookFault> {
@@ -177,6 +185,7 @@ pub(crate) fn counting(numbers: [u64; 5]) -> Counters {
         next_cookie,
         nodes,
         handles,
+        room: None,
     }
 }
 

@@ -9,5 +9,5 @@ returns-clause-files g c =
     record {
       run = run;
       stay = λ s h t stands none again. lived_same (files_told c.serve.new.keeper) (record { state = s; history = h; settled = t })
-          (exchange run.broken.work) run.broken.part (run.broken.life (record { honest = tt; clean = λ _. tt }) s h t stands none again);
+          (exchange run.broken.work) run.broken.answer (run.broken.life (record { honest = tt; clean = λ _. tt }) s h t stands none again);
     }

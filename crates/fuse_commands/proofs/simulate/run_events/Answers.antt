@@ -1,7 +1,7 @@
 use Rattle.std.proofs.Common.{[], subst, sym}
 use Rattle.fuse_sim.specs.Driving.{told_in}
 use Rattle.fuse_commands.specs.Simulating.{driven}
-use Rattle.fuse_commands.proofs.Simulations.{IsUnfit, never_unfit, went, asked_all, all_left, keeps_by, fault_left, reused_prefix, drive_ended, counts_ended}
+use Rattle.fuse_commands.proofs.Simulations.{IsUnfit, never_unfit, went, asked_all, opened_all, all_left, keeps_by, fault_left, reused_prefix, drive_ended, counts_ended}
 use Rattle.fuse_commands.proofs.simulate.run_events.Goals as goal
 
 pub returns-in-Ok-counts-clause-ok : goal.returns-in-Ok-counts-clause-ok
@@ -26,7 +26,7 @@ returns-in-Ok-counts-clause-kept g c =
     all_left (driven k.told k.became k.performed g.K.Restart.refuses) c.args.keeper.now c.drive.new.keeper c.in-Some.keeper c.counts.new.self
     c.args.events.now c.in-Some.is (g.met.K.Keeper.sound c.counts.new.self) c.counts.ensures.looked.called.honest
     (keeps_by (k.told c.in-Some.keeper) (k.told c.counts.new.self) c.counts.result (g.met.K.Keeper.sound c.counts.new.self) c.counts.ensures.looked)
-    c.in-Ok.ensures.tree_stands
+    c.in-Ok.ensures.tree_stands c.in-Ok.ensures.records
     (asked_all k.performed c.args.keeper.now c.drive.new.keeper c.in-Some.keeper c.counts.new.self _ g.met.K.Keeper.log c.in-Some.is
     c.in-Ok.ensures.asked c.counts.ensures.unasked)
 
@@ -36,7 +36,7 @@ returns-in-Err-clause-kept g c =
     all_left (driven k.told k.became k.performed g.K.Restart.refuses) c.args.keeper.now c.drive.new.keeper c.in-Some.keeper c.counts.new.self
     c.args.events.now c.in-Some.is (g.met.K.Keeper.sound c.counts.new.self) c.counts.ensures.looked.called.honest
     (keeps_by (k.told c.in-Some.keeper) (k.told c.counts.new.self) c.counts.result (g.met.K.Keeper.sound c.counts.new.self) c.counts.ensures.looked)
-    c.in-Ok.ensures.tree_stands
+    c.in-Ok.ensures.tree_stands c.in-Ok.ensures.records
     (asked_all k.performed c.args.keeper.now c.drive.new.keeper c.in-Some.keeper c.counts.new.self _ g.met.K.Keeper.log c.in-Some.is
     c.in-Ok.ensures.asked c.counts.ensures.unasked)
 
@@ -44,13 +44,15 @@ pub returns-in-Err-Store-clause-kept : goal.returns-in-Err-Store-clause-kept
 returns-in-Err-Store-clause-kept g c =
     let k = g.K.Keeper in
     fault_left (driven k.told k.became k.performed g.K.Restart.refuses) c.args.keeper.now c.drive.new.keeper c.args.events.now c.in-Err-Store.field-0
-    g.met.K.Keeper.sound c.in-Err-Store.ensures.after_fault c.in-Err-Store.ensures.asked_before
+    g.met.K.Keeper.sound c.in-Err-Store.ensures.after_fault c.in-Err-Store.ensures.records_at_fault
+    c.in-Err-Store.ensures.asked_before
 
 pub returns-in-Err-Memory-clause-kept : goal.returns-in-Err-Memory-clause-kept
 returns-in-Err-Memory-clause-kept g c =
     let k = g.K.Keeper in
     fault_left (driven k.told k.became k.performed g.K.Restart.refuses) c.args.keeper.now c.drive.new.keeper c.args.events.now c.in-Err-Memory.field-0
-    g.met.K.Keeper.sound c.in-Err-Memory.ensures.after_fault c.in-Err-Memory.ensures.asked_before
+    g.met.K.Keeper.sound c.in-Err-Memory.ensures.after_fault c.in-Err-Memory.ensures.records_at_fault
+    c.in-Err-Memory.ensures.asked_before
 
 pub unreachable-requires : goal.unreachable-requires
 unreachable-requires g c =
@@ -77,3 +79,8 @@ pub unreachable-requires-in-Err-ZeroUnique : goal.unreachable-requires-in-Err-Ze
 unreachable-requires-in-Err-ZeroUnique g c =
     let e = c.in-Err-ZeroUnique in
     never_unfit e.field-0 c.args.events.now c.requires.fit e.ensures.fault_causes (subst IsUnfit (sym e.field-0-is) tt)
+
+pub returns-in-Ok-counts-clause-opened : goal.returns-in-Ok-counts-clause-opened
+returns-in-Ok-counts-clause-opened g c =
+    opened_all g.K.Keeper.told g.K.Keeper.became c.args.keeper.now c.drive.new.keeper c.in-Some.keeper c.counts.new.self c.args.events.now g.met.K.Keeper.counted
+    c.in-Some.is c.counts.ensures.looked.called.honest c.counts.ensures.same c.in-Ok.ensures.opened

@@ -3,4 +3,4 @@ use Rattle.fuse_store_files.specs.Files.{FilesStand}
 use Rattle.fuse_files.proofs.lives.files_live.Goals as goal
 
 pub returns : goal.returns
-returns c = files_lived c.lives.ensures.in_a_row c.lives.ensures.once c.lives.ensures.send FilesStand
+returns g c = files_lived c.lives.ensures.in_a_row c.lives.ensures.once c.lives.ensures.send (FilesStand g.P.Profiled.PROFILE)

@@ -1,5 +1,16 @@
+use Rattle.std.proofs.Common.{subst}
+use Rattle.std.specs.Prelude.{IfSome}
+use Rattle.fuse_store_files.specs.Left.{LeavesOpening}
+use Rattle.fuse_store_files.specs.Files.{FilesStand}
+use Rattle.fuse_sim.specs.inner.FilesLived.{ran_nothing}
 use Rattle.fuse_files.proofs.FileRuns.{file_lives}
+use Rattle.fuse_files.proofs.Refused.{still_stands}
 use Rattle.fuse_files.proofs.lives.runs_are_file_lives.Goals as goal
 
-pub returns : goal.returns
-returns g c = λ first sides begin run served image left. file_lives first _ _ sides begin run served c.runs_are_lives.ensures image left
+pub returns-clause-served : goal.returns-clause-served
+returns-clause-served g c = λ first sides begin kind run served image left. file_lives g.P.Profiled.PROFILE first _ _ sides begin kind run served c.runs_are_lives.ensures image left
+
+pub returns-clause-refused : goal.returns-clause-refused
+returns-clause-refused g c = λ first sides kind run refused image left at stand new.
+    ran_nothing (FilesStand g.P.Profiled.PROFILE) at image
+    (still_stands g.P.Profiled.PROFILE first at stand run.left image (subst (λ how. IfSome run.left (LeavesOpening how first)) refused.opens.0 refused.crash) left)

@@ -1,20 +1,36 @@
-use Rattle.std.proofs.Common.{inl, Some, ap}
+use Rattle.std.proofs.Common.{inl, inr}
 use Rattle.fuse_files.proofs.replaying.replay_store.Goals as goal
 
-pub returns-clause-ran : goal.returns-clause-ran
-returns-clause-ran g c = inl (record {
-  keeper = c.in-Ok.keeper;
-  keeper' = c.run_replay-ending.new.keeper;
-  opened = c.in-Ok.ensures.opened;
-  kept = c.in-Ok.ensures.holds;
-  rows = c.in-Ok.ensures.rows;
-  firm = c.in-Ok.ensures.firm;
-  replays = record {
-    replayed = c.run_replay-ending.ensures.replayed;
-    faulted = c.run_replay-ending.ensures.faulted;
-    kept = c.run_replay-ending.ensures.kept;
-  };
-  files = c.close_store.result;
-  closed = c.close_store.ensures.closes;
-  left_is = ap Some c.left_of.ensures;
-})
+pub returns-in-Ok-Plain-clause-ran : goal.returns-in-Ok-Plain-clause-ran
+returns-in-Ok-Plain-clause-ran g c =
+    let profile = rw c.in-Ok-Plain.field-0-is at c.in-Ok-Plain.ensures.profile in
+    let opened = rw c.in-Ok-Plain.field-0-is at c.in-Ok-Plain.ensures.opened in
+    let kept = rw c.in-Ok-Plain.field-0-is at c.in-Ok-Plain.ensures.holds in
+    let rows = rw c.in-Ok-Plain.field-0-is at c.in-Ok-Plain.ensures.rows in
+    let firm = rw c.in-Ok-Plain.field-0-is at c.in-Ok-Plain.ensures.firm in
+    inl (inl (record {
+      keeper = c.in-Ok-Plain.keeper;
+      profile = profile;
+      opened = opened;
+      kept = kept;
+      rows = rows;
+      firm = firm;
+      ran = c.replay_keeper.ensures.ran;
+    }))
+
+pub returns-in-Ok-Everyday-clause-ran : goal.returns-in-Ok-Everyday-clause-ran
+returns-in-Ok-Everyday-clause-ran g c =
+    let profile = rw c.in-Ok-Everyday.field-0-is at c.in-Ok-Everyday.ensures.profile in
+    let opened = rw c.in-Ok-Everyday.field-0-is at c.in-Ok-Everyday.ensures.opened in
+    let kept = rw c.in-Ok-Everyday.field-0-is at c.in-Ok-Everyday.ensures.holds in
+    let rows = rw c.in-Ok-Everyday.field-0-is at c.in-Ok-Everyday.ensures.rows in
+    let firm = rw c.in-Ok-Everyday.field-0-is at c.in-Ok-Everyday.ensures.firm in
+    inl (inr (record {
+      keeper = c.in-Ok-Everyday.keeper;
+      profile = profile;
+      opened = opened;
+      kept = kept;
+      rows = rows;
+      firm = firm;
+      ran = c.replay_keeper-in-Ok-Everyday.ensures.ran;
+    }))

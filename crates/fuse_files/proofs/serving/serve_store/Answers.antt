@@ -1,19 +1,42 @@
-use Rattle.std.proofs.Common.{inl, Some, ap}
+use Rattle.std.proofs.Common.{inl, inr}
 use Rattle.fuse_files.proofs.serving.serve_store.Goals as goal
 
-pub returns-clause-ran : goal.returns-clause-ran
-returns-clause-ran g c = inl (record {
-  keeper = c.in-Ok.keeper;
-  keeper' = c.run_serve-ending.new.keeper;
-  mid = c.opening_for-opening.new.clock;
-  how = c.opening_for-opening.result;
-  opens = c.opening_for-opening.ensures;
-  opened = c.in-Ok.ensures.opened;
-  kept = c.in-Ok.ensures.holds;
-  rows = c.in-Ok.ensures.rows;
-  firm = c.in-Ok.ensures.firm;
-  served = c.run_serve-ending.ensures.served;
-  left = c.close_store.result;
-  closed = c.close_store.ensures.closes;
-  left_is = ap Some c.left_of.ensures;
-})
+pub returns-in-Ok-Plain-clause-ran : goal.returns-in-Ok-Plain-clause-ran
+returns-in-Ok-Plain-clause-ran g c =
+    let profile = rw c.in-Ok-Plain.field-0-is at c.in-Ok-Plain.ensures.profile in
+    let opened = rw c.in-Ok-Plain.field-0-is at c.in-Ok-Plain.ensures.opened in
+    let kept = rw c.in-Ok-Plain.field-0-is at c.in-Ok-Plain.ensures.holds in
+    let rows = rw c.in-Ok-Plain.field-0-is at c.in-Ok-Plain.ensures.rows in
+    let firm = rw c.in-Ok-Plain.field-0-is at c.in-Ok-Plain.ensures.firm in
+    inl (inl (record {
+      keeper = c.in-Ok-Plain.keeper;
+      mid = c.opening_for-opening.new.clock;
+      how = c.opening_for-opening.result;
+      opens = c.opening_for-opening.ensures;
+      profile = profile;
+      opened = opened;
+      kept = kept;
+      rows = rows;
+      firm = firm;
+      ran = c.serve_keeper.ensures.ran;
+    }))
+
+pub returns-in-Ok-Everyday-clause-ran : goal.returns-in-Ok-Everyday-clause-ran
+returns-in-Ok-Everyday-clause-ran g c =
+    let profile = rw c.in-Ok-Everyday.field-0-is at c.in-Ok-Everyday.ensures.profile in
+    let opened = rw c.in-Ok-Everyday.field-0-is at c.in-Ok-Everyday.ensures.opened in
+    let kept = rw c.in-Ok-Everyday.field-0-is at c.in-Ok-Everyday.ensures.holds in
+    let rows = rw c.in-Ok-Everyday.field-0-is at c.in-Ok-Everyday.ensures.rows in
+    let firm = rw c.in-Ok-Everyday.field-0-is at c.in-Ok-Everyday.ensures.firm in
+    inl (inr (record {
+      keeper = c.in-Ok-Everyday.keeper;
+      mid = c.opening_for-opening.new.clock;
+      how = c.opening_for-opening.result;
+      opens = c.opening_for-opening.ensures;
+      profile = profile;
+      opened = opened;
+      kept = kept;
+      rows = rows;
+      firm = firm;
+      ran = c.serve_keeper-in-Ok-Everyday.ensures.ran;
+    }))

@@ -1,7 +1,8 @@
-use Rattle.std.proofs.Common.{rules, ◌≡◌, [], length, true, false, refl, arith}
+use Rattle.std.proofs.Common.{rules, ◌≡◌, [], length, take, drop, true, refl, sym, ap, arith}
+use Rattle.std.proofs.lemmas.List.{take-append-drop}
 use Rattle.fuse_session.specs.declared.port.Sent.TheVariants.{Took, Gone, Failed}
-use Rattle.fuse_session.proofs.Bytes.{nothing_sent, prefix_more, prefix_gone, prefix_failed, took_nothing}
-use Rattle.fuse_session.proofs.Transcripts.{hands_none, hands_more, hands_last, hands_all, left_at_zero}
+use Rattle.fuse_session.proofs.Bytes.{nothing_sent, prefix_more, prefix_gone, took_nothing}
+use Rattle.fuse_session.proofs.Transcripts.{hands_none, hands_more, hands_last, hands_all, fails_last, left_at_zero}
 use Rattle.fuse_session.proofs.port.send_whole.Goals as goal
 
 pub loop-rest-preserved : goal.loop-rest-preserved
@@ -15,10 +16,11 @@ loop-rest-preserved g c = record {
 pub returns-then-taken-eq0-clause-err : goal.returns-then-taken-eq0-clause-err
 returns-then-taken-eq0-clause-err g c =
     let some : c.loop-rest.rest.now ≡ [] → ⊥ = search rules in
-    prefix_failed (g.P.Port.told c.args.port.now) (g.P.Port.told c.loop-rest.port) (g.P.Port.told c.send.new.self) c.args.bytes.now c.loop-rest.rest.now
-    (Took c.in-Took.n)
-    (took_nothing c.in-Took.n c.loop-rest.rest.now _ _ c.if-taken-eq0.true some c.in-Took.ensures.sent.failures) c.in-Took.ensures.sent.gone
-    c.loop-rest.invariant.sent c.in-Took.ensures.sent
+    let s = c.in-Took.ensures.sent in
+    fails_last g.P.Port.told g.P.Port.became g.met.P.Port.path c.args.port.now c.loop-rest.port c.send.new.self c.args.bytes.now c.loop-rest.rest.now []
+    (Took c.in-Took.n) some (left_at_zero c.loop-rest.rest.now c.in-Took.n c.if-taken-eq0.true some)
+    (took_nothing c.in-Took.n c.loop-rest.rest.now _ _ c.if-taken-eq0.true some s.failures) s.gone c.loop-rest.invariant.sent c.loop-rest.invariant.same s
+    (ap (λ k. drop k c.loop-rest.rest.now) (sym s.counts)) c.in-Took.ensures.same
 
 pub returns-in-Gone-clause-ok : goal.returns-in-Gone-clause-ok
 returns-in-Gone-clause-ok g c =
@@ -28,30 +30,20 @@ returns-in-Gone-clause-ok g c =
 
 pub returns-in-Failed-clause-err : goal.returns-in-Failed-clause-err
 returns-in-Failed-clause-err g c =
-    let s = c.in-Failed.ensures.sent in
-    prefix_failed (g.P.Port.told c.args.port.now) (g.P.Port.told c.loop-rest.port) (g.P.Port.told c.send.new.self) c.args.bytes.now c.loop-rest.rest.now Failed
-    (omega (arith, s.failures)) s.gone c.loop-rest.invariant.sent s
-
-pub returns-then-taken-eq0-clause-same : goal.returns-then-taken-eq0-clause-same
-returns-then-taken-eq0-clause-same g c =
     let some : c.loop-rest.rest.now ≡ [] → ⊥ = search rules in
-    hands_last g.P.Port.became g.met.P.Port.path c.args.port.now c.loop-rest.port c.send.new.self c.args.bytes.now c.loop-rest.rest.now
-    (Took c.in-Took.n) false some (left_at_zero c.loop-rest.rest.now c.in-Took.n c.if-taken-eq0.true some) c.loop-rest.invariant.same c.in-Took.ensures.same
+    let s = c.in-Failed.ensures.sent in
+    fails_last g.P.Port.told g.P.Port.became g.met.P.Port.path c.args.port.now c.loop-rest.port c.send.new.self c.args.bytes.now c.loop-rest.rest.now
+    (take s.count c.loop-rest.rest.now) Failed some some (omega (arith, s.failures)) s.gone c.loop-rest.invariant.sent c.loop-rest.invariant.same s
+    (sym (take-append-drop s.count c.loop-rest.rest.now)) c.in-Failed.ensures.same
 
-pub returns-in-Gone-clause-same : goal.returns-in-Gone-clause-same
-returns-in-Gone-clause-same g c =
+pub returns-in-Gone-clause-hands : goal.returns-in-Gone-clause-hands
+returns-in-Gone-clause-hands g c =
     let some : c.loop-rest.rest.now ≡ [] → ⊥ = search rules in
     hands_last g.P.Port.became g.met.P.Port.path c.args.port.now c.loop-rest.port c.send.new.self c.args.bytes.now c.loop-rest.rest.now
     Gone true some refl c.loop-rest.invariant.same c.in-Gone.ensures.same
 
-pub returns-in-Failed-clause-same : goal.returns-in-Failed-clause-same
-returns-in-Failed-clause-same g c =
-    let some : c.loop-rest.rest.now ≡ [] → ⊥ = search rules in
-    hands_last g.P.Port.became g.met.P.Port.path c.args.port.now c.loop-rest.port c.send.new.self c.args.bytes.now c.loop-rest.rest.now
-    Failed false some some c.loop-rest.invariant.same c.in-Failed.ensures.same
-
-pub returns-clause-same : goal.returns-clause-same
-returns-clause-same g c =
+pub returns-clause-hands : goal.returns-clause-hands
+returns-clause-hands g c =
     let none : length c.loop-rest.rest.now ≡ 0 = search rules in
     hands_all (g.P.Port.became c.args.port.now c.loop-rest.port) c.args.bytes.now c.loop-rest.rest.now none c.loop-rest.invariant.same
 

@@ -8,7 +8,7 @@ use Rattle.fuse_sim.specs.HandedOn.{performances}
 use Rattle.fuse_sim.proofs.Openings.{opened_none, stood_none, medium_itself, medium_then}
 use Rattle.fuse_sim.proofs.Endings.{moved_none, moved_more, moved_opened, stopped_opened, stopped_emptied, moved_all, moved_stands, moved_left, moved_outcomes}
 use Rattle.fuse_sim.proofs.Endings.{moved_stood, moved_outcomes_before, moved_asked, stopped_stood, stopped_medium, stopped_firm, stopped_asked}
-use Rattle.fuse_sim.proofs.Endings.{moved_count, moved_records, stopped, stopped_store}
+use Rattle.fuse_sim.proofs.Endings.{moved_count, moved_records, stopped, stopped_store, stopped_records}
 use Rattle.fuse_sim.proofs.AskedGroups.{performed_none}
 use Rattle.fuse_sim.proofs.driving.drive.Goals as goal
 
@@ -60,6 +60,14 @@ returns-in_err-at-clause-after_fault g c =
     let k = g.K.Keeper in
     let p = err_from_is_err_and c.from_residual.result c.from_residual.ensures.1 in
     rw (p.1, p.2) (stopped g.K.Keeper.model (seen_of k.told k.became k.performed g.K.Restart.refuses) c.args.keeper.now c.loop-at.keeper c.run_next.new.keeper c.args.events.now
+    c.loop-at.at c.in_err-at.field-0.0 (ids_of c.loop-at.pending.items) c.loop-at.outcomes.items
+    (λ k. (g.met.K.Keeper.sound k).clean_is_honest) c.loop-at.invariant.moved c.in_err-at.ensures.err)
+
+pub returns-in_err-at-clause-records_at_fault : goal.returns-in_err-at-clause-records_at_fault
+returns-in_err-at-clause-records_at_fault g c =
+    let k = g.K.Keeper in
+    let p = err_from_is_err_and c.from_residual.result c.from_residual.ensures.1 in
+    rw (p.1, p.2) (stopped_records g.K.Keeper.model (seen_of k.told k.became k.performed g.K.Restart.refuses) c.args.keeper.now c.loop-at.keeper c.run_next.new.keeper c.args.events.now
     c.loop-at.at c.in_err-at.field-0.0 (ids_of c.loop-at.pending.items) c.loop-at.outcomes.items
     (λ k. (g.met.K.Keeper.sound k).clean_is_honest) c.loop-at.invariant.moved c.in_err-at.ensures.err)
 

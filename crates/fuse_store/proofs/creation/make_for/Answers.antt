@@ -1,23 +1,27 @@
-use Rattle.std.proofs.Common.{refl}
+use Rattle.std.proofs.Common.{refl, sym, subst, ◌∙◌}
 use Rattle.sqlite.specs.Held.{state}
 use Rattle.sqlite.proofs.StateLemmas.{survives_weaker}
 use Rattle.fuse_store_tables.specs.Layout.{no_schema}
+use Rattle.fuse_tree.specs.State.{capacity_for}
 use Rattle.fuse_store_tables.specs.Making.{IsBare, IsNew}
+use Rattle.fuse_store_tables.specs.Moves.{ServesAs}
 use Rattle.fuse_store_tree.specs.Holding.{HeldFor}
 use Rattle.fuse_store.specs.Creating.{new_holding}
 use Rattle.fuse_store.proofs.Retelling.{served_so}
-use Rattle.fuse_store.proofs.NewStore.{made_new, made_open, was_bare, is_blank, known_ok}
+use Rattle.fuse_store.proofs.MadeNew.{made_new, made_open, was_bare, is_blank, known_ok, alone_serves, none_there, in_one}
 use Rattle.fuse_store.proofs.creation.make_for.Goals as goal
 
 pub returns-clause-serves : goal.returns-clause-serves
 returns-clause-serves g c =
-    served_so (IsBare no_schema) (IsNew c.args.now) (IsBare no_schema) (λ _. HeldFor (new_holding c.args.now))
-    (made_new c.new_store_is_tree.ensures c.args.now c.wide.ensures) (state g.S.Store c.args.conn.now) (state g.S.Store c.make_store.new.conn)
-    c.make_store.result c.make_store.ensures.serves
+    served_so (IsBare no_schema) (IsNew (capacity_for c.args.profile c.args.capacity) c.args.now) (IsBare no_schema) (λ _. HeldFor (new_holding c.args.profile c.args.capacity c.args.now))
+    (made_new c.new_store_is_tree.ensures c.args.profile c.args.capacity c.args.now c.requires c.wide.ensures) (state g.S.Store c.args.conn.now) (state g.S.Store c.make_store.new.conn)
+    c.make_store.result
+    (subst (λ room. ServesAs (IsBare no_schema) (IsNew room c.args.now) (state g.S.Store c.args.conn.now) (state g.S.Store c.make_store.new.conn)
+    c.make_store.result) c.room_for.ensures.is c.make_store.ensures.serves)
 
 pub returns-clause-done : goal.returns-clause-done
 returns-clause-done g c =
-    made_open (λ _. HeldFor (new_holding c.args.now)) (state g.S.Store c.args.conn.now) (state g.S.Store c.make_store.new.conn) c.make_store.result
+    made_open (λ _. HeldFor (new_holding c.args.profile c.args.capacity c.args.now)) (state g.S.Store c.args.conn.now) (state g.S.Store c.make_store.new.conn) c.make_store.result
     (returns-clause-serves g c)
     (was_bare (state g.S.Store c.args.conn.now) c.schema.result.now c.if-not-is_autocommit.ensures.value (c.if-not-is_autocommit.ensures.settled refl)
     c.schema.ensures.live c.schema.ensures.value
@@ -40,6 +44,38 @@ returns-clause-blank g c =
     c.schema.ensures.value (c.if-not-is_empty.ensures.0 refl))
 
 pub returns-clause-untouched : goal.returns-clause-untouched
-returns-clause-untouched g c = λ made.
+returns-clause-untouched g c = λ outside made.
     absurd (made (is_blank (state g.S.Store c.args.conn.now) c.schema.result.now c.if-not-is_autocommit.ensures.value
     c.schema.ensures.value (c.if-not-is_empty.ensures.0 refl)))
+
+pub returns-clause-taken : goal.returns-clause-taken
+returns-clause-taken g c = λ clean outside has.
+    none_there (state g.S.Store c.args.conn.now).now.schema (sym c.schema.ensures.value ∙ c.if-not-is_empty.ensures.0 refl) has
+
+-- ---- a database that has tables
+
+pub returns-then-not-is_empty-clause-serves : goal.returns-then-not-is_empty-clause-serves
+returns-then-not-is_empty-clause-serves g c =
+    alone_serves (IsBare no_schema) (λ _. HeldFor (new_holding c.args.profile c.args.capacity c.args.now)) (state g.S.Store c.args.conn.now) (state g.S.Store c.refuse_store.new.conn)
+    c.refuse_store.result c.refuse_store.ensures.alone
+
+pub returns-then-not-is_empty-clause-crash : goal.returns-then-not-is_empty-clause-crash
+returns-then-not-is_empty-clause-crash g c =
+    survives_weaker (state g.S.Store c.args.conn.now) (state g.S.Store c.refuse_store.new.conn) _ _ (λ _ db none. absurd none)
+    c.refuse_store.ensures.alone.survives
+
+pub returns-then-not-is_empty-clause-ended : goal.returns-then-not-is_empty-clause-ended
+returns-then-not-is_empty-clause-ended g c = λ clean outside. c.refuse_store.ensures.alone.autocommit clean
+
+pub returns-then-not-is_empty-clause-untouched : goal.returns-then-not-is_empty-clause-untouched
+returns-then-not-is_empty-clause-untouched g c = λ outside made. c.refuse_store.ensures.alone
+
+-- ---- in a transaction
+
+pub returns-then-not-is_autocommit-clause-untouched : goal.returns-then-not-is_autocommit-clause-untouched
+returns-then-not-is_autocommit-clause-untouched g c = λ outside made.
+    in_one (state g.S.Store c.args.conn.now).in_transaction c.if-not-is_autocommit.ensures.value outside
+
+pub returns-then-not-is_autocommit-clause-taken : goal.returns-then-not-is_autocommit-clause-taken
+returns-then-not-is_autocommit-clause-taken g c = λ clean outside has.
+    in_one (state g.S.Store c.args.conn.now).in_transaction c.if-not-is_autocommit.ensures.value outside

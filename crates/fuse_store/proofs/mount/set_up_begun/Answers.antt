@@ -6,10 +6,11 @@ use Rattle.fuse_store_tables.specs.Clearing.{IsBegun}
 use Rattle.fuse_store_tables.specs.Opening.{IsStored}
 use Rattle.fuse_store.specs.Opening.{StoredFor, WasFor}
 use Rattle.fuse_store.specs.Starting.{BegunFor}
-use Rattle.fuse_store.proofs.Retelling.{served_so, safe_so, done_so, kept_so, crash_so, sure_so}
-use Rattle.fuse_store.proofs.NewStore.{no_transaction}
-use Rattle.fuse_store.proofs.Begun.{begun_told}
-use Rattle.fuse_store.proofs.Reopening.{rests_was, has_meta, no_none, meta_whole, left_here}
+use Rattle.fuse_store.proofs.Retelling.{served_undone, safe_undone, done_so, kept_so, crash_so, sure_so}
+use Rattle.fuse_store.proofs.MadeNew.{no_transaction}
+use Rattle.fuse_store.proofs.Begun.{begun_read}
+use Rattle.fuse_store.specs.inner.Leaving.{rests_was}
+use Rattle.fuse_store.proofs.Reopening.{profile_so, has_meta, no_none, meta_whole, left_here}
 use Rattle.fuse_store.proofs.mount.set_up_begun.Goals as goal
 
 -- ---- without `meta`
@@ -53,12 +54,12 @@ returns-clause-ended g c = λ clean outside. c.set_up_fresh.ensures.ended clean
 
 pub returns-clause-serves : goal.returns-clause-serves
 returns-clause-serves g c =
-    served_so IsStored IsBegun StoredFor BegunFor (begun_told c.clearing.ensures c.rows_in_order.ensures) (state g.S.Store c.args.conn.now)
-    (state g.S.Store c.set_up_fresh.new.conn) c.set_up_fresh.result c.set_up_fresh.ensures.serves
+    served_undone IsStored IsBegun StoredFor BegunFor (begun_read c.clearing.ensures c.rows_in_order.ensures) (state g.S.Store c.args.conn.now)
+    (state g.S.Store c.set_up_fresh.new.conn) c.set_up_fresh.result c.set_up_fresh.ensures.serves c.set_up_fresh.ensures.ended c.set_up_fresh.ensures.undone
 
 pub returns-clause-safe : goal.returns-clause-safe
 returns-clause-safe g c =
-    safe_so IsStored IsBegun StoredFor BegunFor (begun_told c.clearing.ensures c.rows_in_order.ensures) (state g.S.Store c.args.conn.now)
+    safe_undone IsStored IsBegun StoredFor BegunFor (begun_read c.clearing.ensures c.rows_in_order.ensures) (state g.S.Store c.args.conn.now)
     (state g.S.Store c.set_up_fresh.new.conn) c.set_up_fresh.result c.set_up_fresh.ensures.fault
 
 pub returns-clause-begun : goal.returns-clause-begun
@@ -89,3 +90,9 @@ pub returns-clause-whole : goal.returns-clause-whole
 returns-clause-whole g c =
     meta_whole (state g.S.Store c.args.conn.now) (state g.S.Store c.set_up_fresh.new.conn) c.set_up_fresh.result c.if-not-is_autocommit.ensures.value
     (c.if-not-is_autocommit.ensures.settled refl) c.set_up_fresh.ensures.was c.set_up_fresh.ensures.whole
+
+pub returns-clause-profile : goal.returns-clause-profile
+returns-clause-profile g c =
+    let a = state g.S.Store c.args.conn.now in
+    profile_so a (state g.S.Store c.set_up_fresh.new.conn) c.set_up_fresh.result
+    (λ z was. rests_was z a c.schema.ensures.live (c.if-not-is_autocommit.ensures.settled refl) was) c.set_up_fresh.ensures.profile

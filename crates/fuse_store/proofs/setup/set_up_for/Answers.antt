@@ -4,9 +4,10 @@ use Rattle.sqlite.specs.Schema.{Schema}
 use Rattle.sqlite_schema.specs.Names.{table_named}
 use Rattle.fuse_store_tables.specs.Opening.{IsStored, IsOpened}
 use Rattle.fuse_store.specs.Opening.{StoredFor, OpenedFor, WasFor}
-use Rattle.fuse_store.proofs.Retelling.{served_so, safe_so, done_so, kept_so, crash_so, sure_so}
-use Rattle.fuse_store.proofs.NewStore.{no_transaction}
-use Rattle.fuse_store.proofs.Reopening.{stored_told, rests_was, has_meta, no_none, meta_whole, left_here}
+use Rattle.fuse_store.proofs.Retelling.{served_undone, safe_undone, done_so, kept_so, crash_so, sure_so}
+use Rattle.fuse_store.proofs.MadeNew.{no_transaction}
+use Rattle.fuse_store.specs.inner.Leaving.{rests_was}
+use Rattle.fuse_store.proofs.Reopening.{profile_so, stored_read, has_meta, no_none, meta_whole, left_here}
 use Rattle.fuse_store.proofs.setup.set_up_for.Goals as goal
 
 -- ---- without `meta`
@@ -50,12 +51,12 @@ returns-clause-ended g c = λ clean outside. c.set_up.ensures.ended clean
 
 pub returns-clause-serves : goal.returns-clause-serves
 returns-clause-serves g c =
-    served_so IsStored IsOpened StoredFor OpenedFor (stored_told c.rows_in_order.ensures) (state g.S.Store c.args.conn.now)
-    (state g.S.Store c.set_up.new.conn) c.set_up.result c.set_up.ensures.serves
+    served_undone IsStored IsOpened StoredFor OpenedFor (stored_read c.rows_in_order.ensures) (state g.S.Store c.args.conn.now)
+    (state g.S.Store c.set_up.new.conn) c.set_up.result c.set_up.ensures.serves c.set_up.ensures.ended c.set_up.ensures.undone
 
 pub returns-clause-fault : goal.returns-clause-fault
 returns-clause-fault g c =
-    safe_so IsStored IsOpened StoredFor OpenedFor (stored_told c.rows_in_order.ensures) (state g.S.Store c.args.conn.now)
+    safe_undone IsStored IsOpened StoredFor OpenedFor (stored_read c.rows_in_order.ensures) (state g.S.Store c.args.conn.now)
     (state g.S.Store c.set_up.new.conn) c.set_up.result c.set_up.ensures.fault
 
 pub returns-clause-ok : goal.returns-clause-ok
@@ -86,3 +87,9 @@ pub returns-clause-whole : goal.returns-clause-whole
 returns-clause-whole g c =
     meta_whole (state g.S.Store c.args.conn.now) (state g.S.Store c.set_up.new.conn) c.set_up.result c.if-not-is_autocommit.ensures.value
     (c.if-not-is_autocommit.ensures.settled refl) c.set_up.ensures.was c.set_up.ensures.whole
+
+pub returns-clause-profile : goal.returns-clause-profile
+returns-clause-profile g c =
+    let a = state g.S.Store c.args.conn.now in
+    profile_so a (state g.S.Store c.set_up.new.conn) c.set_up.result
+    (λ z was. rests_was z a c.schema.ensures.live (c.if-not-is_autocommit.ensures.settled refl) was) c.set_up.ensures.profile

@@ -28,7 +28,7 @@ returns-then-blank-clause-new_lots g c =
 pub returns-then-blank-clause-crash : goal.returns-then-blank-clause-crash
 returns-then-blank-clause-crash g c =
     IfErr-weaker c.create.result _ _
-    (λ r left. fresh_made c.args.now (state g.S.Store c.args.conn) (state g.S.Store r.1) (c.is_blank-blank.ensures.none c.if-blank.true) left)
+    (λ r left. fresh_made c.args.new (state g.S.Store c.args.conn) (state g.S.Store r.1) (c.is_blank-blank.ensures.none c.if-blank.true) left)
     c.create.ensures.crash
 
 pub returns-then-blank-clause-kept : goal.returns-then-blank-clause-kept
@@ -84,7 +84,7 @@ returns-clause-medium g c = c.open_begun.ensures.medium
 pub returns-clause-crash : goal.returns-clause-crash
 returns-clause-crash g c =
     IfErr-weaker c.open_begun.result _ _
-    (λ r refused. fresh_begun c.args.now (state g.S.Store c.args.conn) (state g.S.Store r.1)
+    (λ r refused. fresh_begun c.args.new (state g.S.Store c.args.conn) (state g.S.Store r.1)
     (λ blank. let e = c.is_blank-blank.ensures.blank.1 blank in let n = c.if-blank.false in cc) refused.crash)
     c.open_begun.ensures.refused
 
@@ -130,3 +130,19 @@ returns-clause-busy g c = c.open_begun.ensures.busy
 
 pub returns-clause-rows : goal.returns-clause-rows
 returns-clause-rows g c = IfOk-weaker c.open_begun.result _ _ (λ k rows stored. rows) c.open_begun.ensures.rows
+
+-- ---- the profile
+
+pub returns-then-blank-clause-profile : goal.returns-then-blank-clause-profile
+returns-then-blank-clause-profile g c =
+    IfOk-weaker c.create.result _ _ (λ k going clean z was. absurd (c.is_blank-blank.ensures.none c.if-blank.true z was)) c.create.ensures.going
+
+pub returns-then-blank-clause-new_profile : goal.returns-then-blank-clause-new_profile
+returns-then-blank-clause-new_profile g c = IfOk-weaker c.create.result _ _ (λ k is blank. is) c.create.ensures.profile
+
+pub returns-clause-profile : goal.returns-clause-profile
+returns-clause-profile g c = c.open_begun.ensures.profile
+
+pub returns-clause-new_profile : goal.returns-clause-new_profile
+returns-clause-new_profile g c =
+    IfOk-weaker c.open_begun.result _ _ (λ k going blank. let e = c.is_blank-blank.ensures.blank.1 blank in let n = c.if-blank.false in cc) c.open_begun.ensures.going

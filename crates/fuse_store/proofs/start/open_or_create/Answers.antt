@@ -24,7 +24,7 @@ returns-then-is_blank-clause-new_lots g c =
 pub returns-then-is_blank-clause-crash : goal.returns-then-is_blank-clause-crash
 returns-then-is_blank-clause-crash g c =
     IfErr-weaker c.create.result _ _
-    (λ r left. left_made c.args.now (state g.S.Store c.args.conn) (state g.S.Store r.1) (c.is_blank.ensures.none c.if-is_blank.true) left)
+    (λ r left. left_made c.args.new (state g.S.Store c.args.conn) (state g.S.Store r.1) (c.is_blank.ensures.none c.if-is_blank.true) left)
     c.create.ensures.crash
 
 pub returns-then-is_blank-clause-kept : goal.returns-then-is_blank-clause-kept
@@ -77,7 +77,7 @@ returns-then-is_blank-clause-rows g c = IfOk-weaker c.create.result _ _ (λ k go
 pub returns-else-is_blank-clause-crash : goal.returns-else-is_blank-clause-crash
 returns-else-is_blank-clause-crash g c =
     IfErr-weaker c.open.result _ _
-    (λ r refused. left_opened c.args.now (state g.S.Store c.args.conn) (state g.S.Store r.1)
+    (λ r refused. left_opened c.args.new (state g.S.Store c.args.conn) (state g.S.Store r.1)
     (λ blank. let e = c.is_blank.ensures.blank.1 blank in let n = c.if-is_blank.false in cc) refused.crash)
     c.open.ensures.refused
 
@@ -131,3 +131,19 @@ pub returns-else-is_blank-clause-stands : goal.returns-else-is_blank-clause-stan
 returns-else-is_blank-clause-stands g c =
     IfOk-weaker c.open.result _ _
     (λ k going clean blank. let e = c.is_blank.ensures.blank.1 blank in let n = c.if-is_blank.false in cc) c.open.ensures.going
+
+-- ---- the profile
+
+pub returns-then-is_blank-clause-profile : goal.returns-then-is_blank-clause-profile
+returns-then-is_blank-clause-profile g c =
+    IfOk-weaker c.create.result _ _ (λ k going clean z was. absurd (c.is_blank.ensures.none c.if-is_blank.true z was)) c.create.ensures.going
+
+pub returns-then-is_blank-clause-new_profile : goal.returns-then-is_blank-clause-new_profile
+returns-then-is_blank-clause-new_profile g c = IfOk-weaker c.create.result _ _ (λ k is blank. is) c.create.ensures.profile
+
+pub returns-else-is_blank-clause-profile : goal.returns-else-is_blank-clause-profile
+returns-else-is_blank-clause-profile g c = c.open.ensures.profile
+
+pub returns-else-is_blank-clause-new_profile : goal.returns-else-is_blank-clause-new_profile
+returns-else-is_blank-clause-new_profile g c =
+    IfOk-weaker c.open.result _ _ (λ k going blank. let e = c.is_blank.ensures.blank.1 blank in let n = c.if-is_blank.false in cc) c.open.ensures.going

@@ -1,4 +1,4 @@
-use Rattle.std.proofs.Common.{◌≡◌, IsTrue, ap, subst, ◌∙◌, arith}
+use Rattle.std.proofs.Common.{◌≡◌, IsTrue, ap, subst, sym, ◌∙◌, arith}
 use Rattle.sqlite_wal.specs.Recovery.{Image}
 use Rattle.sqlite_wal.specs.Files.{outcomes}
 use Rattle.sqlite_wal.specs.Reads.{AreClean}
@@ -17,6 +17,9 @@ returns-in-Ok-clause-ended g c =
     let store = c.into_store-store.result in
     record {
       ended = store;
+      its_own = c.into_store-store.ensures.quiet.outcomes;
+      before = λ clean sound left may.
+          holds_some c.args.conn.store left may (sym c.into_store-store.ensures.undone.numbered ∙ c.into_store-store.ensures.numbered clean) sound;
       leaves = λ left may.
           let clean : IsClean (view store) = no_doubt _ (clean_if_left store.pool left may) in
           let h = holds_some store left may (c.into_store-store.ensures.numbered clean) (c.into_store-store.ensures.sound clean) in
@@ -29,6 +32,9 @@ returns-in-Err-clause-ended g c =
     let store = c.into_store-store.result in
     record {
       ended = store;
+      its_own = c.into_store-store.ensures.quiet.outcomes;
+      before = λ clean sound left may.
+          holds_some c.args.conn.store left may (sym c.into_store-store.ensures.undone.numbered ∙ c.into_store-store.ensures.numbered clean) sound;
       leaves = λ left may.
           let clean : IsClean (view store) = no_doubt _ (clean_if_left store.pool left may) in
           let h = holds_some store left may (c.into_store-store.ensures.numbered clean) (c.into_store-store.ensures.sound clean) in
@@ -40,6 +46,18 @@ pub returns-in-Err-clause-unclosed : goal.returns-in-Err-clause-unclosed
 returns-in-Err-clause-unclosed g c = record {
   leaves = λ db may.
       c.into_store-store.ensures.quiet.outcomes db (c.rollback.ensures.quiet.outcomes db (c.checkpoint.ensures.quiet.outcomes db may));
+  holds = λ numbered left may.
+      let store = c.into_store-store in
+      let last = c.checkpoint.new.self in
+      let clean : IsClean (view last) = no_doubt _ (clean_if_left last.pool left may) in
+      let early : IsClean (view store.result) = omega (arith, clean, c.checkpoint.ensures.quiet.clean, c.rollback.ensures.quiet.clean) in
+      let h = holds_some last left may numbered
+      (λ db found. store.ensures.sound early db (c.rollback.ensures.quiet.outcomes db (c.checkpoint.ensures.quiet.outcomes db found))) in
+      record {
+        trees = h.trees;
+        held = h.held;
+        so = store.ensures.quiet.outcomes h.trees (c.rollback.ensures.quiet.outcomes h.trees (c.checkpoint.ensures.quiet.outcomes h.trees h.so));
+      };
   honest = λ clean.
       omega (arith, clean, c.checkpoint.ensures.quiet.clean, c.rollback.ensures.quiet.clean, c.into_store-store.ensures.quiet.clean);
 }

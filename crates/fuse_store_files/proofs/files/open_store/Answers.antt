@@ -5,7 +5,7 @@ use Rattle.sqlite.specs.State.{HasCleanDisk}
 use Rattle.sqlite.specs.Files.{file_state, over_files}
 use Rattle.fuse_store_tables.specs.Faults.{IsOutside}
 use Rattle.fuse_store.specs.Storing.{opening_fault}
-use Rattle.fuse_store.specs.TableKeeper.{keeper_told}
+use Rattle.fuse_store.specs.StoreKeeper.{own_profile, store_told}
 use Rattle.fuse_store_files.proofs.Fresh.{some_weaker}
 use Rattle.fuse_store_files.proofs.Found.{keeps, opens_as, was_for, rests, left_open, left_alone, stays_found, not_opened, not_wanting}
 use Rattle.fuse_store_files.proofs.files.open_store.Goals as goal
@@ -24,21 +24,28 @@ pub returns-in-Ok-open_as-clause-opened : goal.returns-in-Ok-open_as-clause-open
 returns-in-Ok-open_as-clause-opened g c = λ honest.
     let clean = c.in-Ok-open_as.ensures.honest honest in
     let live = c.in-Ok.ensures.opened clean in
-    opens_as (image_at g.S.Start) (file_state c.in-Ok.conn) live.0 live.1 (c.in-Ok.ensures.found clean) c.args.how
-    (keeper_told over_files c.in-Ok-open_as.keeper) (c.in-Ok-open_as.ensures.opens honest)
+    opens_as (image_at g.S.Start) (file_state c.in-Ok.conn) live.0 live.1 (c.in-Ok.ensures.found clean) (own_profile c.in-Ok-open_as.keeper) c.args.how
+    (store_told c.in-Ok-open_as.keeper) (c.in-Ok-open_as.ensures.opens honest)
 
 pub returns-in-Ok-open_as-clause-holds : goal.returns-in-Ok-open_as-clause-holds
 returns-in-Ok-open_as-clause-holds g c = λ honest.
     let clean = c.in-Ok-open_as.ensures.honest honest in
     let live = c.in-Ok.ensures.opened clean in
-    keeps (image_at g.S.Start) (file_state c.in-Ok.conn) live.0 live.1 (c.in-Ok.ensures.found clean) c.args.how
-    (keeper_told over_files c.in-Ok-open_as.keeper) (c.in-Ok-open_as.ensures.opens honest)
+    keeps (image_at g.S.Start) (file_state c.in-Ok.conn) live.0 live.1 (c.in-Ok.ensures.found clean) (own_profile c.in-Ok-open_as.keeper) c.args.how
+    (store_told c.in-Ok-open_as.keeper) (c.in-Ok-open_as.ensures.opens honest)
+
+pub returns-in-Ok-open_as-clause-profile : goal.returns-in-Ok-open_as-clause-profile
+returns-in-Ok-open_as-clause-profile g c = λ honest z held.
+    let clean = c.in-Ok-open_as.ensures.honest honest in
+    let live = c.in-Ok.ensures.opened clean in
+    (c.in-Ok-open_as.ensures.opens honest).profile z
+    (was_for (image_at g.S.Start) (file_state c.in-Ok.conn) live.0 live.1 (c.in-Ok.ensures.found clean) z held)
 
 pub returns-in-Err-open_as-clause-crash : goal.returns-in-Err-open_as-clause-crash
 returns-in-Err-open_as-clause-crash g c =
     left_open (image_at g.S.Start) c.args.how c.in-Ok.conn (λ f. inl refl) c.in-Ok.ensures.opened c.in-Ok.ensures.found
     (file_state c.in-Err-open_as.conn) c.into_store.result c.in-Err-open_as.ensures.crash c.into_store.ensures.quiet.clean
-    c.into_store.ensures.quiet.outcomes
+    c.into_store.ensures.quiet.outcomes c.into_store.ensures.sound
 
 pub returns-in-Err-open_as-clause-fault : goal.returns-in-Err-open_as-clause-fault
 returns-in-Err-open_as-clause-fault g c = λ is_clean z held.
@@ -63,7 +70,7 @@ pub returns-in-Err-open_as-clause-untouched : goal.returns-in-Err-open_as-clause
 returns-in-Err-open_as-clause-untouched g c = λ refusal.
     left_alone (image_at g.S.Start) c.args.how c.in-Ok.conn (λ f. inl refl) c.in-Ok.ensures.opened c.in-Ok.ensures.found
     (file_state c.in-Err-open_as.conn) c.into_store.result (c.in-Err-open_as.ensures.refused refusal) c.into_store.ensures.quiet.clean
-    c.into_store.ensures.quiet.outcomes
+    c.into_store.ensures.quiet.outcomes c.into_store.ensures.sound
 
 pub returns-in-Ok-open_as-clause-rows : goal.returns-in-Ok-open_as-clause-rows
 returns-in-Ok-open_as-clause-rows g c = λ honest content held.

@@ -1,14 +1,14 @@
 use Rattle.std.proofs.lemmas.Result.{IfOk-weaker, IfErr-weaker}
 use Rattle.sqlite.specs.Held.{state}
-use Rattle.fuse_store.specs.TableKeeper.{keeper_told}
-use Rattle.fuse_store_files.proofs.Opened.{over_existing, over_any, over_fresh, stored_is_not_blank, ok_of_3, ok_of_5}
+use Rattle.fuse_store.specs.StoreKeeper.{own_profile, store_told}
+use Rattle.fuse_store_files.proofs.Opened.{over_existing, over_any, over_fresh, stored_is_not_blank, ok_of_4, ok_of_7}
 use Rattle.fuse_store_files.proofs.opening.open_as.Goals as goal
 
 pub returns-in-Existing-clause-opens : goal.returns-in-Existing-clause-opens
 returns-in-Existing-clause-opens g c =
-    rw c.in-Existing.is (ok_of_3 c.open.result _ _ _ _
-    (λ k holds lots tabled clean. over_existing (state g.S.Store c.args.conn) (keeper_told g.S.Store k) (holds clean) (lots clean) (tabled clean))
-    c.open.ensures.holds c.open.ensures.lots c.open.ensures.tabled)
+    rw c.in-Existing.is (ok_of_4 c.open.result _ _ _ _ _
+    (λ k profile holds lots tabled clean. over_existing (state g.S.Store c.args.conn) (own_profile k) (store_told k) (profile clean) (holds clean) (lots clean) (tabled clean))
+    c.open.ensures.profile c.open.ensures.holds c.open.ensures.lots c.open.ensures.tabled)
 
 pub returns-in-Existing-clause-crash : goal.returns-in-Existing-clause-crash
 returns-in-Existing-clause-crash g c = rw c.in-Existing.is (IfErr-weaker c.open.result _ _ (λ r refused. refused.crash) c.open.ensures.refused)
@@ -18,20 +18,23 @@ returns-in-Existing-clause-fault g c = IfErr-weaker c.open.result _ _ (λ r refu
 
 pub returns-in-Any-clause-opens : goal.returns-in-Any-clause-opens
 returns-in-Any-clause-opens g c =
-    rw c.in-Any.is (ok_of_5 c.open_or_create.result _ _ _ _ _ _
-    (λ k holds lots stands new_lots going clean.
-    over_any (state g.S.Store c.args.conn) (keeper_told g.S.Store k) c.in-Any.now (holds clean) (lots clean) (stands clean) (new_lots clean))
-    c.open_or_create.ensures.holds c.open_or_create.ensures.lots c.open_or_create.ensures.stands c.open_or_create.ensures.new_lots c.open_or_create.ensures.going)
+    rw c.in-Any.is (ok_of_7 c.open_or_create.result _ _ _ _ _ _ _ _
+    (λ k profile holds lots stands new_lots made going clean.
+    over_any (state g.S.Store c.args.conn) (own_profile k) (store_told k) (profile clean) c.in-Any.new (holds clean) (lots clean) (stands clean) (new_lots clean) made)
+    c.open_or_create.ensures.profile c.open_or_create.ensures.holds c.open_or_create.ensures.lots c.open_or_create.ensures.stands c.open_or_create.ensures.new_lots
+    c.open_or_create.ensures.new_profile c.open_or_create.ensures.going)
 
 pub returns-in-Any-clause-crash : goal.returns-in-Any-clause-crash
 returns-in-Any-clause-crash g c = rw c.in-Any.is c.open_or_create.ensures.crash
 
 pub returns-in-Fresh-clause-opens : goal.returns-in-Fresh-clause-opens
 returns-in-Fresh-clause-opens g c =
-    rw c.in-Fresh.is (ok_of_5 c.open_fresh.result _ _ _ _ _ _
-    (λ k holds lots begins stands new_lots clean.
-    over_fresh (state g.S.Store c.args.conn) (keeper_told g.S.Store k) c.in-Fresh.now (holds clean) (lots clean) (begins clean) (stands clean) (new_lots clean))
-    c.open_fresh.ensures.holds c.open_fresh.ensures.lots c.open_fresh.ensures.begins c.open_fresh.ensures.stands c.open_fresh.ensures.new_lots)
+    rw c.in-Fresh.is (ok_of_7 c.open_fresh.result _ _ _ _ _ _ _ _
+    (λ k profile holds lots begins stands new_lots made clean.
+    over_fresh (state g.S.Store c.args.conn) (own_profile k) (store_told k) (profile clean) c.in-Fresh.new (holds clean) (lots clean) (begins clean) (stands clean)
+    (new_lots clean) made)
+    c.open_fresh.ensures.profile c.open_fresh.ensures.holds c.open_fresh.ensures.lots c.open_fresh.ensures.begins c.open_fresh.ensures.stands c.open_fresh.ensures.new_lots
+    c.open_fresh.ensures.new_profile)
 
 pub returns-in-Fresh-clause-crash : goal.returns-in-Fresh-clause-crash
 returns-in-Fresh-clause-crash g c = rw c.in-Fresh.is c.open_fresh.ensures.crash

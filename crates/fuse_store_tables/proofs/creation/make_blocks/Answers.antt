@@ -1,13 +1,23 @@
+use Rattle.std.proofs.Common.{[]}
 use Rattle.sqlite.specs.Held.{state}
-use Rattle.fuse_store_tables.specs.Layout.{no_schema, with_entries, blocks, with_blocks}
+use Rattle.fuse_store_tables.specs.Layout.{with_meta, with_entries, blocks, with_blocks}
 use Rattle.fuse_store_tables.specs.Making.{IsBare}
 use Rattle.fuse_store_tables.proofs.SchemaLemmas.{creates, blocks_text, blocks_made}
 use Rattle.fuse_store_tables.proofs.Joining.{then_as}
+use Rattle.fuse_store_tables.proofs.Within.{within_then, within_failed, edits_within, blocks_made_edit}
 use Rattle.fuse_store_tables.proofs.creation.make_blocks.Goals as goal
 
-pub returns : goal.returns
-returns g c =
-    then_as (IsBare no_schema) (IsBare with_entries) (IsBare with_blocks) (state g.S.Store c.args.conn.now) (state g.S.Store c.make_entries.new.conn)
-    (state g.S.Store c.run.new.conn) _ c.run.result c.in_ok-make_entries.ensures
+pub returns-clause-made : goal.returns-clause-made
+returns-clause-made g c =
+    then_as (IsBare with_meta) (IsBare with_entries) (IsBare with_blocks) (state g.S.Store c.args.conn.now) (state g.S.Store c.make_entries.new.conn)
+    (state g.S.Store c.run.new.conn) _ c.run.result c.in_ok-make_entries.ensures.made
     (creates with_entries blocks blocks_text blocks_made (state g.S.Store c.make_entries.new.conn) (state g.S.Store c.run.new.conn) c.run.result
+    c.run.ensures.runs c.run.ensures.survives)
+
+pub returns-in_err-make_entries-clause-within : goal.returns-in_err-make_entries-clause-within
+returns-in_err-make_entries-clause-within g c = within_failed _ _ _ _ c.in_err-make_entries.ensures.within c.from_residual.ensures.0
+
+pub returns-clause-within : goal.returns-clause-within
+returns-clause-within g c =
+    within_then _ _ _ _ _ c.in_ok-make_entries.ensures.within (edits_within _ [] blocks_made_edit (state g.S.Store c.make_entries.new.conn) (state g.S.Store c.run.new.conn) c.run.result
     c.run.ensures.runs c.run.ensures.survives)

@@ -1,13 +1,23 @@
+use Rattle.std.proofs.Common.{[]}
 use Rattle.sqlite.specs.Held.{state}
-use Rattle.fuse_store_tables.specs.Layout.{no_schema, with_nodes, entries, with_entries}
+use Rattle.fuse_store_tables.specs.Layout.{with_meta, with_nodes, entries, with_entries}
 use Rattle.fuse_store_tables.specs.Making.{IsBare}
 use Rattle.fuse_store_tables.proofs.SchemaLemmas.{creates, entries_text, entries_made}
 use Rattle.fuse_store_tables.proofs.Joining.{then_as}
+use Rattle.fuse_store_tables.proofs.Within.{within_then, within_failed, edits_within, entries_edit}
 use Rattle.fuse_store_tables.proofs.creation.make_entries.Goals as goal
 
-pub returns : goal.returns
-returns g c =
-    then_as (IsBare no_schema) (IsBare with_nodes) (IsBare with_entries) (state g.S.Store c.args.conn.now) (state g.S.Store c.make_nodes.new.conn)
-    (state g.S.Store c.run.new.conn) _ c.run.result c.in_ok-make_nodes.ensures
+pub returns-clause-made : goal.returns-clause-made
+returns-clause-made g c =
+    then_as (IsBare with_meta) (IsBare with_nodes) (IsBare with_entries) (state g.S.Store c.args.conn.now) (state g.S.Store c.make_nodes.new.conn)
+    (state g.S.Store c.run.new.conn) _ c.run.result c.in_ok-make_nodes.ensures.made
     (creates with_nodes entries entries_text entries_made (state g.S.Store c.make_nodes.new.conn) (state g.S.Store c.run.new.conn) c.run.result
+    c.run.ensures.runs c.run.ensures.survives)
+
+pub returns-in_err-make_nodes-clause-within : goal.returns-in_err-make_nodes-clause-within
+returns-in_err-make_nodes-clause-within g c = within_failed _ _ _ _ c.in_err-make_nodes.ensures.within c.from_residual.ensures.0
+
+pub returns-clause-within : goal.returns-clause-within
+returns-clause-within g c =
+    within_then _ _ _ _ _ c.in_ok-make_nodes.ensures.within (edits_within _ [] entries_edit (state g.S.Store c.make_nodes.new.conn) (state g.S.Store c.run.new.conn) c.run.result
     c.run.ensures.runs c.run.ensures.survives)

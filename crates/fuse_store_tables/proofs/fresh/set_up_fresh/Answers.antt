@@ -1,5 +1,5 @@
 use Rattle.sqlite.specs.Held.{state}
-use Rattle.fuse_store_tables.proofs.Alone.{left_alone, undone_alone}
+use Rattle.fuse_store_tables.proofs.Alone.{left_alone, undone_alone, undone_kept}
 use Rattle.fuse_store_tables.proofs.fresh.set_up_fresh.Goals as goal
 
 pub returns-in-Ok-clause-alone : goal.returns-in-Ok-clause-alone
@@ -21,3 +21,8 @@ returns-in-Ok-clause-ended g c = λ clean. (c.in-Ok.ensures.ended clean).0
 
 pub returns-in-Err-clause-ended : goal.returns-in-Err-clause-ended
 returns-in-Err-clause-ended g c = λ clean. c.undo.ensures.autocommit clean
+
+pub returns-in-Err-clause-undone : goal.returns-in-Err-clause-undone
+returns-in-Err-clause-undone g c = λ clean is_open.
+    undone_kept (state g.S.Store c.args.conn.now) (state g.S.Store c.transact.new.conn) (state g.S.Store c.undo.new.conn) c.in-Err.ensures.keeps c.undo.ensures
+    clean is_open

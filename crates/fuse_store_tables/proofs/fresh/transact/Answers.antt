@@ -1,14 +1,15 @@
 use Rattle.sqlite.specs.Held.{state}
-use Rattle.std.proofs.Common.{subst, sym}
+use Rattle.std.proofs.Common.{OnErr, subst, sym}
+use Rattle.sqlite.specs.State.{HasCleanDisk, KeepsCommit}
 use Rattle.fuse_store_tables.specs.inner.Following.{earlier}
-use Rattle.fuse_store_tables.specs.Opening.{IsStored}
+use Rattle.fuse_store_tables.specs.Opening.{IsStored, IsLaid}
 use Rattle.fuse_store_tables.specs.Clearing.{IsBegun}
 use Rattle.fuse_store_tables.specs.Saying.{IsTabled, Says}
 use Rattle.fuse_store_tables.specs.Moves.{RestsAs}
 use Rattle.fuse_store_tables.specs.inner.Performing.{PerformsAs}
 use Rattle.fuse_store_tables.proofs.Alone.{commits_then, begins_nothing, failed_same, committed_same, on_refusal, outside_err}
 use Rattle.fuse_store_tables.proofs.Joining.{failed_first, failed_inside, failed_commit, committed, on_err}
-use Rattle.fuse_store_tables.proofs.Within.{nothing_within}
+use Rattle.fuse_store_tables.proofs.Within.{nothing_within, keeps_within, keeps_commit}
 use Rattle.fuse_store_tables.proofs.fresh.transact.Goals as goal
 
 pub returns-in_err-begin-clause-performs : goal.returns-in_err-begin-clause-performs
@@ -92,3 +93,32 @@ returns-in-Err-clause-fault g c = λ clean k at.
     let mid = earlier (state g.S.Store c.begin.new.conn) (state g.S.Store c.renew.new.conn) _ c.in-Err.ensures.begun.stays.survives clean in
     let on = c.in_ok-begin.ensures.begun mid in
     c.in-Err.ensures.fault clean (k, record { is_open = on.0; in_transaction = on.1; holds = subst (IsStored k) (sym on.2) at.holds })
+
+-- ---- what was committed is kept
+
+pub returns-in_err-begin-clause-keeps : goal.returns-in_err-begin-clause-keeps
+returns-in_err-begin-clause-keeps g c =
+    on_err (λ r. OnErr r (HasCleanDisk (state g.S.Store c.begin.new.conn) → KeepsCommit (state g.S.Store c.args.conn.now) (state g.S.Store c.begin.new.conn)))
+    c.from_residual.result c.from_residual.ensures.0 (λ e. c.in_err-begin.ensures.kept)
+
+pub returns-in-Err-clause-keeps : goal.returns-in-Err-clause-keeps
+returns-in-Err-clause-keeps g c = λ clean.
+    keeps_within (state g.S.Store c.args.conn.now) (state g.S.Store c.begin.new.conn) (state g.S.Store c.renew.new.conn) _ _ c.in_ok-begin.ensures
+    c.in-Err.ensures.within clean
+
+pub returns-in_err-commit-in-Ok-clause-keeps : goal.returns-in_err-commit-in-Ok-clause-keeps
+returns-in_err-commit-in-Ok-clause-keeps g c =
+    on_err (λ r. OnErr r (HasCleanDisk (state g.S.Store c.commit.new.conn) → KeepsCommit (state g.S.Store c.args.conn.now) (state g.S.Store c.commit.new.conn)))
+    c.from_residual-in_err-commit-in-Ok.result c.from_residual-in_err-commit-in-Ok.ensures.0
+    (λ e. keeps_commit (state g.S.Store c.args.conn.now) (state g.S.Store c.begin.new.conn) (state g.S.Store c.renew.new.conn) (state g.S.Store c.commit.new.conn)
+    _ _ _ c.in_ok-begin.ensures c.in-Ok.ensures.within c.in_err-commit-in-Ok.ensures)
+
+-- ---- the profile
+
+pub returns-in_ok-commit-in-Ok-clause-profile : goal.returns-in_ok-commit-in-Ok-clause-profile
+returns-in_ok-commit-in-Ok-clause-profile g c = λ clean k at.
+    let b = state g.S.Store c.begin.new.conn in
+    let d = state g.S.Store c.renew.new.conn in
+    let late = earlier d (state g.S.Store c.commit.new.conn) _ c.in_ok-commit-in-Ok.ensures.survives clean in
+    let on = c.in_ok-begin.ensures.begun (earlier b d _ c.in-Ok.ensures.begun.stays.survives late) in
+    c.in-Ok.ensures.profile late k (record { is_open = on.0; in_transaction = on.1; holds = subst (IsLaid k) (sym on.2) at.holds })

@@ -2,30 +2,19 @@ use Rattle.std.proofs.Common.{[]}
 use Rattle.sqlite.specs.Held.{state}
 use Rattle.fuse_store_tables.specs.Layout.{with_answers}
 use Rattle.fuse_store_tables.specs.Content.{Holds, HoldsAs, stored}
-use Rattle.fuse_store_tables.specs.Opening.{IsFirst, IsSecond}
-use Rattle.fuse_store_tables.proofs.OpenLemmas.{meta_looks, meta_found, in_order, any_rows}
+use Rattle.fuse_store_tables.specs.Opening.{HoldsUnindexed}
+use Rattle.fuse_store_tables.proofs.OpenLemmas.{meta_looks, meta_found, any_rows}
 use Rattle.fuse_store_tables.proofs.Selects.{only_reads, reads_within, meta_select}
 use Rattle.fuse_store_tables.proofs.meta.select_meta.Goals as goal
 
-pub returns-clause-unchanged : goal.returns-clause-unchanged
-returns-clause-unchanged g c =
-    meta_looks IsFirst IsSecond in_order (λ rows. rows.items) (state g.S.Store c.args.conn.now) (state g.S.Store c.query_all.new.self) c.query_all.result
-    c.query_all.ensures.ok
-    c.query_all.ensures.err c.query_all.ensures.survives
-
-pub returns-clause-found : goal.returns-clause-found
-returns-clause-found g c = meta_found IsFirst IsSecond in_order (λ rows. rows.items) (state g.S.Store c.args.conn.now) (state g.S.Store
-    c.query_all.new.self) c.query_all.result
-    c.query_all.ensures.ok
-
 pub returns-clause-laid : goal.returns-clause-laid
 returns-clause-laid g c =
-    meta_looks (λ k. HoldsAs with_answers (stored k)) Holds any_rows (λ rows. rows.items) (state g.S.Store c.args.conn.now)
+    meta_looks (λ k. HoldsAs with_answers (stored k)) Holds HoldsUnindexed any_rows (λ rows. rows.items) (state g.S.Store c.args.conn.now)
     (state g.S.Store c.query_all.new.self) c.query_all.result c.query_all.ensures.ok c.query_all.ensures.err c.query_all.ensures.survives
 
 pub returns-clause-shows : goal.returns-clause-shows
 returns-clause-shows g c =
-    meta_found (λ k. HoldsAs with_answers (stored k)) Holds any_rows (λ rows. rows.items) (state g.S.Store c.args.conn.now)
+    meta_found (λ k. HoldsAs with_answers (stored k)) Holds HoldsUnindexed any_rows (λ rows. rows.items) (state g.S.Store c.args.conn.now)
     (state g.S.Store c.query_all.new.self) c.query_all.result c.query_all.ensures.ok
 
 pub returns-clause-reads : goal.returns-clause-reads

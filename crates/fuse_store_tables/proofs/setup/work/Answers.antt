@@ -1,19 +1,21 @@
-use Rattle.std.proofs.Common.{Ok, Err, inl, inr, sym, ◌∙◌}
+use Rattle.std.proofs.Common.{Ok, Err, inl, inr, sym, arith, ◌∙◌}
 use Rattle.sqlite.specs.Held.{state}
 use Rattle.fuse_keeper.specs.declared.fault.StoreFault.{StoreFault}
-use Rattle.fuse_store_tables.specs.Opening.{IsStored, IsFirst, IsSecond, IsOpened}
+use Rattle.fuse_store_tables.specs.Opening.{IsStored, IsFirst, IsSecond, IsUnindexed, IsOpened}
 use Rattle.fuse_store_tables.specs.Moves.{Takes}
 use Rattle.fuse_store_tables.proofs.Joining.{then_as, fails_as, sure_next}
 use Rattle.fuse_store_tables.proofs.Either.{narrowed}
-use Rattle.fuse_store_tables.proofs.MigrationLemmas.{found_first, found_second}
+use Rattle.fuse_store_tables.proofs.MigrationLemmas.{found_first}
+use Rattle.fuse_store_tables.proofs.Indexed.{found_second, found_unindexed}
 use Rattle.fuse_store_tables.proofs.OpenLemmas.{tested_second}
-use Rattle.fuse_store_tables.proofs.Tabled.{refused_first, refused_second, tabled_first, tabled_second, to_migrate}
-use Rattle.fuse_store_tables.proofs.Alone.{on_refusal, commits_then, reads_told, reads_failed, reads_then, reads_never}
+use Rattle.fuse_store_tables.proofs.Tabled.{refused_first, refused_second, tabled_first, tabled_second, to_migrate, to_index}
+use Rattle.fuse_store_tables.proofs.Alone.{on_refusal, refused_then, commits_then, reads_told, reads_failed, reads_then, reads_never}
 use Rattle.sqlite.proofs.StateLemmas.{survives_then}
 use Rattle.fuse_store_tables.specs.inner.Following.{earlier}
 use Rattle.fuse_store_tables.specs.inner.Versions.{reported_damaged, plain_says}
 use Rattle.fuse_store_tables.proofs.Sayings.{says_if}
 use Rattle.fuse_store_tables.proofs.Within.{within_then, within_failed, within_told}
+use Rattle.fuse_store_tables.proofs.Profiles.{plain_in, told_before}
 use Rattle.fuse_store_tables.proofs.setup.work.Goals as goal
 
 pub returns-in-Err-clause-opened : goal.returns-in-Err-clause-opened
@@ -37,20 +39,60 @@ returns-in-Ok-clause-opened g c =
     c.in-Ok.ensures.made in
     record { stays = all.stays; turns = all.turns }
 
-pub returns-else-not-second-clause-opened : goal.returns-else-not-second-clause-opened
-returns-else-not-second-clause-opened g c =
+pub returns-then-indexed-clause-opened : goal.returns-then-indexed-clause-opened
+returns-then-indexed-clause-opened g c =
     let a = state g.S.Store c.args.conn.now in
     let b = state g.S.Store c.find_version.new.conn in
     let v = c.in_ok-version.version in
     let second : Takes {E = StoreFault} IsStored IsSecond a b (Ok v) = narrowed IsStored IsStored IsSecond a b v v c.in_ok-version.ensures.unchanged
-    (λ clean k at on. found_second a b v c.if-version-eq2.true (c.in_ok-version.ensures.value clean) k at on) in
+    (λ clean k at on. found_second a b c.schema-schema.result.now c.schema-schema.ensures.value v c.if-version-eq2.true
+    (sym c.has_index-indexed.ensures ∙ c.if-indexed.true) (c.in_ok-version.ensures.value clean) (c.in_ok-version.ensures.reads.same clean) k at on) in
     then_as IsStored IsSecond IsOpened a b (state g.S.Store c.open_second.new.conn) v c.open_second.result second c.open_second.ensures.opened
 
-pub returns-else-not-second-clause-whole : goal.returns-else-not-second-clause-whole
-returns-else-not-second-clause-whole g c =
+pub returns-else-indexed-clause-opened : goal.returns-else-indexed-clause-opened
+returns-else-indexed-clause-opened g c =
+    let a = state g.S.Store c.args.conn.now in
+    let b = state g.S.Store c.find_version.new.conn in
+    let v = c.in_ok-version.version in
+    let lacking : Takes {E = StoreFault} IsStored IsUnindexed a b (Ok v) = narrowed IsStored IsStored IsUnindexed a b v v c.in_ok-version.ensures.unchanged
+    (λ clean k at on. found_unindexed a b c.schema-schema.result.now c.schema-schema.ensures.value v c.if-version-eq2.true
+    (sym c.has_index-indexed.ensures ∙ c.if-indexed.false) (c.in_ok-version.ensures.value clean) (c.in_ok-version.ensures.reads.same clean) k at on) in
+    then_as IsStored IsUnindexed IsOpened a b (state g.S.Store c.open_unindexed.new.conn) v c.open_unindexed.result lacking c.open_unindexed.ensures.made
+
+pub returns-then-indexed-clause-whole : goal.returns-then-indexed-clause-whole
+returns-then-indexed-clause-whole g c =
     tested_second (state g.S.Store c.args.conn.now) (state g.S.Store c.find_version.new.conn) (state g.S.Store c.open_second.new.conn)
     c.in_ok-version.version c.open_second.result c.in_ok-version.ensures.laid c.in_ok-version.ensures.shows c.if-version-eq2.true
     c.open_second.ensures.opened.stays.survives c.open_second.ensures.whole
+
+pub returns-else-indexed-clause-whole : goal.returns-else-indexed-clause-whole
+returns-else-indexed-clause-whole g c =
+    tested_second (state g.S.Store c.args.conn.now) (state g.S.Store c.find_version.new.conn) (state g.S.Store c.open_unindexed.new.conn)
+    c.in_ok-version.version c.open_unindexed.result c.in_ok-version.ensures.laid c.in_ok-version.ensures.shows c.if-version-eq2.true
+    c.open_unindexed.ensures.made.stays.survives c.open_unindexed.ensures.whole
+
+-- ---- the profile
+
+pub returns-in-Ok-clause-profile : goal.returns-in-Ok-clause-profile
+returns-in-Ok-clause-profile g c = λ clean k at.
+    let b = state g.S.Store c.find_version.new.conn in
+    let d = state g.S.Store c.open_first.new.conn in
+    let mid = earlier b d _ c.in-Ok.ensures.made.stays.survives clean in
+    sym (plain_in 10 k (omega arith) (c.in-Ok.ensures.whole clean k (c.in_ok-version.ensures.laid.turns mid k at)).0)
+
+pub returns-then-indexed-clause-profile : goal.returns-then-indexed-clause-profile
+returns-then-indexed-clause-profile g c = λ clean.
+    let b = state g.S.Store c.find_version.new.conn in
+    let d = state g.S.Store c.open_second.new.conn in
+    let mid = earlier b d _ c.open_second.ensures.opened.stays.survives clean in
+    told_before c.open_second.result _ _ (c.in_ok-version.ensures.laid.turns mid) (c.open_second.ensures.profile clean)
+
+pub returns-else-indexed-clause-profile : goal.returns-else-indexed-clause-profile
+returns-else-indexed-clause-profile g c = λ clean.
+    let b = state g.S.Store c.find_version.new.conn in
+    let d = state g.S.Store c.open_unindexed.new.conn in
+    let mid = earlier b d _ c.open_unindexed.ensures.made.stays.survives clean in
+    told_before c.open_unindexed.result _ _ (c.in_ok-version.ensures.laid.turns mid) (c.open_unindexed.ensures.profile clean)
 
 -- ---- the tables beside `meta`
 
@@ -70,12 +112,17 @@ returns-in-Ok-clause-tabled g c =
     c.schema-schema.ensures.value c.in_ok-version.version c.in_ok-version.ensures.reports c.in-Ok.ensures.made.stays.survives c.if-version-eq1.true
     (sym c.has_first-first.ensures ∙ c.if-not-first.false)
 
-pub returns-else-not-second-clause-tabled : goal.returns-else-not-second-clause-tabled
-returns-else-not-second-clause-tabled g c =
-    tabled_second (state g.S.Store c.args.conn.now) (state g.S.Store c.find_version.new.conn) (state g.S.Store c.open_second.new.conn)
-    c.schema-schema.result.now c.schema-schema.ensures.value
-    c.in_ok-version.version c.in_ok-version.ensures.reports c.open_second.ensures.opened.stays.survives c.open_second.result
+pub returns-then-indexed-clause-tabled : goal.returns-then-indexed-clause-tabled
+returns-then-indexed-clause-tabled g c =
+    tabled_second (state g.S.Store c.args.conn.now) (state g.S.Store c.find_version.new.conn) (state g.S.Store c.open_second.new.conn) c.schema-schema.result.now
+    c.schema-schema.ensures.value c.in_ok-version.version c.in_ok-version.ensures.reports c.open_second.ensures.opened.stays.survives c.open_second.result
     c.if-version-eq2.true (sym c.has_second-second.ensures ∙ c.if-not-second.false)
+
+pub returns-else-indexed-clause-tabled : goal.returns-else-indexed-clause-tabled
+returns-else-indexed-clause-tabled g c =
+    tabled_second (state g.S.Store c.args.conn.now) (state g.S.Store c.find_version.new.conn) (state g.S.Store c.open_unindexed.new.conn)
+    c.schema-schema.result.now c.schema-schema.ensures.value c.in_ok-version.version c.in_ok-version.ensures.reports
+    c.open_unindexed.ensures.made.stays.survives c.open_unindexed.result c.if-version-eq2.true (sym c.has_second-second.ensures ∙ c.if-not-second.false)
 
 -- ---- of any database
 
@@ -106,16 +153,32 @@ returns-in-Err-clause-alone g c = λ other.
 pub returns-then-not-second-clause-alone : goal.returns-then-not-second-clause-alone
 returns-then-not-second-clause-alone g c = λ other. reads_told _ _ _ _ c.in_ok-version.ensures.reads
 
-pub returns-else-not-second-clause-alone : goal.returns-else-not-second-clause-alone
-returns-else-not-second-clause-alone g c = λ other. reads_then _ _ _ _ _ c.in_ok-version.ensures.reads c.open_second.ensures.reads
+pub returns-then-indexed-clause-alone : goal.returns-then-indexed-clause-alone
+returns-then-indexed-clause-alone g c = λ other. reads_then _ _ _ _ _ c.in_ok-version.ensures.reads c.open_second.ensures.reads
+
+pub returns-else-indexed-clause-alone : goal.returns-else-indexed-clause-alone
+returns-else-indexed-clause-alone g c = λ other.
+    let a = state g.S.Store c.args.conn.now in
+    let b = state g.S.Store c.find_version.new.conn in
+    let d = state g.S.Store c.open_unindexed.new.conn in
+    reads_never a d c.open_unindexed.result (λ clean. other clean (to_index a b d c.schema-schema.result.now c.schema-schema.ensures.value
+    c.in_ok-version.version c.in_ok-version.ensures.reports c.open_unindexed.ensures.made.stays.survives c.if-version-eq2.true
+    (sym c.has_second-second.ensures ∙ c.if-not-second.false) (sym c.has_index-indexed.ensures ∙ c.if-indexed.false) clean))
+    (survives_then a b d _ _ (λ _. Unit {0}) (λ _ _ _. tt) (λ _ _ _. tt) c.in_ok-version.ensures.reads.commits.survives
+    c.open_unindexed.ensures.made.stays.survives)
 
 pub returns-in-Err-clause-refused : goal.returns-in-Err-clause-refused
 returns-in-Err-clause-refused g c = λ refused. commits_then _ _ _ c.in_ok-version.ensures.reads.commits (c.in-Err.ensures.refused refused)
 
-pub returns-else-not-second-clause-refused : goal.returns-else-not-second-clause-refused
-returns-else-not-second-clause-refused g c =
+pub returns-then-indexed-clause-refused : goal.returns-then-indexed-clause-refused
+returns-then-indexed-clause-refused g c =
     on_refusal (state g.S.Store c.args.conn.now) (state g.S.Store c.open_second.new.conn) c.open_second.result
     (commits_then _ (state g.S.Store c.find_version.new.conn) _ c.in_ok-version.ensures.reads.commits c.open_second.ensures.reads.commits)
+
+pub returns-else-indexed-clause-refused : goal.returns-else-indexed-clause-refused
+returns-else-indexed-clause-refused g c =
+    refused_then (state g.S.Store c.args.conn.now) (state g.S.Store c.find_version.new.conn) (state g.S.Store c.open_unindexed.new.conn)
+    c.open_unindexed.result c.in_ok-version.ensures.reads.commits c.open_unindexed.ensures.refused
 
 -- ---- what is damaged is of version 1 or 2
 
@@ -132,12 +195,19 @@ returns-in-Err-clause-says g c = λ clean.
 pub returns-then-not-second-clause-says : goal.returns-then-not-second-clause-says
 returns-then-not-second-clause-says g c = λ clean. reported_damaged _ _ (c.in_ok-version.ensures.reports clean) (inr c.if-version-eq2.true)
 
-pub returns-else-not-second-clause-says : goal.returns-else-not-second-clause-says
-returns-else-not-second-clause-says g c = λ clean.
+pub returns-then-indexed-clause-says : goal.returns-then-indexed-clause-says
+returns-then-indexed-clause-says g c = λ clean.
     let b = state g.S.Store c.find_version.new.conn in
     let d = state g.S.Store c.open_second.new.conn in
     says_if _ c.open_second.result (reported_damaged _ _ (c.in_ok-version.ensures.reports (earlier b d _ c.open_second.ensures.opened.stays.survives clean))
     (inr c.if-version-eq2.true)) c.open_second.ensures.plain
+
+pub returns-else-indexed-clause-says : goal.returns-else-indexed-clause-says
+returns-else-indexed-clause-says g c = λ clean.
+    let b = state g.S.Store c.find_version.new.conn in
+    let d = state g.S.Store c.open_unindexed.new.conn in
+    says_if _ c.open_unindexed.result (reported_damaged _ _ (c.in_ok-version.ensures.reports (earlier b d _ c.open_unindexed.ensures.made.stays.survives clean))
+    (inr c.if-version-eq2.true)) c.open_unindexed.ensures.plain
 
 -- ---- within a transaction
 
@@ -148,16 +218,21 @@ pub returns-then-not-first-clause-within : goal.returns-then-not-first-clause-wi
 returns-then-not-first-clause-within g c = within_told _ _ _ _ c.in_ok-version.ensures.within
 
 pub returns-in-Ok-clause-within : goal.returns-in-Ok-clause-within
-returns-in-Ok-clause-within g c = within_then _ _ _ _ (Ok _) c.in_ok-version.ensures.within c.in-Ok.ensures.within
+returns-in-Ok-clause-within g c = within_told _ _ _ _ (within_then _ _ _ _ (Ok _) c.in_ok-version.ensures.within c.in-Ok.ensures.within)
 
 pub returns-in-Err-clause-within : goal.returns-in-Err-clause-within
-returns-in-Err-clause-within g c = within_then _ _ _ _ (Err _) c.in_ok-version.ensures.within c.in-Err.ensures.within
+returns-in-Err-clause-within g c =
+    let all = within_then _ _ _ _ (Err _) c.in_ok-version.ensures.within c.in-Err.ensures.within in
+    record { survives = all.survives; kept = all.kept; within = tt }
 
 pub returns-then-not-second-clause-within : goal.returns-then-not-second-clause-within
 returns-then-not-second-clause-within g c = within_told _ _ _ _ c.in_ok-version.ensures.within
 
-pub returns-else-not-second-clause-within : goal.returns-else-not-second-clause-within
-returns-else-not-second-clause-within g c = within_then _ _ _ _ _ c.in_ok-version.ensures.within c.open_second.ensures.within
+pub returns-then-indexed-clause-within : goal.returns-then-indexed-clause-within
+returns-then-indexed-clause-within g c = within_then _ _ _ _ _ c.in_ok-version.ensures.within c.open_second.ensures.within
+
+pub returns-else-indexed-clause-within : goal.returns-else-indexed-clause-within
+returns-else-indexed-clause-within g c = within_then _ _ _ _ _ c.in_ok-version.ensures.within c.open_unindexed.ensures.within
 
 pub returns-in-Err-clause-fault : goal.returns-in-Err-clause-fault
 returns-in-Err-clause-fault g c =
@@ -168,3 +243,25 @@ returns-in-Err-clause-fault g c =
     (λ clean k at on. found_first a b v c.if-version-eq1.true (c.in_ok-version.ensures.value clean) k at on) in
     sure_next {Y = Unit {0}} IsStored IsFirst a b (state g.S.Store c.open_first.new.conn) v (Err c.in-Err.fault) first c.in-Err.ensures.made.stays.survives
     c.in-Err.ensures.fault
+
+pub returns-else-indexed-clause-fault : goal.returns-else-indexed-clause-fault
+returns-else-indexed-clause-fault g c =
+    let a = state g.S.Store c.args.conn.now in
+    let b = state g.S.Store c.find_version.new.conn in
+    let v = c.in_ok-version.version in
+    let lacking : Takes {E = StoreFault} IsStored IsUnindexed a b (Ok v) = narrowed IsStored IsStored IsUnindexed a b v v c.in_ok-version.ensures.unchanged
+    (λ clean k at on. found_unindexed a b c.schema-schema.result.now c.schema-schema.ensures.value v c.if-version-eq2.true
+    (sym c.has_index-indexed.ensures ∙ c.if-indexed.false) (c.in_ok-version.ensures.value clean) (c.in_ok-version.ensures.reads.same clean) k at on) in
+    sure_next IsStored IsUnindexed a b (state g.S.Store c.open_unindexed.new.conn) v c.open_unindexed.result lacking
+    c.open_unindexed.ensures.made.stays.survives c.open_unindexed.ensures.fault
+
+pub returns-then-indexed-clause-fault : goal.returns-then-indexed-clause-fault
+returns-then-indexed-clause-fault g c =
+    let a = state g.S.Store c.args.conn.now in
+    let b = state g.S.Store c.find_version.new.conn in
+    let v = c.in_ok-version.version in
+    let second : Takes {E = StoreFault} IsStored IsSecond a b (Ok v) = narrowed IsStored IsStored IsSecond a b v v c.in_ok-version.ensures.unchanged
+    (λ clean k at on. found_second a b c.schema-schema.result.now c.schema-schema.ensures.value v c.if-version-eq2.true
+    (sym c.has_index-indexed.ensures ∙ c.if-indexed.true) (c.in_ok-version.ensures.value clean) (c.in_ok-version.ensures.reads.same clean) k at on) in
+    sure_next IsStored IsSecond a b (state g.S.Store c.open_second.new.conn) v c.open_second.result second
+    c.open_second.ensures.opened.stays.survives c.open_second.ensures.fault

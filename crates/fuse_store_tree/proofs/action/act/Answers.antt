@@ -19,6 +19,7 @@ returns-in-Ok-make_all-clause-acts g c = λ s tree.
     let d = state g.S.Store c.clear_gap.new.conn in
     let leaves = c.in-Ok-clear_gap.ensures.same in
     acted a d (state g.S.Store c.make_all.new.conn) s c.in-Ok.planned (done s (asked c.args.request.now) c.args.now) tree
+    (c.tree_kept.ensures s (asked c.args.request.now) c.args.now tree).1
     (trees_then a b d (c.in-Ok.ensures.looks (refl {a = None})).looked leaves)
     (rw c.as_slice-changes.ensures at c.in-Ok-make_all.ensures.changed)
     (λ mid sees. c.in-Ok.ensures.meets (earlier b d _ leaves.stays.survives mid) s tree sees)

@@ -19,7 +19,7 @@ returns-clause-value g c clean = map_ok c.read_entries.result _ _ (λ v told k a
     let shown = c.in_ok-rows.ensures.found clean k at ∙ take_map shown_entry most xs in
     told (take most xs) (taken_in_dir c.args.dir c.args.cookie most k.entries) (c.as_slice.ensures.value ∙ shown)
     ∙ not_cut most c.args.limit c.len.result xs c.most_of-most.ensures.some c.if-is_too_long.ensures (c.len.ensures ∙ sym c.as_slice.ensures.len
-    ∙ ap length c.as_slice.ensures.value ∙ shown_length c.in_ok-rows.rows.items (take most xs) shown)) c.read_entries.ensures.value
+    ∙ ap length c.as_slice.ensures.value ∙ shown_length shown_entry c.in_ok-rows.rows.items (take most xs) shown)) c.read_entries.ensures.value
 
 pub returns-clause-fault : goal.returns-clause-fault
 returns-clause-fault g c clean = map_err c.read_entries.result _ _ (λ f told k at few.

@@ -1,6 +1,8 @@
 use Rattle.std.proofs.Common.{arith, ◌∙◌}
 use Rattle.sqlite.specs.Held.{state}
 use Rattle.fuse_store_tree.proofs.Looks.{map_ok, map_err}
+use Rattle.fuse_tree.specs.Rows.{rowed}
+use Rattle.fuse_store_tree.proofs.Once.{counted_back}
 use Rattle.fuse_store_tree.proofs.Rests.{counters_held, counters_shown, failed_for, read_for}
 use Rattle.fuse_store_tables.specs.inner.Following.{open_told, open_fails}
 use Rattle.fuse_store_tree.proofs.reads.counters_at_rest.Goals as goal
@@ -17,7 +19,8 @@ returns-clause-serves g c =
 pub returns-clause-value : goal.returns-clause-value
 returns-clause-value g c =
     map_ok c.read_counters.result _ _ (λ r told clean y at. told (counters_held y) (counters_shown y (state g.S.Store c.args.conn.now) c.as_slice.result.now
-    (λ k here. c.as_slice.ensures.value ∙ c.in_ok-rows.ensures.found_at_rest clean k here) at)) c.read_counters.ensures.value
+    (λ k here. c.as_slice.ensures.value ∙ c.in_ok-rows.ensures.found_at_rest clean k here) at)
+    ∙ counted_back (rowed y.tree).counters (rowed y.tree).settings y.next_lot) c.read_counters.ensures.value
 
 pub returns-clause-fault : goal.returns-clause-fault
 returns-clause-fault g c clean =

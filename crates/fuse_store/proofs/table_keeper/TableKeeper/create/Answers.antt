@@ -1,6 +1,9 @@
-use Rattle.std.proofs.Common.{[], None, false}
+use Rattle.std.proofs.Common.{[], None, false, subst}
 use Rattle.sqlite.specs.Held.{state}
+use Rattle.fuse_init.specs.declared.profile.Profile.{Profile}
 use Rattle.fuse_tree.specs.State.{new_store}
+use Rattle.fuse_store_tables.specs.Moves.{RestsAs}
+use Rattle.fuse_store_tree.specs.Holding.{HeldFor}
 use Rattle.fuse_tree.specs.Rows.{rowed}
 use Rattle.fuse_store_tables.specs.inner.Following.{earlier}
 use Rattle.fuse_store_tree.specs.Store.{records_of}
@@ -8,22 +11,32 @@ use Rattle.fuse_store.specs.Creating.{new_holding}
 use Rattle.fuse_store.proofs.Serving.{holds_at, firm}
 use Rattle.fuse_store.proofs.Grouping.{its_own}
 use Rattle.fuse_store.proofs.Beginning.{starts}
+use Rattle.fuse_store.proofs.MadeNew.{new_profile}
 use Rattle.fuse_store.proofs.table_keeper.TableKeeper.create.Goals as goal
 
 pub returns-in-Ok-clause-stands : goal.returns-in-Ok-clause-stands
 returns-in-Ok-clause-stands g c = λ clean is_open.
-    let at = c.in-Ok.ensures.done clean is_open in
+    let at : RestsAs (HeldFor (new_holding g.P.Profiled.PROFILE c.args.capacity c.args.now)) (state g.S.Store c.make_for.new.conn) =
+    subst (λ (p : Profile). RestsAs (HeldFor (new_holding p c.args.capacity c.args.now)) (state g.S.Store c.make_for.new.conn)) c.PROFILE.ensures
+    (c.in-Ok.ensures.done clean is_open) in
     record {
-      rows = rowed (new_store c.args.now);
+      rows = rowed (new_store g.P.Profiled.PROFILE c.args.capacity c.args.now);
       records = records_of [];
-      held = holds_at c.one_holding.ensures (state g.S.Store c.make_for.new.conn) (new_holding c.args.now) (rowed (new_store c.args.now)) (records_of []) at
-          (its_own (new_holding c.args.now));
-      stands = starts (new_store c.args.now) at.holds.tree;
+      held =
+          holds_at c.one_holding.ensures (state g.S.Store c.make_for.new.conn) (new_holding g.P.Profiled.PROFILE c.args.capacity c.args.now)
+          (rowed (new_store g.P.Profiled.PROFILE c.args.capacity c.args.now)) (records_of []) at
+          (its_own (new_holding g.P.Profiled.PROFILE c.args.capacity c.args.now));
+      stands =
+          starts g.P.Profiled.PROFILE (new_store g.P.Profiled.PROFILE c.args.capacity c.args.now)
+          (record { tree = at.holds.tree; profile = new_profile g.P.Profiled.PROFILE c.args.capacity c.args.now });
     }
 
 pub returns-in-Ok-clause-lots : goal.returns-in-Ok-clause-lots
 returns-in-Ok-clause-lots g c = λ clean is_open.
-    c.lots_are_read.ensures.same None (new_holding c.args.now) (state g.S.Store c.make_for.new.conn).now (c.in-Ok.ensures.done clean is_open).holds
+    let at : RestsAs (HeldFor (new_holding g.P.Profiled.PROFILE c.args.capacity c.args.now)) (state g.S.Store c.make_for.new.conn) =
+    subst (λ (p : Profile). RestsAs (HeldFor (new_holding p c.args.capacity c.args.now)) (state g.S.Store c.make_for.new.conn)) c.PROFILE.ensures
+    (c.in-Ok.ensures.done clean is_open) in
+    c.lots_are_read.ensures.same None (new_holding g.P.Profiled.PROFILE c.args.capacity c.args.now) (state g.S.Store c.make_for.new.conn).now at.holds
 
 pub returns-in-Ok-clause-honest : goal.returns-in-Ok-clause-honest
 returns-in-Ok-clause-honest g c = λ clean.
@@ -31,7 +44,7 @@ returns-in-Ok-clause-honest g c = λ clean.
 
 pub returns-in-Ok-clause-firm : goal.returns-in-Ok-clause-firm
 returns-in-Ok-clause-firm g c = λ clean.
-    firm c.one_holding.ensures (state g.S.Store c.make_for.new.conn) None false (g.met.S.Store.settled c.make_for.new.conn.store)
+    firm g.P.Profiled.PROFILE c.one_holding.ensures (state g.S.Store c.make_for.new.conn) None false (g.met.S.Store.settled c.make_for.new.conn.store)
 
 pub returns-in-Err-clause-kept : goal.returns-in-Err-clause-kept
 returns-in-Err-clause-kept g c = λ clean is_open at. c.in-Err.ensures.serves.kept clean is_open tt at

@@ -24,7 +24,7 @@ returns-in-Ok-clause-honest g c = λ clean.
 
 pub returns-in-Ok-clause-firm : goal.returns-in-Ok-clause-firm
 returns-in-Ok-clause-firm g c = λ clean.
-    firm c.one_holding.ensures (state g.S.Store c.set_up_for.new.conn) None false (g.met.S.Store.settled c.set_up_for.new.conn.store)
+    firm g.P.Profiled.PROFILE c.one_holding.ensures (state g.S.Store c.set_up_for.new.conn) None false (g.met.S.Store.settled c.set_up_for.new.conn.store)
 
 pub returns-in-Ok-clause-absent : goal.returns-in-Ok-clause-absent
 returns-in-Ok-clause-absent g c = λ settled none. absurd (c.in-Ok.ensures.absent settled none)

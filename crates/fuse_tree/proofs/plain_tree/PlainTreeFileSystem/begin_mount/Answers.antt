@@ -3,4 +3,6 @@ use Rattle.fuse_tree.proofs.PlainTrees.{tree_clears}
 use Rattle.fuse_tree.proofs.plain_tree.PlainTreeFileSystem.begin_mount.Goals as goal
 
 pub returns : goal.returns
-returns c = tree_clears (rows_of c.args.self.now.rows) (rows_of c.begin_mount.new.self) c.clearing.ensures c.begin_mount.ensures.rows
+returns g c =
+    tree_clears g.P.Profiled.PROFILE (rows_of c.args.self.now.rows) (rows_of c.begin_mount.new.self) c.clearing.ensures
+    c.begin_mount.ensures.rows

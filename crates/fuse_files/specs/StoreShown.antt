@@ -1,0 +1,121 @@
+-- What is shown of the store in files that were read (own profile).
+use Rattle.std.specs.Prelude.{◌≡◌, ◌⊎◌, ⊤, ℕ, List, length, Option, Result, Ok, Err}
+use Rattle.std.specs.List.{sum_by}
+use Rattle.std.specs.Io.KnownBytes.{Appends}
+use Rattle.sqlite_wal.specs.Recovery.{Image}
+use Rattle.sqlite.specs.Tree.{Trees}
+use Rattle.sqlite.specs.Effect.{Database, IsDatabase}
+use Rattle.sqlite.specs.Files.{HoldsDatabase, IsNothing}
+use Rattle.fuse_keeper.specs.declared.fault.StoreFault.TheVariants as fault
+use Rattle.fuse_keeper.specs.Stands.{Records, CountsRecords}
+use Rattle.fuse_tree.specs.Rows.{Rows, rowed}
+use Rattle.fuse_store_tables.specs.Saying.{Says, IsTabled}
+use Rattle.fuse_store_tree.specs.Store.{records_of}
+use Rattle.fuse_store.specs.Opening.{Stored, opened_for, version_for}
+use Rattle.fuse_store_files.specs.Files.{AreTheirs}
+use Rattle.fuse_show.specs.declared.fault.ShowFault.{ShowFault}
+use Rattle.fuse_show.specs.declared.fault.ShowFault.TheVariants.{Look, NotATree, NoSuchPath, NotDirectory, NotFile, Output}
+use Rattle.fuse_show.specs.Paths.{names_of}
+use Rattle.fuse_show.specs.Shown.{ShowsListing, ShowsContent}
+use Rattle.fuse_show.specs.Summary.{store_text}
+use Rattle.fuse_show.specs.declared.summary.Summary.{Summary}
+use Rattle.fuse_commands.specs.declared.ending.Ending.{Ending}
+use Rattle.fuse_commands.specs.declared.ending.Ending.TheVariants as ending
+use Rattle.fuse_files.specs.declared.showing.Show.{Show}
+use Rattle.fuse_files.specs.declared.showing.Show.TheVariants as show
+use Rattle.fuse_files.specs.declared.showing.StoreBytes.{StoreBytes}
+
+abbrev pub image_in : StoreBytes → Image
+image_in read = record { log = read.log.items; db = read.db.items }
+
+-- ---- of a store
+
+-- its rows, once it is opened
+abbrev pub rows_in : Stored → Rows
+rows_in z = rowed (opened_for z).tree
+
+-- the ending says nothing of the store: out of memory, or a fault of SQL
+abbrev pub SaysNothing : Ending → Type 0
+SaysNothing ending.Memory = ⊤
+SaysNothing ending.Sql = ⊤
+SaysNothing _ = ⊥
+
+-- the ending of what was shown
+abbrev pub EndsAs : Result (Unit {0}) ShowFault → Ending → Type 0
+EndsAs (Ok _) e = e ≡ ending.Done
+EndsAs (Err (Look f)) e = SaysNothing e
+EndsAs (Err NotATree) e = e ≡ ending.Damaged
+EndsAs (Err NoSuchPath) e = e ≡ ending.NoSuchPath
+EndsAs (Err NotDirectory) e = e ≡ ending.NotDirectory
+EndsAs (Err NotFile) e = e ≡ ending.NotFile
+EndsAs (Err Output) e = e ≡ ending.PortFailed
+
+-- the listing of the directory at this path, or why there is none
+pub record Lists (path : List ℕ) (z : Stored) (old new : Option (List ℕ)) (e : Ending) : Type 0 where
+  pub shown : Result (Unit {0}) ShowFault
+  pub lists : ShowsListing (rows_in z) (names_of path) old new shown
+  pub ends : EndsAs shown e
+
+-- the bytes of the file at this path, or why there are none
+pub record Prints (path : List ℕ) (z : Stored) (old new : Option (List ℕ)) (e : Ending) : Type 0 where
+  pub shown : Result (Unit {0}) ShowFault
+  pub prints : ShowsContent (rows_in z) (names_of path) old new shown
+  pub ends : EndsAs shown e
+
+-- the summary says what these rows and records hold, in so many lots
+pub record SumsUp (x : Rows) (r : Records) (n : ℕ) (it : Summary) : Type 0 where
+  pub nodes : it.counts.nodes ≡ x.counters.nodes
+  pub handles : it.counts.handles ≡ x.counters.handles
+  pub records : CountsRecords r it.counts.records
+  pub lots : it.counts.lots ≡ n
+  pub bytes : it.bytes ≡ sum_by (λ f. f.row.size) x.nodes
+  pub agreed : it.agreed ≡ x.settings
+
+-- its summary is written
+pub record IsSummed (z : Stored) (old new : Option (List ℕ)) : Type 0 where
+  pub summary : Summary
+  pub version : summary.version ≡ version_for z
+  pub so : SumsUp (rows_in z) (records_of (opened_for z).kept) (length (opened_for z).lots) summary
+  pub written : Appends old new (store_text summary.version summary.counts summary.bytes summary.agreed)
+
+abbrev pub Sums : Stored → Option (List ℕ) → Option (List ℕ) → Ending → Type 0
+Sums z old new ending.Done = IsSummed z old new
+Sums z old new ending.PortFailed = ⊤
+Sums z old new e = SaysNothing e × (new ≡ old)
+
+abbrev pub Shows : Show → Stored → Option (List ℕ) → Option (List ℕ) → Ending → Type 0
+Shows show.Summary z old new e = Sums z old new e
+Shows (show.Directory path) z old new e = Lists path.now z old new e
+Shows (show.File path) z old new e = Prints path.now z old new e
+
+-- ---- of any files
+
+-- what the ending says of a database is so; only of a store of one of the two versions something is shown
+abbrev pub SaysSo : Database → Ending → Type 0
+SaysSo d ending.Memory = ⊤
+SaysSo d ending.Sql = ⊤
+SaysSo d ending.NotAStore = Says d fault.NotAStore
+SaysSo d (ending.Version n) = Says d (fault.Version n)
+SaysSo d ending.Damaged = Says d fault.Damaged
+SaysSo d _ = IsTabled d
+
+-- an open of the files finds this database, and the ending says what is so of it
+pub record SaysTrue (image : Image) (e : Ending) : Type 0 where
+  pub database : Database
+  pub sound : IsDatabase database
+  pub theirs : AreTheirs image database.trees
+  pub says : SaysSo database e
+
+-- nothing is opened: the ending says nothing, or the files hold neither a database nor nothing
+abbrev pub IsUnopened : Image → Ending → Type 0
+IsUnopened image e =
+    SaysNothing e ⊎ ((e ≡ ending.NotAStore) × ((db : Trees) → HoldsDatabase image db → ⊥) × (IsNothing image → ⊥))
+
+-- no store of a version that is known, or nothing at the path that can be shown
+abbrev pub IsRefused : Ending → Type 0
+IsRefused ending.NotAStore = ⊤
+IsRefused (ending.Version n) = ⊤
+IsRefused ending.NoSuchPath = ⊤
+IsRefused ending.NotDirectory = ⊤
+IsRefused ending.NotFile = ⊤
+IsRefused _ = ⊥

@@ -1,0 +1,53 @@
+-- A script that is run over a new store in files that crash (own profile).
+use Rattle.std.specs.Prelude.{◌≡◌, ◌≤◌, ◌⊎◌, ℕ, true, false, List, [], Option, Some, IsSomeAnd}
+use Rattle.std.specs.Io.KnownBytes.{Appends}
+use Rattle.sqlite_disk.specs.declared.Disk.{Ghosts}
+use Rattle.sqlite_store.specs.declared.store.FileStore.{FileStore}
+use Rattle.sqlite.specs.Files.{over_files}
+use Rattle.fuse_init.specs.declared.profile.Profile.{Profile}
+use Rattle.fuse_keeper.specs.declared.fault.StoreFault.{StoreFault}
+use Rattle.fuse_keeper.specs.KeeperState.{StandsFor, IsFirm}
+use Rattle.fuse_keeper.specs.Model.{Model}
+use Rattle.fuse_tree.specs.State.{State, new_store}
+use Rattle.fuse_tree.specs.TheTree.{tree_of}
+use Rattle.fuse_sim.specs.Twice.{Seen}
+use Rattle.fuse_store_files.specs.declared.crash_keeper.CrashKeeper.{CrashKeeper}
+use Rattle.fuse_store_files.specs.Restarting.{crash_told, CrashRefuses}
+use Rattle.fuse_commands.specs.declared.ending.Ending.{Ending}
+use Rattle.fuse_commands.specs.Endings.{status_of, store_ending}
+use Rattle.fuse_commands.specs.Simulating.{driven, Simulated, StoppedIn, LeftByScript}
+use Rattle.fuse_files.specs.StoreReplays.{Streams, start}
+
+-- the new store of a simulation
+abbrev pub new_state : Profile → ℕ → State
+new_state p capacity = new_store p capacity start
+
+-- how contracts see keepers whose files crash before they are opened again
+abbrev pub crashing : {P D : Type 0} {g : Ghosts D} → (p : Profile) → (D → D → Type 0) → Seen (tree_of p) (CrashKeeper P (FileStore D g) over_files)
+crashing p crashed = driven (crash_told p over_files) (λ a b n. Unit {0}) (λ a b list. Unit {0}) (CrashRefuses p crashed)
+
+-- the script was run over this keeper, and no other: the clauses of `run_simulate`
+pub record SimulatesOver {M : Model} {K : Type 0} (k : Seen M K) (keeper : K) (streams : Streams) (ending : Ending) : Type 0 where
+  pub keeper' : Option K
+  pub simulated : status_of ending ≤ 1 → (script : List ℕ) → streams.input ≡ Some script
+      → Simulated k (Some keeper) keeper' (Appends streams.written streams.written') script ending
+  pub going : status_of ending ≤ 1 → IsSomeAnd keeper' (λ x. (k.told x).has_failed ≡ false)
+  pub stopped : status_of ending ≡ 3 → (script : List ℕ) → streams.input ≡ Some script → StoppedIn k (Some keeper) keeper' script ending
+  pub kept : (script : List ℕ) → streams.input ≡ Some script → (keeper' ≡ Some keeper) ⊎ LeftByScript k (Some keeper) keeper' script
+
+-- It was run over a keeper of a new store. Wherever the server dies both files of the keeper crash, and what is left of them is opened.
+pub record StoreSimulated {D : Type 0} (P : Type 0) (p : Profile) (capacity : ℕ) (g : Ghosts D) (crashed : D → D → Type 0) (streams : Streams) (ending : Ending) : Type 0 where
+  pub keeper : CrashKeeper P (FileStore D g) over_files
+  pub stands : (crash_told p over_files keeper).is_honest → StandsFor (crash_told p over_files keeper) (new_state p capacity) [] []
+  pub firm : (crash_told p over_files keeper).is_honest → IsFirm (crash_told p over_files keeper)
+  pub ran : SimulatesOver (crashing p crashed) keeper streams ending
+
+-- the disks always return what was written, as those in memory do
+abbrev pub AreSure : {D : Type 0} → Ghosts D → Type 0
+AreSure {D} g = (d : D) → g.is_clean d ≡ true
+
+-- no store was made, and nothing was written
+pub record NotSimulated (streams : Streams) (ending : Ending) : Type 0 where
+  pub fault : StoreFault
+  pub ending_is : ending ≡ store_ending fault
+  pub unwritten : streams.written' ≡ streams.written

@@ -1,0 +1,107 @@
+// A script over a new store in files that crash.
+ghost use Rattle.std.specs.Prelude.{◌≡◌, ◌≢◌, ◌≤◌, ◌<◌, ◌^◌, ◌⊎◌, [], false, IsTrue, IfSome, IfOk};
+ghost use Rattle.std.specs.Io.KnownBytes.{Appends};
+ghost use Rattle.sqlite.specs.Files.{over_files};
+ghost use Rattle.fuse_keeper.specs.KeeperState.{StandsFor, IsFirm};
+ghost use Rattle.fuse_tree.specs.TheTree.{tree_of};
+ghost use Rattle.fuse_store_files.specs.Restarting.{crash_told};
+ghost use Rattle.fuse_commands.specs.Endings.{status_of};
+ghost use Rattle.fuse_commands.specs.Simulating.{driven, SimulatedFrom};
+ghost use Rattle.fuse_files.specs.StoreSimulations.{new_state, SimulatesOver, StoreSimulated};
+ghost use Rattle.fuse_files.specs.StoreSimulations.{AreSure, NotSimulated};
+
+use crate::serving::ending_of;
+use fuse_commands::{Ending, START, run_simulate};
+use fuse_init::Profiled;
+use fuse_keeper::{Restart, StoreFault};
+use fuse_store::{TableKeeper, opening_fault};
+use fuse_store_files::{CrashKeeper, Crashing};
+use sqlite::{Connection, FileStore, Files, Options};
+use std::alloc::Global;
+use std::io::{Read, Write};
+
+// The log's salts need no random number: nobody else writes these files.
+const SEED: u64 = 0;
+
+// A keeper over a new store in these files.
+fn new_keeper<P: Profiled, D: Crashing + Drop>(
+    alloc: Global,
+    files: Files<D>,
+    capacity: u64,
+) -> Result<CrashKeeper<P, FileStore<D>>, StoreFault>
+    requires low { capacity < 2 ^ 51 }
+    requires log { IsTrue (D.Disk.is_usable files.log) }
+    requires db { IsTrue (D.Disk.is_usable files.db) }
+    ensures stands { IfOk result (λ k. (crash_told P.PROFILE over_files k).is_honest
+        → StandsFor (crash_told P.PROFILE over_files k) (new_state P.PROFILE capacity) [] []) }
+    ensures firm { IfOk result (λ k. (crash_told P.PROFILE over_files k).is_honest
+        → IsFirm (crash_told P.PROFILE over_files k)) }
+    ensures going { IfOk result (λ k. (crash_told P.PROFILE over_files k).has_failed ≡ false) }
+{
+    let options = Options::new(SEED);
+    let conn = match Connection::open_files(alloc, files, options) {
+        Ok(conn) => conn,
+        Err((error, _)) => return Err(opening_fault(error)),
+    };
+    match TableKeeper::create(alloc, conn, capacity, START) {
+        Ok(keeper) => Ok(CrashKeeper::new(alloc, keeper, options)),
+        Err((fault, _)) => Err(fault),
+    }
+}
+
+// Runs a script over this keeper.
+fn simulate_over<K: Restart, R: Read + Drop, W: Write>(
+    alloc: Global,
+    keeper: K,
+    reader: R,
+    writer: &mut W,
+) -> Ending
+    requires going { (K.told keeper).has_failed ≡ false }
+    ensures ran { SimulatesOver (driven K.told K.became K.performed K.refuses) keeper (record {
+      input = R.remaining reader;
+      written = W.contents writer.old;
+      written' = W.contents writer.new;
+    }) result }
+    ensures silent { 1 ≤ status_of result → status_of result ≤ 3
+        → W.contents writer.new ≡ W.contents writer.old }
+    ensures usage { status_of result ≢ 2 }
+{
+    let mut keeper = Some(keeper);
+    run_simulate(alloc, &mut keeper, reader, writer)
+}
+
+/// Runs a script over a new store in these files, and prints the outcomes. Both files crash wherever
+/// the server dies: what was not synced is lost, and what is left is opened.
+pub fn simulate_store<P: Profiled, D: Crashing + Drop, R: Read + Drop, W: Write>(
+    alloc: Global,
+    files: Files<D>,
+    capacity: u64,
+    reader: R,
+    writer: &mut W,
+) -> Ending
+    requires low { capacity < 2 ^ 51 }
+    requires log { IsTrue (D.Disk.is_usable files.log) }
+    requires db { IsTrue (D.Disk.is_usable files.db) }
+    ensures ran { StoreSimulated P P.PROFILE capacity D.Disk D.Crashing.crashed (record {
+      input = R.remaining reader;
+      written = W.contents writer.old;
+      written' = W.contents writer.new;
+    }) result
+        ⊎ NotSimulated (record {
+          input = R.remaining reader;
+          written = W.contents writer.old;
+          written' = W.contents writer.new;
+        }) result }
+    // Where the disks always return what was written, the output is that of the events.
+    ensures simulated { AreSure D.Disk → IfSome (R.remaining reader) (λ script.
+        status_of result ≤ 1 → SimulatedFrom (tree_of P.PROFILE) (new_state P.PROFILE capacity)
+        (Appends (W.contents writer.old) (W.contents writer.new)) script result) }
+    ensures silent { 1 ≤ status_of result → status_of result ≤ 3
+        → W.contents writer.new ≡ W.contents writer.old }
+    ensures usage { status_of result ≢ 2 }
+{
+    match new_keeper::<P, D>(alloc, files, capacity) {
+        Ok(keeper) => simulate_over(alloc, keeper, reader, writer),
+        Err(fault) => ending_of(fault),
+    }
+}

@@ -1,0 +1,75 @@
+-- What a profile of the tree decides (own profile; the bits of flags and of open flags are those of fuse.h).
+use Rattle.std.specs.Prelude.{◌^◌, ◌==◌, ◌&&◌, ◌||◌, ℕ, Bool, true, false, Option, Some, None}
+use Rattle.std.specs.Int.RustNames.{bit_or}
+use Rattle.fuse_wire.specs.Bits.{fuse_async_read, fuse_big_writes, fuse_do_readdirplus, fuse_readdirplus_auto, fuse_parallel_dirops}
+use Rattle.fuse_wire.specs.Bits.{fuse_cache_symlinks, fuse_init_ext, fuse_has_resend, fopen_keep_cache}
+use Rattle.fuse_wire.specs.Opcodes.{fuse_readlink, fuse_symlink, fuse_statfs, fuse_create, fuse_readdirplus}
+use Rattle.fuse_request.specs.Opcodes.{OpcodeSet, no_others}
+use Rattle.fuse_init.specs.declared.settings.Settings.{Settings}
+use Rattle.fuse_init.specs.declared.profile.Profile.{Profile}
+use Rattle.fuse_init.specs.declared.profile.Profile.TheVariants.{Plain, Everyday}
+
+pub record Terms : Type 0 where
+  -- the opcodes that are served beside those of the protocol's profile
+  pub further : OpcodeSet
+  -- the flags of INIT that are taken where they are offered
+  pub wanted : ℕ
+  -- the settings keep at most this minor
+  pub newest_minor : ℕ
+  -- a kernel of that minor may keep names and their absence
+  pub keeps : Bool
+  -- the flags that OPEN and CREATE are answered
+  pub open_flags : ℕ
+  -- a node without a name and without a handle goes
+  pub removes : Bool
+  -- there are symbolic links
+  pub links : Bool
+  -- what is made in a directory with S_ISGID gets its group
+  pub inherits : Bool
+  pub node_limit : ℕ
+  -- the bytes of a file
+  pub file_limit : ℕ
+
+abbrev pub plain : Terms
+plain = record {
+  further = no_others;
+  wanted = bit_or (bit_or (bit_or fuse_async_read.0 fuse_big_writes.0) fuse_init_ext.0) fuse_has_resend.0;
+  newest_minor = 40;
+  keeps = false;
+  open_flags = 0;
+  removes = false;
+  links = false;
+  inherits = false;
+  node_limit = 65536;
+  file_limit = 16777216;
+}
+
+abbrev pub is_everyday : OpcodeSet
+is_everyday opcode = opcode == fuse_readlink || (opcode == fuse_symlink || (opcode == fuse_statfs || (opcode == fuse_create || opcode == fuse_readdirplus)))
+
+-- those of directories
+abbrev pub directory_flags : ℕ
+directory_flags = bit_or (bit_or fuse_do_readdirplus.0 fuse_readdirplus_auto.0) fuse_parallel_dirops.0
+
+abbrev pub everyday : Terms
+everyday = record {
+  further = is_everyday;
+  wanted = bit_or (bit_or (bit_or (bit_or (bit_or fuse_async_read.0 fuse_big_writes.0) directory_flags) fuse_cache_symlinks.0) fuse_init_ext.0) fuse_has_resend.0;
+  newest_minor = 44;
+  keeps = true;
+  open_flags = fopen_keep_cache;
+  removes = true;
+  links = true;
+  inherits = true;
+  node_limit = 1048576;
+  file_limit = 2 ^ 40;
+}
+
+abbrev pub terms : Profile → Terms
+terms Plain = plain
+terms Everyday = everyday
+
+-- a kernel of these settings keeps names and their absence, and its server begins a new epoch
+abbrev pub keeps_for : Profile → Option Settings → Bool
+keeps_for p None = false
+keeps_for p (Some settings) = (terms p).keeps && (settings.minor == (terms p).newest_minor)

@@ -1,0 +1,28 @@
+-- The rows of a room, added to a new store.
+use Rattle.std.proofs.Common.{◌≡◌, ◌<◌, ◌^◌, ℕ, Some, None, Result, refl, subst}
+use Rattle.std.specs.Prelude.{⊤}
+use Rattle.sqlite.specs.State.{State}
+use Rattle.fuse_wire.specs.declared.moment.Moment.{Moment}
+use Rattle.fuse_store_tables.specs.Content.{Content, Holds}
+use Rattle.fuse_store_tables.specs.Making.{IsNew, new_store}
+use Rattle.fuse_store_tables.specs.Moves.{Takes, Makes}
+use Rattle.fuse_store_tables.specs.inner.Steps.{with_room}
+use Rattle.fuse_store_tables.proofs.Either.{sub_from, narrowed_if}
+use Rattle.fuse_store_tables.proofs.Joining.{taken_from}
+use Rattle.fuse_store_tables.proofs.Fitting.{fit_new}
+
+room_is : (capacity : ℕ) (now : Moment) → with_room capacity (new_store None now) ≡ new_store (Some capacity) now
+room_is capacity now = refl
+
+pub rooms_new : {X E : Type 0} (capacity : ℕ) (now : Moment) → capacity < 2 ^ 51 → (a b : State) (r : Result X E) → Makes (with_room capacity) a b r
+    → Takes (IsNew None now) (IsNew (Some capacity) now) a b r
+rooms_new capacity now low a b r p =
+    let plain : ⊤ → Content = λ _. new_store None now in
+    narrowed_if (IsNew None now) (λ _. Holds (with_room capacity (new_store None now))) (IsNew (Some capacity) now) a b r
+    (sub_from (IsNew None now) (λ k. Holds (plain k)) (λ k. Holds (with_room capacity (plain k))) (λ k d h. h.holds) a b r
+    (taken_from Holds (λ k. Holds (with_room capacity k)) plain a b r p))
+    (λ clean k at on. record {
+      is_open = on.is_open;
+      in_transaction = on.in_transaction;
+      holds = record { holds = subst (λ c. Holds c b.now) (room_is capacity now) on.holds; fit = fit_new (Some capacity) now low };
+    })

@@ -1,9 +1,0 @@
-use Rattle.sqlite.specs.Held.{state}
-use Rattle.fuse_store_tables.proofs.NodeRows.{adds}
-use Rattle.fuse_store_tables.proofs.nodes.insert_node.Goals as goal
-
-pub returns : goal.returns
-returns g c =
-    adds c.args.row.now (state g.S.Store c.args.conn.now) (state g.S.Store c.run.new.conn) c.run.result (rw c.node_values-values.ensures at
-    c.run.ensures.runs)
-    (rw c.node_values-values.ensures at c.run.ensures.survives)

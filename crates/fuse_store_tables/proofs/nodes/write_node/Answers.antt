@@ -1,0 +1,14 @@
+use Rattle.sqlite.specs.Held.{state}
+use Rattle.fuse_store_tables.proofs.NodeRows.{adds}
+use Rattle.fuse_store_tables.proofs.Within.{edits_within, node_edit}
+use Rattle.fuse_store_tables.proofs.nodes.write_node.Goals as goal
+
+pub returns-clause-made : goal.returns-clause-made
+returns-clause-made g c =
+    adds c.args.row.now (state g.S.Store c.args.conn.now) (state g.S.Store c.run.new.conn) c.run.result (rw c.node_values-values.ensures at
+    c.run.ensures.runs)
+    (rw c.node_values-values.ensures at c.run.ensures.survives)
+
+pub returns-clause-within : goal.returns-clause-within
+returns-clause-within g c =
+    edits_within _ _ node_edit (state g.S.Store c.args.conn.now) (state g.S.Store c.run.new.conn) c.run.result c.run.ensures.runs c.run.ensures.survives

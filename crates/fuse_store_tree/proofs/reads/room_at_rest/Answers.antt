@@ -1,0 +1,35 @@
+use Rattle.std.proofs.Common.{◌∙◌}
+use Rattle.sqlite.specs.Held.{state}
+use Rattle.fuse_store_tree.proofs.Looks.{map_ok, map_err}
+use Rattle.fuse_store_tree.proofs.Once.{room_told}
+use Rattle.fuse_store_tree.proofs.Rests.{counters_held, counters_shown, failed_for, read_for}
+use Rattle.fuse_store_tables.specs.inner.Following.{open_told, open_fails}
+use Rattle.fuse_store_tree.proofs.reads.room_at_rest.Goals as goal
+
+pub returns-in_err-rows-clause-serves : goal.returns-in_err-rows-clause-serves
+returns-in_err-rows-clause-serves g c =
+    failed_for (state g.S.Store c.args.conn.now) (state g.S.Store c.select_counters.new.conn) _ c.from_residual.result c.from_residual.ensures.0
+    c.in_err-rows.ensures.rests
+
+pub returns-clause-serves : goal.returns-clause-serves
+returns-clause-serves g c =
+    read_for (state g.S.Store c.args.conn.now) (state g.S.Store c.select_counters.new.conn) c.in_ok-rows.rows c.read_room.result c.in_ok-rows.ensures.rests
+
+pub returns-clause-value : goal.returns-clause-value
+returns-clause-value g c =
+    map_ok c.read_room.result _ _ (λ r told clean y at. told (counters_held y) (counters_shown y (state g.S.Store c.args.conn.now) c.as_slice.result.now
+    (λ k here. c.as_slice.ensures.value ∙ c.in_ok-rows.ensures.found_at_rest clean k here) at) ∙ room_told y.tree y.next_lot) c.read_room.ensures.value
+
+pub returns-clause-fault : goal.returns-clause-fault
+returns-clause-fault g c clean =
+    map_err c.read_room.result _ _ (λ f told y at. told (counters_held y) (counters_shown y (state g.S.Store c.args.conn.now) c.as_slice.result.now
+    (λ k here. c.as_slice.ensures.value ∙ c.in_ok-rows.ensures.found_at_rest clean k here) at)) c.read_room.ensures.fault
+
+pub returns-in_err-rows-clause-open : goal.returns-in_err-rows-clause-open
+returns-in_err-rows-clause-open g c =
+    open_fails (state g.S.Store c.args.conn.now) (state g.S.Store c.select_counters.new.conn) _ c.from_residual.result c.from_residual.ensures.0
+    c.in_err-rows.ensures.open
+
+pub returns-clause-open : goal.returns-clause-open
+returns-clause-open g c =
+    open_told (state g.S.Store c.args.conn.now) (state g.S.Store c.select_counters.new.conn) c.in_ok-rows.rows c.read_room.result c.in_ok-rows.ensures.open

@@ -1,0 +1,6 @@
+use Rattle.sqlite.specs.Held.{state}
+use Rattle.fuse_store_tree.proofs.Steps.{made_nothing}
+use Rattle.fuse_store_tree.proofs.updates.set_used.Goals as goal
+
+pub returns-in-None : goal.returns-in-None
+returns-in-None g c = rw c.in-None.is (made_nothing (state g.S.Store c.args.conn.now) _)

@@ -1,0 +1,134 @@
+//! Everyday stores: their room, and the nodes that go.
+use crate::stores::number;
+use fuse_init::Profile;
+use fuse_keeper::StoreFault;
+use fuse_store_tables::{
+    NEXT_NODE, USED, begin_mount, delete_node, insert_handle, insert_node, make_store,
+    select_handles_of, set_up, update_counter,
+};
+use fuse_tree::{HandleRow, NodeRow};
+use fuse_wire::{AccessMode, Moment};
+use sqlite::{Connection, MemStore};
+use std::alloc::Global;
+
+const START: Moment = Moment { secs: 0, nanos: 0 };
+
+// The rows of the room, as one number.
+const ROOM: &str =
+    "SELECT coalesce(sum(v * (10000 * (k = 12) + 100 * (k = 13) + (k = 14))), 0) FROM meta";
+
+const NODES: &str = "SELECT count(*) FROM nodes";
+
+fn made(alloc: Global, room: Option<u64>) -> Result<Connection<MemStore>, StoreFault> {
+    let mut conn = Connection::open_in_memory(alloc)?;
+    make_store(&mut conn, room, START)?;
+    Ok(conn)
+}
+
+// The profile and the room of a new store.
+fn opened(alloc: Global, room: Option<u64>) -> Result<(bool, i64), StoreFault> {
+    let mut conn = made(alloc, room)?;
+    let is_everyday = match set_up(&mut conn)? {
+        Profile::Plain => false,
+        Profile::Everyday => true,
+    };
+    Ok((is_everyday, number(&mut conn, ROOM)?))
+}
+
+#[test]
+fn a_room(rt: HostRuntime) -> Result<(), StoreFault> {
+    assert_eq!(rt; opened(rt.alloc(), None)?, (false, 0));
+    assert_eq!(rt; opened(rt.alloc(), Some(30))?, (true, 23000));
+    Ok(())
+}
+
+// An opening after a change of `meta`.
+fn reopened(alloc: Global, change: &str) -> Result<bool, StoreFault> {
+    let mut conn = made(alloc, Some(30))?;
+    conn.execute(change, &[])?;
+    Ok(set_up(&mut conn).is_ok())
+}
+
+#[test]
+fn a_damaged_room(rt: HostRuntime) -> Result<(), StoreFault> {
+    let alloc = rt.alloc();
+    assert!(rt; reopened(alloc, "UPDATE meta SET v = 30 WHERE k = 14")?);
+    assert!(rt; !reopened(alloc, "UPDATE meta SET v = 31 WHERE k = 14")?);
+    assert!(rt; !reopened(alloc, "UPDATE meta SET v = 3 WHERE k = 12")?);
+    assert!(rt; !reopened(alloc, "DELETE FROM meta WHERE k = 12")?);
+    assert!(rt; !reopened(alloc, "DELETE FROM meta WHERE k = 13")?);
+    assert!(rt; !reopened(alloc, "DELETE FROM meta WHERE k > 12")?);
+    assert!(rt; reopened(alloc, "DELETE FROM meta WHERE k > 11")?);
+    Ok(())
+}
+
+fn node(number: u64, size: u64) -> NodeRow {
+    NodeRow {
+        node: number,
+        mode: 0o100644,
+        uid: 0,
+        gid: 0,
+        rdev: 0,
+        size,
+        atime: START,
+        mtime: START,
+        ctime: START,
+        up: 0,
+        subdirs: 0,
+    }
+}
+
+// A store with two nodes without a name, of 2 blocks and of none, in a transaction.
+fn begun(alloc: Global) -> Result<Connection<MemStore>, StoreFault> {
+    let mut conn = made(alloc, Some(30))?;
+    fuse_store_tables::begin(&mut conn)?;
+    insert_node(&mut conn, &node(2, 4097))?;
+    insert_node(&mut conn, &node(3, 0))?;
+    update_counter(&mut conn, NEXT_NODE, 4)?;
+    update_counter(&mut conn, USED, 5)?;
+    Ok(conn)
+}
+
+#[test]
+fn a_node_goes(rt: HostRuntime) -> Result<(), StoreFault> {
+    let mut conn = begun(rt.alloc())?;
+    delete_node(&mut conn, 2)?;
+    delete_node(&mut conn, 7)?;
+    assert_eq!(rt; number(&mut conn, NODES)?, 2);
+    Ok(())
+}
+
+#[test]
+fn the_blocks_of_a_mount(rt: HostRuntime) -> Result<(), StoreFault> {
+    let mut conn = begun(rt.alloc())?;
+    fuse_store_tables::commit(&mut conn)?;
+    begin_mount(&mut conn)?;
+    assert_eq!(rt;
+        [number(&mut conn, NODES)?, number(&mut conn, ROOM)?],
+        [1, 23003]
+    );
+    Ok(())
+}
+
+fn opens(conn: &mut Connection<MemStore>, fh: u64, node: u64) -> Result<(), StoreFault> {
+    let row = HandleRow {
+        fh,
+        node,
+        access: AccessMode::ReadOnly,
+    };
+    insert_handle(conn, &row)?;
+    Ok(())
+}
+
+#[test]
+fn the_handles_of_a_node(rt: HostRuntime) -> Result<(), StoreFault> {
+    let mut conn = begun(rt.alloc())?;
+    opens(&mut conn, 1, 2)?;
+    opens(&mut conn, 2, 3)?;
+    opens(&mut conn, 3, 2)?;
+    let all = select_handles_of(&mut conn, 2, 9)?.len();
+    let first = select_handles_of(&mut conn, 2, 1)?.len();
+    let none = select_handles_of(&mut conn, 1, 9)?.len();
+    assert_eq!(rt; [all, first, none], [2, 1, 0]);
+    Ok(())
+}

@@ -1,0 +1,54 @@
+/* The processes that fusekeep-mount starts. */
+#define _GNU_SOURCE
+#include "supervisor.h"
+#include <errno.h>
+#include <stdio.h>
+#include <string.h>
+#include <sys/prctl.h>
+#include <sys/wait.h>
+
+pid_t fork_child(void) {
+  pid_t parent = getpid(), child = fork();
+  if (child < 0) refused("fork");
+  if (child != 0) return child;
+  if (prctl(PR_SET_PDEATHSIG, SIGKILL) != 0 || getppid() != parent) _exit(CANNOT_RUN);
+  setpgid(0, 0);
+  return 0;
+}
+
+void give_back_signals(const struct supervisor *s) {
+  signal(SIGPIPE, SIG_DFL);
+  sigprocmask(SIG_SETMASK, &s->mask, NULL);
+}
+
+pid_t start_engine(const struct supervisor *s, const char *mode, int device) {
+  if (ftruncate(s->lock, 0) != 0) refused("lock");
+  pid_t child = fork_child();
+  if (child != 0) return child;
+  if (dup2(s->lock, STDERR_FILENO) < 0) _exit(CANNOT_RUN);
+  if (dup2(device, STDIN_FILENO) < 0 || dup2(device, STDOUT_FILENO) < 0) _exit(CANNOT_RUN);
+  close_range(FIRST_OTHER, ~0U, 0);
+  give_back_signals(s);
+  execlp(s->engine, "fusekeep", "serve", "--db", s->store, mode, s->wary ? "--wary" : NULL, NULL);
+  dprintf(STDERR_FILENO, "%s: %s\n", s->engine, strerror(errno));
+  _exit(CANNOT_RUN);
+}
+
+const char *last_line(const struct supervisor *s) {
+  static char text[LINE_SIZE];
+  off_t end = lseek(s->lock, 0, SEEK_END), begin = end < LINE_SIZE ? 0 : end - LINE_SIZE + 1;
+  ssize_t length = pread(s->lock, text, sizeof text - 1, begin);
+  while (length > 0 && text[length - 1] == '\n') length--;
+  text[length > 0 ? length : 0] = '\0';
+  char *before = strrchr(text, '\n');
+  return before ? before + 1 : text;
+}
+
+const char *ending(const struct supervisor *s, int status) {
+  static char text[LINE_SIZE + 64];
+  const char *line = last_line(s);
+  int number = WIFSIGNALED(status) ? WTERMSIG(status) : WEXITSTATUS(status);
+  const char *kind = WIFSIGNALED(status) ? "killed by signal" : "status";
+  snprintf(text, sizeof text, "%s %d%s%s", kind, number, *line ? ": " : "", line);
+  return text;
+}

@@ -1,0 +1,110 @@
+/* The files of a mounted store: what another process does to their names while servers have them open. */
+#define _GNU_SOURCE
+#include "supervisor.h"
+#include <fcntl.h>
+#include <string.h>
+#include <sys/inotify.h>
+
+enum { CHANGES = IN_ATTRIB | IN_MOVE_SELF | IN_DELETE_SELF, PIECE = 1 << 16 };
+
+static void watch_log(struct supervisor *s) {
+  s->log_file = open(beside(s, LOG_SUFFIX), O_RDONLY | O_CLOEXEC | O_NOFOLLOW);
+  if (s->log_file >= 0 && s->watch >= 0) inotify_add_watch(s->watch, beside(s, LOG_SUFFIX), CHANGES);
+}
+
+void watch_store(struct supervisor *s) {
+  s->watch = inotify_init1(IN_CLOEXEC | IN_NONBLOCK);
+  s->store_file = open(s->store, O_RDONLY | O_CLOEXEC);
+  if (s->watch >= 0) inotify_add_watch(s->watch, s->store, CHANGES);
+  watch_log(s);
+}
+
+static bool is_same(const struct stat *one, const struct stat *other) {
+  return one->st_dev == other->st_dev && one->st_ino == other->st_ino;
+}
+
+/* An engine that keeps no log has none here either. */
+static enum trouble log_trouble(const struct supervisor *s) {
+  struct stat own, named;
+  if (s->log_file < 0 || fstat(s->log_file, &own) != 0) return NO_TROUBLE;
+  if (lstat(beside(s, LOG_SUFFIX), &named) != 0) return LOG_REMOVED;
+  return is_same(&own, &named) ? NO_TROUBLE : OTHER_LOG;
+}
+
+static enum trouble find_trouble(const struct supervisor *s) {
+  struct stat own, named;
+  if (s->store_file < 0 || fstat(s->store_file, &own) != 0) return NO_TROUBLE;
+  if (own.st_nlink == 0) return REMOVED;
+  if (own.st_nlink > 1) return LINKED;
+  if (lstat(s->store, &named) != 0 || !is_same(&own, &named)) return MOVED;
+  return log_trouble(s);
+}
+
+static void say_moved(const struct supervisor *s) {
+  char link[LINE_SIZE], place[PATH_MAX];
+  snprintf(link, sizeof link, "/proc/self/fd/%d", s->store_file);
+  ssize_t length = readlink(link, place, sizeof place - 1);
+  place[length > 0 ? length : 0] = '\0';
+  say("%s was moved to %s: no server can open it until it is back", s->store, place);
+}
+
+static void say_trouble(const struct supervisor *s) {
+  const char *log = beside(s, LOG_SUFFIX);
+  switch (s->trouble) {
+  case NO_TROUBLE: say("the files of %s are in their places again", s->store); break;
+  case LINKED: say("%s has another name (a hard link), so no server can open it: remove that name", s->store); break;
+  case MOVED: say_moved(s); break;
+  case REMOVED:
+    say("%s was removed while it was mounted: until its server ends, /proc/%d/fd/%d has its bytes, and /proc/%d/fd/%d has its log",
+        s->store, getpid(), s->store_file, getpid(), s->log_file);
+    break;
+  case LOG_REMOVED:
+    say("%s was removed while %s was mounted: its server is ended, and the log is written anew", log, s->store);
+    break;
+  case OTHER_LOG: say("%s isn't the log that %s was mounted with: no server can open it", log, s->store); break;
+  }
+}
+
+void look_at_files(struct supervisor *s) {
+  char events[PIECE];
+  while (s->watch >= 0 && read(s->watch, events, sizeof events) > 0) continue;
+  enum trouble before = s->trouble;
+  s->trouble = find_trouble(s);
+  if (s->trouble == before) return;
+  if (!(before == LOG_REMOVED && s->trouble == NO_TROUBLE)) say_trouble(s);
+  if (s->trouble == LOG_REMOVED && s->server > 0) kill(s->server, SIGKILL);
+  if (s->trouble == NO_TROUBLE) s->next_start = now();
+}
+
+/* Copies the bytes of the removed log into a file. */
+static bool copy_log(const struct supervisor *s, int file) {
+  static char piece[PIECE];
+  off_t at = 0;
+  for (ssize_t length; (length = pread(s->log_file, piece, sizeof piece, at)) != 0; at += length)
+    if (length < 0 || write(file, piece, length) != length) return false;
+  return fsync(file) == 0;
+}
+
+/* Writes the removed log anew, whole or not at all. Its bytes are there as long as it is open here. */
+static bool restore_log(struct supervisor *s) {
+  char made[PATH_SIZE];
+  struct stat own;
+  snprintf(made, sizeof made, "%s", beside(s, LOG_SUFFIX ".new"));
+  if (fstat(s->log_file, &own) != 0) return false;
+  int file = open(made, O_WRONLY | O_CREAT | O_TRUNC | O_CLOEXEC | O_NOFOLLOW, own.st_mode & 0777);
+  if (file < 0) return unwritable(made);
+  bool is_copied = fchown(file, own.st_uid, own.st_gid) == 0 && copy_log(s, file) && rename(made, beside(s, LOG_SUFFIX)) == 0;
+  close(file);
+  if (!is_copied) return unwritable(beside(s, LOG_SUFFIX));
+  int folder = open(folder_of(s), O_RDONLY | O_DIRECTORY | O_CLOEXEC);
+  if (folder >= 0) fsync(folder), close(folder);
+  close(s->log_file);
+  watch_log(s);
+  return true;
+}
+
+bool can_start(struct supervisor *s) {
+  look_at_files(s);
+  if (s->trouble == LOG_REMOVED && restore_log(s)) look_at_files(s);
+  return s->trouble == NO_TROUBLE;
+}

@@ -1,0 +1,1 @@
+"""Tests over lists, run over tables."""
