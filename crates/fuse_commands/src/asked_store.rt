@@ -57,9 +57,7 @@ pub(crate) fn with_new_store<'a>(
 
 /// An argument that may not stand beside these.
 pub(crate) fn without_new_store<'a>(argument: Arg<'a>) -> Result<Arg<'a>, AllocError> {
-    argument
-        .conflicts_with(PROFILE)?
-        .conflicts_with(CAPACITY)
+    argument.conflicts_with(PROFILE)?.conflicts_with(CAPACITY)
 }
 
 // The profile of this name.
