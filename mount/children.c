@@ -35,9 +35,9 @@ pid_t start_engine(const struct supervisor *s, const char *mode, int device) {
 }
 
 const char *last_line(const struct supervisor *s) {
-  static char text[LINE_SIZE], joined[LINE_SIZE + sizeof "; "];
-  off_t end = lseek(s->lock, 0, SEEK_END), begin = end < LINE_SIZE ? 0 : end - LINE_SIZE + 1;
-  ssize_t length = pread(s->lock, text, sizeof text - 1, begin);
+  static char text[LINE_SIZE + PATH_SIZE], joined[sizeof text + sizeof "; "];
+  off_t room = sizeof text - 1, end = lseek(s->lock, 0, SEEK_END);
+  ssize_t length = pread(s->lock, text, room, end < room ? 0 : end - room);
   while (length > 0 && text[length - 1] == '\n') length--;
   text[length > 0 ? length : 0] = '\0';
   char *cause = strrchr(text, '\n');

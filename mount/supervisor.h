@@ -54,7 +54,7 @@ struct supervisor {
   sigset_t mask;                                   /* with which this process was called */
   pid_t server, probe, unmounter;                  /* 0 for none */
   bool ready, stop_requested, is_unmounted;
-  bool made_store, made_lock, made_log;            /* by this process, or by an engine that it ran */
+  bool made_store, made_lock;                      /* by this process */
   bool is_full;                                    /* servers end because the disk has no room */
   bool has_reserve, gave_reserve;                  /* the reserve is there; it was given up */
   enum trouble trouble;

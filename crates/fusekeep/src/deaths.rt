@@ -26,19 +26,31 @@ impl fmt::Display for Deaths {
     }
 }
 
-// The milliseconds of a time in seconds with three places, which a dash isn't.
-fn milliseconds_of(text: &[u8]) -> Option<u64> {
-    let mut value: u64 = 0;
-    for b in text {
+// The number that decimal digits are.
+fn number_of(digits: &[u8]) -> Option<u64> {
+    let mut number: u64 = 0;
+    for b in digits {
         match *b {
-            b'.' => {}
             b'0'..=b'9' => {
-                value = value.checked_mul(10)?.checked_add(u64::from(*b - b'0'))?;
+                number = number.checked_mul(10)?.checked_add(u64::from(*b - b'0'))?;
             }
             _ => return None,
         }
     }
-    Some(value)
+    Some(number)
+}
+
+// The milliseconds of a time in seconds with three places, which a dash isn't.
+fn milliseconds_of(text: &[u8]) -> Option<u64> {
+    let mut parts = text.split(|b| *b == b'.');
+    let seconds = parts.next()?;
+    let places = parts.next()?;
+    if seconds.is_empty() || places.len() != 3 || parts.next().is_some() {
+        return None;
+    }
+    number_of(seconds)?
+        .checked_mul(1000)?
+        .checked_add(number_of(places)?)
 }
 
 // The time until another server was ready, of a line of the list.
@@ -51,7 +63,7 @@ fn restart_in(line: &[u8]) -> Option<u64> {
     None
 }
 
-// The deaths of a list. Each line ends with a line feed.
+// The deaths of a list, a line for each.
 fn sum_up(list: &[u8]) -> Deaths {
     let mut deaths = Deaths {
         count: 0,
@@ -70,6 +82,9 @@ fn sum_up(list: &[u8]) -> Deaths {
 fn list_beside(rt: &HostRuntime, file: &str) -> Option<Vec<u8>> {
     let real = fs::canonicalize(rt, file).ok()?;
     let path = format!(in rt.alloc(); "{}-mount.log", real.as_str()).ok()?;
+    if !fs::metadata(rt, path.as_str()).ok()?.is_file() {
+        return None;
+    }
     fs::read(rt, path.as_str()).ok()
 }
 

@@ -211,8 +211,8 @@ fn replay_on_file<S: Start, R: Read + Drop, W: Write>(
     let made = missing_log(rt, file);
     let files = StoreFiles::at(rt, file, start);
     let (ending, left) = replay_store(rt.alloc(), files, kind, reader, writer, moment);
-    remove_log(rt, made, ending);
     if let Some(left) = left {
+        remove_log(rt, made, ending);
         let _files = left.into_files();
     }
     ending

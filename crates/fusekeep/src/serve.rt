@@ -52,9 +52,8 @@ fn serve_on_files<S: Start, C: Clock>(
     {
         let _ = rt.eprintln(CountLine(counts));
     }
-    remove_log(rt, made, ending);
-    // The files were closed.
     if let Some(left) = left {
+        remove_log(rt, made, ending);
         let _files = left.into_files();
     }
     ending
