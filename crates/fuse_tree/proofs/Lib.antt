@@ -20,6 +20,7 @@ pub mod Sweeping
 pub mod RemovalAgrees
 mod InitAgrees
 mod InitFits
+mod Joined
 mod Lengths
 mod Listing
 mod ListingAgrees

@@ -1,3 +1,4 @@
+pub mod ChunkBytes
 pub mod NumbersOnce
 pub mod Reading
 pub mod PlanSpace
