@@ -73,6 +73,7 @@ int print_help(void) {
   static const char help[] =
     "usage: fusekeep-mount [-f] [-o OPTIONS] STORE MOUNTPOINT\n"
     "       fusekeep-mount --server STORE\n"
+    "       fusekeep-mount --help | --version\n"
     "\n"
     "Mounts the store in the file STORE on the directory MOUNTPOINT, and keeps the mount alive when its server dies.\n"
     "  -f              stay in the foreground\n"
@@ -98,6 +99,10 @@ int print_help(void) {
     "\n"
     "fusekeep-mount(8) says more.\n";
   return fputs(help, stdout) >= 0 && fflush(stdout) == 0 ? 0 : FAILED;
+}
+
+int print_version(void) {
+  return puts("fusekeep-mount " VERSION ", sources " SOURCES) >= 0 && fflush(stdout) == 0 ? 0 : FAILED;
 }
 
 /* mount(8) gives the options after the operands. Its own `-f` means to do all but the mount. */

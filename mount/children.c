@@ -35,13 +35,18 @@ pid_t start_engine(const struct supervisor *s, const char *mode, int device) {
 }
 
 const char *last_line(const struct supervisor *s) {
-  static char text[LINE_SIZE];
-  off_t end = lseek(s->lock, 0, SEEK_END), begin = end < LINE_SIZE ? 0 : end - LINE_SIZE + 1;
-  ssize_t length = pread(s->lock, text, sizeof text - 1, begin);
+  static char text[LINE_SIZE + PATH_SIZE], joined[sizeof text + sizeof "; "];
+  off_t room = sizeof text - 1, end = lseek(s->lock, 0, SEEK_END);
+  ssize_t length = pread(s->lock, text, room, end < room ? 0 : end - room);
   while (length > 0 && text[length - 1] == '\n') length--;
   text[length > 0 ? length : 0] = '\0';
+  char *cause = strrchr(text, '\n');
+  if (!cause) return text;
+  *cause++ = '\0';
+  if (strncmp(cause, s->store, strlen(s->store)) != 0) return cause;
   char *before = strrchr(text, '\n');
-  return before ? before + 1 : text;
+  snprintf(joined, sizeof joined, "%s; %s", before ? before + 1 : text, cause);
+  return joined;
 }
 
 const char *ending(const struct supervisor *s, int status) {

@@ -34,6 +34,9 @@ refusals() {
   expect "no lock is made" [ ! -e store-mount ] || return 1
   printf 'this is no store, and was never one' >junk
   refuses 3 "store: NotAStore" "$program" junk || return 1
+  printf '#!/bin/sh\necho "store: Sql" >&2\necho "$3: no room left" >&2\nexit 3\n' >full && chmod 755 full
+  refuses 3 "store: Sql; $PWD/store: no room left" env FUSEKEEP=./full "$program" store || return 1
+  refuses 3 "fusekeep-mount: $PWD has no room left" env FUSEKEEP=./full "$program" store || return 1
   mkdir first below
   refuses 1 ".*: No such file or directory" "$program" no-folder/store || return 1
   refuses 1 ".*: mnt/store lies below $PWD/mnt, which would hide it" "$program" mnt/store || return 1
@@ -62,7 +65,7 @@ held_store() {
   refuses 1 "fusekeep-mount: store is held by process $server .fusekeep., another server or a program that has it open" "$program" store || return 1
   "$engine" serve --db store --resume </dev/null 2>line
   expect "the engine's status is 3" [ $? -eq 3 ] || return 1
-  expect "the engine reports it" [ "$(cat line)" = "store: Sql" ] || return 1
+  expect "the engine reports it" [ "$(cat line)" = $'store: Sql\nstore is in use by another server' ] || return 1
   exec 9>&-
   wait "$server"
   expect "the first server ends well" [ $? -eq 0 ] || return 1

@@ -1,5 +1,6 @@
 pub mod Simulations
 pub mod Scripted
+pub mod Decodings
 pub mod Dumps
 pub mod Faults
 pub mod Firmness

@@ -1,4 +1,6 @@
+pub mod Causes
 pub mod Checking
+pub mod Decoding
 pub mod Dumping
 pub mod Endings
 pub mod Input

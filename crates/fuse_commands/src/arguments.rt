@@ -13,6 +13,8 @@ pub const STANDARD_INPUT: &str = "-";
 
 const DUMP: &str = "dump";
 
+const DECODE: &str = "decode";
+
 const CHECK: &str = "check";
 
 const REPLAY: &str = "replay";
@@ -88,6 +90,8 @@ pub enum Run<'a> {
 pub enum Work<'a> {
     /// To print a line for each message of a stream.
     Dump,
+    /// To print a line for each answer of a stream that a server sent.
+    Decode,
     /// To count the messages of a stream.
     Check,
     /// To serve a recorded stream, each request at the same second, over the store in the file
@@ -132,6 +136,12 @@ fn dump_command<'a>(alloc: Global) -> Result<Command<'a>, AllocError> {
     let about = "Prints a line for each message of a stream";
     let example = "Example:\n  fusekeep dump examples/first-run.stream";
     file_command(alloc, DUMP, about, example)
+}
+
+fn decode_command<'a>(alloc: Global) -> Result<Command<'a>, AllocError> {
+    let about = "Prints a line for each answer and notice of a stream that a server sent";
+    let example = "Example:\n  fusekeep serve --db notes.store --fresh <in | fusekeep decode -";
+    file_command(alloc, DECODE, about, example)
 }
 
 fn check_command<'a>(alloc: Global) -> Result<Command<'a>, AllocError> {
@@ -267,6 +277,7 @@ fn program_command<'a>(alloc: Global) -> Result<Command<'a>, AllocError> {
         .after_help("Example:\n  fusekeep check examples/first-run.stream")
         .subcommand_required(true);
     let command = with_command(command, dump_command(alloc))?;
+    let command = with_command(command, decode_command(alloc))?;
     let command = with_command(command, check_command(alloc))?;
     let command = with_command(command, replay_command(alloc))?;
     let command = with_command(command, serve_command(alloc))?;
@@ -322,6 +333,7 @@ fn cat_run<'a>(found: &ArgMatches<'a>) -> Option<Run<'a>> {
 fn run_of<'a>(matches: &ArgMatches<'a>) -> Option<Run<'a>> {
     match matches.subcommand()? {
         (DUMP, found) => read_run(found, FILE, Work::Dump),
+        (DECODE, found) => read_run(found, FILE, Work::Decode),
         (CHECK, found) => read_run(found, FILE, Work::Check),
         (REPLAY, found) => replay_run(found),
         (SERVE, found) => serve_run(found),
@@ -343,9 +355,15 @@ fn usage_error(alloc: Global, kind: ErrorKind, text: &str) -> Result<Error, Allo
 }
 
 /// Parses a command line, whose first word is the program's name. An `Err` is a mistake in it, the
-/// help that it asks for, or out of memory.
-pub fn parse<'a, S: AsStr>(alloc: Global, words: &'a [S]) -> Result<Run<'a>, Error> {
-    let matches = program_command(alloc)?.try_get_matches_from(words)?;
+/// help or the version that it asks for, or out of memory.
+pub fn parse<'a, S: AsStr>(
+    alloc: Global,
+    words: &'a [S],
+    version: &'a str,
+) -> Result<Run<'a>, Error> {
+    let matches = program_command(alloc)?
+        .version(version)
+        .try_get_matches_from(words)?;
     match run_of(&matches) {
         Some(run) => Ok(run),
         None => Err(usage_error(

@@ -3,8 +3,10 @@
 #![tactic(auto)]
 
 mod arguments;
+mod cause;
 mod check;
 mod count_line;
+mod decode;
 mod dump;
 mod ending;
 mod input;
@@ -17,8 +19,10 @@ mod serve;
 mod simulate;
 
 pub use arguments::{Run, STANDARD_INPUT, Work, parse, unreadable};
+pub use cause::Cause;
 pub use check::run_check;
 pub use count_line::CountLine;
+pub use decode::run_decode;
 pub use dump::run_dump;
 pub use ending::{Ending, FaultLine};
 pub use progress::{ProgressLine, ProgressReader};

@@ -37,7 +37,7 @@ rows_in z = rowed (opened_for z).tree
 -- the ending says nothing of the store: out of memory, or a fault of SQL
 abbrev pub SaysNothing : Ending → Type 0
 SaysNothing ending.Memory = ⊤
-SaysNothing ending.Sql = ⊤
+SaysNothing (ending.Sql _) = ⊤
 SaysNothing _ = ⊥
 
 -- the ending of what was shown
@@ -93,7 +93,7 @@ Shows (show.File path) z old new e = Prints path.now z old new e
 -- what the ending says of a database is so; only of a store of one of the two versions something is shown
 abbrev pub SaysSo : Database → Ending → Type 0
 SaysSo d ending.Memory = ⊤
-SaysSo d ending.Sql = ⊤
+SaysSo d (ending.Sql _) = ⊤
 SaysSo d ending.NotAStore = Says d fault.NotAStore
 SaysSo d (ending.Version n) = Says d (fault.Version n)
 SaysSo d ending.Damaged = Says d fault.Damaged

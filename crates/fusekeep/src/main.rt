@@ -2,15 +2,21 @@
 //! and streams, and runs scripts of events.
 #![tactic(auto)]
 
+mod causes;
+mod companion;
+mod deaths;
 mod serve;
 mod show;
 mod snapshot;
+mod version;
 
+use causes::say_cause;
 use clap::Error;
 use clap::error::ErrorKind;
+use companion::{missing_log, remove_log};
 use fuse_commands::{
-    Ending, ProgressReader, Run, STANDARD_INPUT, START, Work, parse, run_check, run_dump,
-    run_replay, unreadable,
+    Ending, ProgressReader, Run, STANDARD_INPUT, START, Work, parse, run_check, run_decode,
+    run_dump, run_replay, unreadable,
 };
 use fuse_files::{Show, replay_store, simulate_store};
 use fuse_init::PlainProfile;
@@ -25,22 +31,32 @@ use std::alloc::Global;
 use std::io::{BufWriter, IsTerminal, Read, Write};
 use std::process::ExitCode;
 use std::{env, fs, io};
+use version::VERSION;
 
 fn main(rt: HostRuntime) -> ExitCode {
-    let ending = run(&rt);
+    ExitCode::from(run(&rt).status())
+}
+
+// Prints the message of clap: on standard output if the version was asked for.
+fn refuse<R: Print + Eprint>(rt: &R, error: Error) -> Ending {
+    match error.kind() {
+        ErrorKind::OutOfMemory => Ending::Memory,
+        ErrorKind::DisplayVersion => match rt.print(&error) {
+            Ok(()) => Ending::Done,
+            Err(_) => Ending::PortFailed,
+        },
+        _ => {
+            let _ = rt.eprint(&error);
+            Ending::Usage
+        }
+    }
+}
+
+// Prints the line of an ending.
+fn say_ending<R: Eprint>(rt: &R, ending: Ending) {
     if let Some(line) = ending.line() {
         let _ = rt.eprintln(line);
     }
-    ExitCode::from(ending.status())
-}
-
-// Prints the message of clap.
-fn refuse<R: Eprint>(rt: &R, error: Error) -> Ending {
-    if error.kind() == ErrorKind::OutOfMemory {
-        return Ending::Memory;
-    }
-    let _ = rt.eprint(&error);
-    Ending::Usage
 }
 
 // The command line.
@@ -52,32 +68,49 @@ fn words_of(rt: &HostRuntime) -> Result<Vec<String>, Ending> {
     }
 }
 
-// Runs the command line.
+// Runs the command line. A fault has a line, and one for its cause if that is known.
 fn run(rt: &HostRuntime) -> Ending {
     let words = match words_of(rt) {
         Ok(words) => words,
-        Err(ending) => return ending,
+        Err(ending) => {
+            say_ending(rt, ending);
+            return ending;
+        }
     };
-    match parse(rt.alloc(), words.as_slice()) {
-        Ok(
-            Run::Serve {
-                db,
-                begin,
-                at,
-                wary,
-            },
-        ) => {
+    match parse(rt.alloc(), words.as_slice(), VERSION) {
+        Ok(asked) => {
+            let ending = run_as_asked(rt, asked);
+            say_ending(rt, ending);
+            say_cause(rt, asked, ending);
+            ending
+        }
+        Err(error) => {
+            let ending = refuse(rt, error);
+            say_ending(rt, ending);
+            ending
+        }
+    }
+}
+
+// Runs a command.
+fn run_as_asked(rt: &HostRuntime, asked: Run<'_>) -> Ending {
+    match asked {
+        Run::Serve {
+            db,
+            begin,
+            at,
+            wary,
+        } => {
             if wary {
                 serve_as_asked(rt, db, Wary, begin, at)
             } else {
                 serve_as_asked(rt, db, Unknown, begin, at)
             }
         }
-        Ok(Run::Store { file }) => show_file(rt, file, Show::Summary),
-        Ok(Run::List { file, path }) => show_file(rt, file, Show::Directory(path)),
-        Ok(Run::Cat { file, path }) => show_file(rt, file, Show::File(path)),
-        Ok(Run::Read { input, work }) => run_on_input(rt, input, work),
-        Err(error) => refuse(rt, error),
+        Run::Store { file } => show_file(rt, file, Show::Summary),
+        Run::List { file, path } => show_file(rt, file, Show::Directory(path)),
+        Run::Cat { file, path } => show_file(rt, file, Show::File(path)),
+        Run::Read { input, work } => run_on_input(rt, input, work),
     }
 }
 
@@ -107,7 +140,7 @@ fn size_of(file: &fs::File) -> Option<u64> {
 fn is_watched(rt: &HostRuntime, work: Work<'_>) -> bool {
     let prints_apart = match work {
         Work::Check => true,
-        Work::Dump | Work::Replay { .. } => !rt.stdout().is_terminal(),
+        Work::Dump | Work::Decode | Work::Replay { .. } => !rt.stdout().is_terminal(),
         Work::Simulate => false,
     };
     prints_apart && rt.stderr().is_terminal()
@@ -135,6 +168,7 @@ fn run_work<R: Read + Drop>(rt: &HostRuntime, reader: R, work: Work<'_>) -> Endi
     };
     match work {
         Work::Dump => run_dump(alloc, reader, &mut writer),
+        Work::Decode => run_decode(alloc, reader, &mut writer),
         Work::Check => run_check(alloc, reader, &mut writer),
         Work::Replay { db, at, wary } => {
             let moment = Moment { secs: at, nanos: 0 };
@@ -172,9 +206,11 @@ fn replay_on_file<S: Start, R: Read + Drop, W: Write>(
     writer: &mut W,
     moment: Moment,
 ) -> Ending {
+    let made = missing_log(rt, file);
     let files = StoreFiles::at(rt, file, start);
     let (ending, left) = replay_store(rt.alloc(), files, StoreKind::PLAIN, reader, writer, moment);
     if let Some(left) = left {
+        remove_log(rt, made, ending);
         let _files = left.into_files();
     }
     ending

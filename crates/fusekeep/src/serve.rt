@@ -1,4 +1,5 @@
 //! The command `serve`: standard input and standard output are a FUSE device.
+use crate::companion::{missing_log, remove_log};
 use fuse_commands::{Begin, CountLine, Ending};
 use fuse_files::{StoreRun, serve_store};
 use fuse_session::{Clock, Fixed, System};
@@ -18,13 +19,12 @@ pub(crate) fn serve_as_asked<S: Start>(
     let Some(begin) = begin else {
         return Ending::Modes;
     };
-    let files = StoreFiles::at(rt, file, start);
     match at {
         Some(secs) => {
             let mut clock = Fixed(Moment { secs, nanos: 0 });
-            serve_on_files(rt, files, &mut clock, begin)
+            serve_on_files(rt, file, start, &mut clock, begin)
         }
-        None => serve_on_files(rt, files, &mut System::new(rt), begin),
+        None => serve_on_files(rt, file, start, &mut System::new(rt), begin),
     }
 }
 
@@ -32,11 +32,14 @@ pub(crate) fn serve_as_asked<S: Start>(
 // write one answer.
 fn serve_on_files<S: Start, C: Clock>(
     rt: &HostRuntime,
-    files: StoreFiles<'_, '_, S>,
+    file: &str,
+    start: S,
     clock: &mut C,
     begin: Begin,
 ) -> Ending {
     let alloc = rt.alloc();
+    let made = missing_log(rt, file);
+    let files = StoreFiles::at(rt, file, start);
     let StoreRun {
         ending,
         counts,
@@ -55,8 +58,8 @@ fn serve_on_files<S: Start, C: Clock>(
     {
         let _ = rt.eprintln(CountLine(counts));
     }
-    // The files were closed.
     if let Some(left) = left {
+        remove_log(rt, made, ending);
         let _files = left.into_files();
     }
     ending
