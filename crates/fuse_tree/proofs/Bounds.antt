@@ -12,11 +12,11 @@ use Rattle.fuse_tree.specs.declared.rows.HandleRow.{HandleRow}
 use Rattle.fuse_tree.specs.declared.rows.NodeRow.{NodeRow}
 use Rattle.fuse_tree.specs.State.{State, terms_of, profile_of, used_of, Node, Shape, Tree, IsNode, IsEntry, is_below, has_number, node_at, is_entry}
 use Rattle.fuse_tree.specs.declared.agreement.Agreement.{Agreement}
-use Rattle.fuse_tree.specs.Space.{room_with}
 use Rattle.fuse_tree.specs.Rows.{Rows, IsRowed, profile_at, agreement_at, row_of, rowed, rows_of_state, row_at, entry_at, is_after, entries_after}
 use Rattle.fuse_tree.specs.Handles.{is_open}
 use Rattle.fuse_tree.specs.inner.Reading.{IsWithin, is_within}
 use Rattle.fuse_tree.specs.Removing.{has_entries}
+use Rattle.fuse_tree.proofs.Blocks.{room_with}
 use Rattle.fuse_tree.proofs.Lists.{all_more, found, any_gives, none_found, length_filtered}
 use Rattle.fuse_tree.proofs.Most.{nodes_most, file_most, profile_mapped}
 use Rattle.fuse_tree.proofs.Puts.{row_found}

@@ -11,6 +11,13 @@ pub mod Exchanges
 mod Fit
 pub mod Fitting
 mod Prefixes
+mod Carried
+mod Contents
+mod CreatingAgrees
+mod FurtherAgrees
+mod FurtherColumns
+mod FurtherFits
+mod SymlinkAgrees
 mod GoneFirst
 pub mod GoneRows
 pub mod Heights

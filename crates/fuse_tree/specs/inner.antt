@@ -11,6 +11,11 @@ pub mod PlanRemoving
 pub mod PlanOpening
 pub mod PlanListing
 pub mod PlanRenaming
+pub mod PlanStatfs
+pub mod PlanLinking
+pub mod PlanSymlinking
+pub mod PlanCreating
+pub mod PlanFurther
 pub mod Planning
 pub mod Causing
 pub mod Vectors

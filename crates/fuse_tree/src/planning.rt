@@ -10,9 +10,11 @@ ghost use Rattle.fuse_tree.specs.inner.Planning.{tells_name, plan_act, plan_of};
 
 mod answers;
 mod attributes;
+mod create;
 mod exchange;
 mod fault;
 mod finding;
+mod further;
 mod getattr;
 mod init;
 mod lookup;
@@ -24,6 +26,7 @@ mod names;
 mod open;
 mod read;
 mod read_dir;
+mod readlink;
 mod release;
 mod removal;
 mod remove;
@@ -31,6 +34,8 @@ mod rename;
 mod rmdir;
 mod setattr;
 mod space;
+mod statfs;
+mod symlink;
 mod unlink;
 mod walking;
 mod write;
@@ -43,6 +48,7 @@ use crate::terms::open_flags;
 use answers::{done_nothing, refused};
 pub use fault::PlanFault;
 use finding::{find_agreement, find_node, is_within};
+use further::plan_further;
 use fuse_request::{Op, Request};
 use fuse_wire::{Errno, Moment};
 use getattr::plan_getattr;
@@ -166,12 +172,23 @@ fn plan_op<L: Look>(
         | Op::Rmdir { .. }
         | Op::Rename { .. }
         | Op::Rename2 { .. } => plan_named(alloc, look, agreement, request, now, row),
+        Op::Unsupported { opcode, body } => {
+            plan_further(
+                alloc,
+                look,
+                agreement,
+                &request.header,
+                *opcode,
+                body,
+                now,
+                row,
+            )
+        }
         Op::Destroy
         | Op::Forget { .. }
         | Op::Init(_)
         | Op::Interrupt { .. }
-        | Op::BatchForget { .. }
-        | Op::Unsupported { .. } => Ok(refused(alloc, Errno::ENOSYS)),
+        | Op::BatchForget { .. } => Ok(refused(alloc, Errno::ENOSYS)),
     }
 }
 
