@@ -33,14 +33,16 @@ use Rattle.fuse_tree.specs.Setting.{has, set_fault, set_node, with_set, setattr}
 use Rattle.fuse_tree.specs.Writing.{wrote, with_bytes, may_write, may_read, write, read}
 use Rattle.fuse_tree.specs.Making.{is_full, begun, new_node, new_entry, with_node, make, dir_mode, mkdir, may_make, node_mode, node_rdev, mknod}
 use Rattle.fuse_tree.specs.Init.{init}
-use Rattle.fuse_tree.specs.Listing.{first_fits, list_prefix, entries_following, read_dir}
+use Rattle.fuse_answer.specs.PlusEntries.{plus_len}
+use Rattle.fuse_tree.specs.PlusListing.{plus_following, read_dir_plus}
+use Rattle.fuse_tree.specs.Listing.{first_fits, first_fits_by, list_prefix, entries_following, read_dir}
 use Rattle.fuse_tree.specs.Opening.{open_fault, opened, open_node, open_for, open_file, open_dir, closed, close, not_for_dirs, for_dirs_alone}
 use Rattle.fuse_tree.specs.Removing.{marked, mark, without, entry_gone, has_entries, unlink_child, unlink_entry, unlink_named, unlink, rmdir_child, rmdir_entry}
 use Rattle.fuse_tree.specs.Removing.{rmdir_named, rmdir}
 use Rattle.fuse_tree.specs.Renaming.{Renaming, asking, is_exchange, is_no_replace, holds, is_same, asked_fault, place_fault, placed, replaced, both_touched}
 use Rattle.fuse_tree.specs.Renaming.{renamed, exchanged, rename_with_room, rename_entry, exchange_entry, rename_by, rename_from, rename_between, rename}
 use Rattle.fuse_tree.specs.Keeping.{agreement_of, keeps}
-use Rattle.fuse_request.specs.FurtherBodies.{Content, Readlink, Statfs, Symlink, Create, further_fault, content_at}
+use Rattle.fuse_request.specs.FurtherBodies.{Content, Readlink, Statfs, Symlink, Create, ReadDirPlus, further_fault, content_at}
 use Rattle.fuse_tree.specs.Further.{do_further, further}
 use Rattle.fuse_tree.specs.Symlinking.{link_mode, target_fault, with_target, with_link, symlink}
 use Rattle.fuse_tree.specs.Creating.{file_mode, created, create_for, create}
@@ -352,12 +354,21 @@ module _ (s : State) (h : HoldsBytes s) where
       (chosen (is_full (terms_of s).node_limit (length s.nodes) s.next_node s.next_cookie) _ _ (stays s _ h)
       (create_for_keeps (begun (terms_of s) n.mode n.gid header (file_mode mode) 0 now) n.number name (access_of flags) new)))))
 
+  read_dir_plus_keeps : (asked : ReadIn) (n : Node) → Keeps (read_dir_plus s asked n)
+  read_dir_plus_keeps asked n =
+      chosen (not (is_open s.handles asked.fh n.number)) _ _ (stays s _ h)
+      (chosen (not (is_dir n.mode)) _ _ (stays s _ h)
+      (chosen (nat_lt read_limit asked.size) _ _ (stays s _ h)
+      (chosen (not (is_named s n.number)) _ _ (stays s _ h)
+      (chosen (not (first_fits_by plus_len (plus_following s n.number asked.offset) asked.size)) _ _ (stays s _ h) (leads s _ h)))))
+
   content_keeps : (header : InHeader) (o : Option Content) (now : Moment) (n : Node) → BringsNames o → Keeps (do_further s header o now n)
   content_keeps header (Some Readlink) now n new = chosen (not (is_link n.mode)) _ _ (stays s _ h) (leads s _ h)
   content_keeps header (Some Statfs) now n new = leads s _ h
   content_keeps header (Some (Symlink name target)) now n new =
       symlink_keeps header name target now n new.0 (all_more (λ b. (1 ≤ b) × (b < 256)) (λ b. b < 256) target (λ b is. is.1) new.1)
   content_keeps header (Some (Create flags mode umask open_flags name)) now n new = create_keeps header flags mode name now n new
+  content_keeps header (Some (ReadDirPlus x)) now n new = read_dir_plus_keeps x n
   content_keeps header _ now n new = stays s _ h
 
   further_keeps : (header : InHeader) (opcode : ℕ) (body : List ℕ) (now : Moment) (n : Node) → AreBytes body → Keeps (further s header opcode body now n)

@@ -6,7 +6,7 @@ use Rattle.fuse_wire.specs.declared.moment.Moment.{Moment}
 use Rattle.fuse_init.specs.declared.profile.Profile.{Profile}
 use Rattle.fuse_init.specs.Profile.{terms}
 use Rattle.fuse_request.specs.declared.request.InHeader.{InHeader}
-use Rattle.fuse_request.specs.FurtherBodies.{Content, Readlink, Statfs, Symlink, Create, further_fault, content_at}
+use Rattle.fuse_request.specs.FurtherBodies.{Content, Readlink, Statfs, Symlink, Create, ReadDirPlus, further_fault, content_at}
 use Rattle.fuse_answer.specs.FurtherAnswers.{statfs_bytes}
 use Rattle.fuse_tree.specs.Bounds.{target_limit}
 use Rattle.fuse_tree.specs.State.{State, Node, Shape, used_of, terms_of, profile_of, is_link, node_at}
@@ -25,6 +25,7 @@ use Rattle.fuse_tree.proofs.Blocks.{room_with}
 use Rattle.fuse_tree.proofs.Carried.{further_links}
 use Rattle.fuse_tree.proofs.Contents.{EndsTarget, target_ends}
 use Rattle.fuse_tree.proofs.CreatingAgrees.{create_agrees}
+use Rattle.fuse_tree.proofs.PlusAgrees.{read_dir_plus_agrees}
 use Rattle.fuse_tree.proofs.SymlinkAgrees.{symlink_agrees}
 use Rattle.fuse_tree.proofs.Most.{profile_mapped}
 use Rattle.fuse_tree.proofs.WritingAgrees.{bytes_found}
@@ -57,6 +58,7 @@ content_agrees s header (Some Readlink) now d tree e links ends = readlink_agree
 content_agrees s header (Some Statfs) now d tree e links ends = statfs_agrees s tree
 content_agrees s header (Some (Symlink name target)) now d tree e links ends = symlink_agrees s header name target now d tree e links ends
 content_agrees s header (Some (Create flags mode umask open_flags name)) now d tree e links ends = create_agrees s header flags mode name now d tree e
+content_agrees s header (Some (ReadDirPlus x)) now d tree e links ends = read_dir_plus_agrees s x d tree
 content_agrees s header _ now d tree e links ends = refused_agrees s tree enosys
 
 pub further_agrees : (s : State) (header : InHeader) (opcode : ℕ) (body : List ℕ) (now : Moment) (d : Node) → Shape s → node_at s d.number ≡ Some d

@@ -7,9 +7,14 @@ use Rattle.fuse_wire.specs.Errnos.{enoent, enametoolong}
 use Rattle.fuse_wire.specs.declared.moment.Moment.{Moment}
 use Rattle.fuse_wire.specs.Flags.{access_of}
 use Rattle.fuse_request.specs.declared.request.InHeader.{InHeader}
-use Rattle.fuse_request.specs.FurtherBodies.{Content, Readlink, Statfs, Symlink, Create, further_fault, content_at}
+use Rattle.fuse_request.specs.FurtherBodies.{Content, Readlink, Statfs, Symlink, Create, ReadDirPlus, further_fault, content_at}
 use Rattle.fuse_init.specs.Profile.{terms}
-use Rattle.fuse_tree.specs.Bounds.{target_limit}
+use Rattle.fuse_request.specs.declared.request.ReadIn.{ReadIn}
+use Rattle.fuse_answer.specs.PlusEntries.{plus_len}
+use Rattle.fuse_tree.specs.Bounds.{target_limit, read_limit}
+use Rattle.fuse_tree.specs.Handles.{is_open}
+use Rattle.fuse_tree.specs.Listing.{first_fits_by}
+use Rattle.fuse_tree.specs.inner.PlanPlus.{plus_after, plan_read_dir_plus}
 use Rattle.fuse_tree.specs.declared.new_node.NewNode.{NewNode}
 use Rattle.fuse_tree.specs.declared.agreement.Agreement.{Agreement}
 use Rattle.fuse_tree.specs.declared.rows.Counters.{Counters as CountersRow}
@@ -125,12 +130,21 @@ create_fits g header flags mode name now row rows all fits =
     (λ _. past (is_full (terms_at rows).node_limit rows.counters.nodes rows.counters.next_node rows.counters.next_cookie) _ _ refl
     (λ _. create_for_fits g (begun (terms g.profile) row.mode row.gid header (file_mode mode) 0 now) name (access_of flags) row rows all fits)))))
 
+read_dir_plus_fits : (valid : ℕ) (asked : ReadIn) (row : NodeRow) (rows : Rows) → Fit (plan_read_dir_plus valid asked row rows)
+read_dir_plus_fits valid asked row rows =
+    past (not (is_open rows.handles asked.fh row.node)) _ _ refl
+    (λ _. past (not (is_dir row.mode)) _ _ refl
+    (λ _. past (nat_lt read_limit asked.size) _ _ refl
+    (λ _. past (not (row_is_named row)) _ _ refl
+    (λ _. past (not (first_fits_by plus_len (plus_after valid asked.offset asked.size row rows) asked.size)) _ _ refl (λ _. nothing _ refl)))))
+
 content_fits : (g : Agreement) (header : InHeader) (o : Option Content) (now : Moment) (row : NodeRow) (rows : Rows) → Small rows → FitsNode row
     → Fit (plan_content g header o now row rows)
 content_fits g header (Some Readlink) now row rows all fits = past (not (is_link row.mode)) _ _ refl (λ _. nothing _ refl)
 content_fits g header (Some Statfs) now row rows all fits = nothing _ refl
 content_fits g header (Some (Symlink name target)) now row rows all fits = symlink_fits g header name target now row rows all fits
 content_fits g header (Some (Create flags mode umask open_flags name)) now row rows all fits = create_fits g header flags mode name now row rows all fits
+content_fits g header (Some (ReadDirPlus x)) now row rows all fits = read_dir_plus_fits (valid_of g) x row rows
 content_fits g header _ now row rows all fits = nothing _ refl
 
 pub further_fits : (g : Agreement) (header : InHeader) (opcode : ℕ) (body : List ℕ) (now : Moment) (row : NodeRow) (rows : Rows) → Small rows → FitsNode row

@@ -1,16 +1,16 @@
 -- What further opcodes answer fits, and is read.
-use Rattle.std.proofs.Common.{◌≡◌, ◌||◌, ◌≤◌, ◌==◌, ℕ, Bool, true, false, not, eqb, if◌then◌else◌, List, [], length, Option, Some, None, is_some, refl, ap, subst, sym, ◌∙◌}
+use Rattle.std.proofs.Common.{◌≡◌, ◌||◌, ◌≤◌, ◌==◌, ℕ, Bool, true, false, not, eqb, if◌then◌else◌, List, length, Option, Some, None, is_some, refl, ap, subst, sym, ◌∙◌}
 use Rattle.std.proofs.Common.{◌⊎◌, inl, inr, arith}
 use Rattle.std.specs.Option.{unwrap_or}
 use Rattle.std.specs.Prelude.{nat_le, nat_lt}
 use Rattle.std.proofs.lemmas.Bool.{eqb-true}
-use Rattle.std.proofs.lemmas.List.{append-nil, length-take}
+use Rattle.std.proofs.lemmas.List.{length-take}
 use Rattle.fuse_wire.proofs.Layouts.{length-form}
 use Rattle.fuse_wire.specs.declared.access_mode.AccessMode.{AccessMode}
 use Rattle.fuse_wire.specs.declared.moment.Moment.{Moment}
 use Rattle.fuse_wire.specs.Flags.{access_of}
 use Rattle.fuse_request.specs.declared.request.InHeader.{InHeader}
-use Rattle.fuse_request.specs.FurtherBodies.{Content, Readlink, Statfs, Symlink, Create, further_fault, content_at}
+use Rattle.fuse_request.specs.FurtherBodies.{Content, Readlink, Statfs, Symlink, Create, ReadDirPlus, further_fault, content_at}
 use Rattle.fuse_wire.specs.Errnos.{enosys, enoent, enametoolong, enfile, enospc}
 use Rattle.fuse_wire.specs.Opcodes.{fuse_readlink, fuse_symlink, fuse_statfs, fuse_create, fuse_readdirplus}
 use Rattle.fuse_init.specs.declared.profile.Profile.{Profile}
@@ -19,7 +19,7 @@ use Rattle.fuse_init.specs.Profile.{terms}
 use Rattle.fuse_answer.specs.Laws.{RecordSizes}
 use Rattle.fuse_answer.specs.declared.further.CreateOut.{CreateOut}
 use Rattle.fuse_answer.specs.FurtherAnswers.{statfs_parts, statfs_bytes, create_parts, create_bytes}
-use Rattle.fuse_answer.specs.Replies.{Kind, Unknown, kind_of, IsBody, of_unknown}
+use Rattle.fuse_answer.specs.Replies.{Kind, Unknown, kind_of}
 use Rattle.fuse_tree.specs.Bounds.{target_limit, handle_limit, number_end}
 use Rattle.fuse_tree.specs.declared.new_node.NewNode.{NewNode}
 use Rattle.fuse_tree.specs.State.{State, Node, profile_of, terms_of, is_dir, is_link, is_named, name_fault}
@@ -34,7 +34,8 @@ use Rattle.fuse_tree.specs.Statfs.{statfs_of, statfs, no_room}
 use Rattle.fuse_tree.specs.Space.{room_of, has_room}
 use Rattle.fuse_tree.specs.Linking.{readlink}
 use Rattle.fuse_tree.specs.Further.{do_further, further}
-use Rattle.fuse_tree.proofs.Fit.{Fits, refused, answered, chosen, refused_for, Reads, refused_reads, answered_reads, chosen_reads, refused_name_reads}
+use Rattle.fuse_tree.proofs.Fit.{Fits, refused, answered, chosen, refused_for, Reads, refused_reads, answered_reads, chosen_reads, refused_name_reads, any_body}
+use Rattle.fuse_tree.proofs.PlusFits.{read_dir_plus_fits, read_dir_plus_reads}
 
 readlink_fits : (s : State) (n : Node) → Fits (readlink s n)
 readlink_fits s n = chosen (not (is_link n.mode)) _ _ (refused s _) (answered s _ (omega (arith, length-take 4095 n.content)))
@@ -83,6 +84,7 @@ content_fits sizes s header (Some Readlink) now n = readlink_fits s n
 content_fits sizes s header (Some Statfs) now n = statfs_fits s
 content_fits sizes s header (Some (Symlink name target)) now n = symlink_fits sizes s header name target now n
 content_fits sizes s header (Some (Create flags mode umask open_flags name)) now n = create_fits s header flags mode name now n
+content_fits sizes s header (Some (ReadDirPlus x)) now n = read_dir_plus_fits sizes s x n
 content_fits sizes s header _ now n = refused s _
 
 pub further_fits : RecordSizes → (s : State) (header : InHeader) (opcode : ℕ) (body : List ℕ) (now : Moment) (n : Node)
@@ -92,10 +94,6 @@ further_fits sizes s header opcode body now n =
     (chosen (is_some (further_fault opcode body)) _ _ (refused s _) (content_fits sizes s header (content_at opcode body) now n))
 
 -- ---- it is read
-
--- any bytes are a body of no kind that is known
-any_body : (b : List ℕ) → IsBody Unknown b
-any_body b = (of_unknown b, record { of_kind = refl; laid = ([], sym (append-nil b), refl); proper = tt })
 
 refused_target_reads : (s : State) (none long : Bool) (d : Done) → Reads Unknown d
     → Reads Unknown (refuse_for s (if none then Some enoent else if long then Some enametoolong else None) d)
@@ -138,6 +136,7 @@ content_reads s header (Some Readlink) now n = chosen_reads (not (is_link n.mode
 content_reads s header (Some Statfs) now n = answered_reads s _ (any_body _)
 content_reads s header (Some (Symlink name target)) now n = symlink_reads s header name target now n
 content_reads s header (Some (Create flags mode umask open_flags name)) now n = create_reads s header flags mode name now n
+content_reads s header (Some (ReadDirPlus x)) now n = read_dir_plus_reads s x n
 content_reads s header _ now n = refused_reads s _ refl
 
 one_of : (b c : Bool) → (b || c) ≡ true → (b ≡ true) ⊎ (c ≡ true)

@@ -40,10 +40,12 @@ use Rattle.fuse_tree.specs.Making.{is_full, begun, dir_mode, may_make, node_mode
 use Rattle.fuse_tree.specs.Setting.{has, set_fault}
 use Rattle.fuse_tree.specs.Writing.{may_write, may_read}
 use Rattle.fuse_tree.specs.Removing.{has_entries}
-use Rattle.fuse_tree.specs.Listing.{first_fits}
+use Rattle.fuse_answer.specs.PlusEntries.{plus_len}
+use Rattle.fuse_tree.specs.Listing.{first_fits, first_fits_by}
+use Rattle.fuse_tree.specs.inner.PlanPlus.{plus_after, plan_read_dir_plus}
 use Rattle.fuse_tree.specs.Opening.{open_fault, not_for_dirs, for_dirs_alone}
 use Rattle.fuse_tree.specs.Plan.{makes_entry, takes_entry, GoneFirst}
-use Rattle.fuse_request.specs.FurtherBodies.{Content, Readlink, Statfs, Symlink, Create, further_fault, content_at}
+use Rattle.fuse_request.specs.FurtherBodies.{Content, Readlink, Statfs, Symlink, Create, ReadDirPlus, further_fault, content_at}
 use Rattle.fuse_tree.specs.Symlinking.{target_fault}
 use Rattle.fuse_tree.specs.Creating.{file_mode}
 use Rattle.fuse_tree.specs.inner.PlanSymlinking.{plan_symlink}
@@ -323,12 +325,21 @@ create_orders g header flags mode name now row rows =
     (chosen (is_full (terms_at rows).node_limit rows.counters.nodes rows.counters.next_node rows.counters.next_cookie) _ _ (by_test _ refl)
     (create_for_orders g (begun (terms g.profile) row.mode row.gid header (file_mode mode) 0 now) name (access_of flags) row rows)))))
 
+read_dir_plus_orders : (valid : ℕ) (asked : ReadIn) (row : NodeRow) (rows : Rows) → Orders (plan_read_dir_plus valid asked row rows)
+read_dir_plus_orders valid asked row rows =
+    chosen (not (is_open rows.handles asked.fh row.node)) _ _ (by_test _ refl)
+    (chosen (not (is_dir row.mode)) _ _ (by_test _ refl)
+    (chosen (nat_lt read_limit asked.size) _ _ (by_test _ refl)
+    (chosen (not (row_is_named row)) _ _ (by_test _ refl)
+    (chosen (not (first_fits_by plus_len (plus_after valid asked.offset asked.size row rows) asked.size)) _ _ (by_test _ refl) (by_test _ refl)))))
+
 content_orders : (g : Agreement) (header : InHeader) (o : Option Content) (now : Moment) (row : NodeRow) (rows : Rows)
     → Orders (plan_content g header o now row rows)
 content_orders g header (Some Readlink) now row rows = chosen (not (is_link row.mode)) _ _ (by_test _ refl) (by_test _ refl)
 content_orders g header (Some Statfs) now row rows = by_test _ refl
 content_orders g header (Some (Symlink name target)) now row rows = symlink_orders g header name target now row rows
 content_orders g header (Some (Create flags mode umask open_flags name)) now row rows = create_orders g header flags mode name now row rows
+content_orders g header (Some (ReadDirPlus x)) now row rows = read_dir_plus_orders (valid_of g) x row rows
 content_orders g header _ now row rows = by_test _ refl
 
 further_orders : (g : Agreement) (header : InHeader) (opcode : ℕ) (body : List ℕ) (now : Moment) (row : NodeRow) (rows : Rows)

@@ -61,7 +61,7 @@ pub record IsRead (cs : List Chunk) (offset len i : ℕ) (part : List ℕ) (skip
   pub bytes : part ++ take left (drop skipped (joined (drop i cs))) ≡ take len (drop offset (joined cs))
   pub count : length part + left ≡ len
 
--- where it stands before the first chunk, and behind the last one
+-- where it stands before the first chunk, and after the last one
 pub none_read : (cs : List Chunk) (offset len : ℕ) → IsRead cs offset len 0 [] offset len
 none_read cs offset len = record { bytes = refl; count = omega arith }
 

@@ -17,6 +17,8 @@ mod CreatingAgrees
 mod FurtherAgrees
 mod FurtherColumns
 mod FurtherFits
+mod PlusAgrees
+mod PlusFits
 mod SymlinkAgrees
 mod GoneFirst
 pub mod GoneRows

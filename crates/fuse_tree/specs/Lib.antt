@@ -24,6 +24,7 @@ pub mod Statfs
 pub mod Linking
 pub mod Symlinking
 pub mod Creating
+pub mod PlusListing
 pub mod Further
 pub mod Do
 pub mod Columns

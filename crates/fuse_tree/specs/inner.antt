@@ -15,6 +15,7 @@ pub mod PlanStatfs
 pub mod PlanLinking
 pub mod PlanSymlinking
 pub mod PlanCreating
+pub mod PlanPlus
 pub mod PlanFurther
 pub mod Planning
 pub mod Causing

@@ -1,4 +1,5 @@
 ghost use Rattle.fuse_tree.specs.Listing.{ListingIsLongest};
+ghost use Rattle.fuse_tree.specs.PlusListing.{PlusIsLongest};
 ghost use Rattle.fuse_tree.specs.Renaming.{LiesInIsUnder};
 ghost use Rattle.fuse_tree.specs.Plan.{TreeKept, NewStoreIsTree, RowsTellState, AnswersFit};
 ghost use Rattle.fuse_tree.specs.Plan.{AnswersAreRead};
@@ -57,6 +58,11 @@ pub fn answers_are_read()
 /// The entries of a directory rise, and READDIR lists the longest prefix that fits.
 pub fn listing_is_longest()
     ensures { ListingIsLongest }
+{}
+
+/// READDIRPLUS lists the longest prefix that fits.
+pub fn plus_listing_is_longest()
+    ensures { PlusIsLongest }
 {}
 
 /// A directory lies under another one within as many steps up as there are nodes.

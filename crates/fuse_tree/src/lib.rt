@@ -21,7 +21,8 @@ mod terms;
 pub use agreement::Agreement;
 pub use laws::{
     answers_are_read, answers_fit, bytes_kept, lies_in_is_under, limit_numbers, listing_is_longest,
-    mode_numbers, new_store_is_tree, rows_of_trees, rows_tell_state, tree_kept,
+    mode_numbers, new_store_is_tree, plus_listing_is_longest, rows_of_trees, rows_tell_state,
+    tree_kept,
 };
 pub use limits::{
     BLOCK_SIZE, CAPACITY_END, COUNTER_END, DEFAULT_CAPACITY, KEPT_SECS, MAX_FILE, MAX_HANDLES,

@@ -26,6 +26,7 @@ mod names;
 mod open;
 mod read;
 mod read_dir;
+mod read_dir_plus;
 mod readlink;
 mod release;
 mod removal;

@@ -14,7 +14,7 @@ bytes_of (kinds.Zeros count) = replicate count 0
 abbrev pub joined : List Chunk → List ℕ
 joined chunks = flat_map bytes_of chunks
 
--- the place lies behind these chunks and so many bytes of the next one, if there is a next one
+-- the place lies after these chunks and so many bytes of the next one, if there is a next one
 pub record IsPlace (chunks : List Chunk) (at : ℕ) (place : Place) : Type 0 where
   pub index : place.index ≤ length chunks
   pub behind : length (joined (take place.index chunks)) + place.left ≡ at

@@ -77,7 +77,7 @@ impl Chunks {
     }
 }
 
-/// Where a place of a content lies: behind so many chunks, and so many bytes of the next one.
+/// Where a place of a content lies: after so many chunks, and so many bytes of the next one.
 #[derive(Clone, Copy)]
 pub struct Place {
     pub index: usize,

@@ -8,6 +8,7 @@ ghost use Rattle.fuse_tree.specs.inner.Reading.{IsWithin, LooksUp, view};
 use super::answers::refused;
 use super::create::{CreateIn, plan_create};
 use super::fault::PlanFault;
+use super::read_dir_plus::plan_read_dir_plus;
 use super::readlink::plan_readlink;
 use super::statfs::plan_statfs;
 use super::symlink::plan_symlink;
@@ -78,6 +79,9 @@ fn plan_body<L: Look>(
                 name,
             };
             plan_create(alloc, look, agreement, header, &asked, now, row)
+        }
+        Body::ReadDirPlus(asked) => {
+            plan_read_dir_plus(alloc, look, agreement.valid_secs(), asked, row)
         }
         _ => Ok(refused(alloc, Errno::ENOSYS)),
     }
