@@ -10,11 +10,10 @@ make a check short:
 - It reuses the results of earlier checks (`--incremental`).
 
 An edit counts as refused only where the prover refuses a function that the edit changes, for a reason of that function's own. An edit
-that isn't refused so is tried again, alone, over the whole crate. An edit that changes anything other than functions goes alone; its lines
-`only: PATH` name functions, and where one of them is refused the rest of the crate isn't checked. Where a source can't be read because of
-some edits of a check, the others are tried again without them. A witness shows that the holes aren't the reason of the refusals: in the
-same check stands one function that no edit changes, with its own proof. Where no function can be the witness, the shortest function that
-edits change must be proved without them; and over a tree in which the crate isn't proved, all of them.
+that isn't refused so is tried again, alone, over the whole crate; and so is an edit that changes anything other than functions. Where a
+source can't be read because of some edits of a check, the others are tried again without them. A witness shows that the holes aren't the
+reason of the refusals: in the same check stands one function that no edit changes, with its own proof. Where no function can be the
+witness, the shortest function that edits change must be proved without them; and over a tree in which the crate isn't proved, all of them.
 
 The lines of `rattle check` that are read here. PATH names a function, as `fuse_wire::access_mode::AccessMode::of`. Other lines are
 skipped, and so is the rest of a line.
@@ -61,7 +60,7 @@ PARTS = ("src", "specs", "proofs")
 # The errors about a name that an edit removed.
 REMOVED = re.compile(r"has no field|is not in scope|has no `|was not admitted")
 # An error for which a source isn't read further.
-UNREAD = re.compile(r"(?m)^(?:\./)?(src/\S+?):(\d+):\d+: error")
+UNREAD = re.compile(r"(?m)^(?:\./)?(src/\S+?):(\d+):\d+: error\[")
 # The memory of a check of the largest crate with edits, in bytes.
 LARGEST = 3_500_000_000
 
@@ -276,7 +275,7 @@ def try_batch(scratch, batch):
         own.sort(key=lambda it: not touches(it[0], edit.functions))
         if own:
             tried.append(Tried(edit, True, f"refused: {own[0][0]}: {own[0][1]}"))
-        elif is_alone and not edit.functions and not edit.named:
+        elif is_alone and not edit.functions:
             tried.append(without_own(edit, said))
         else:
             left.append(Edit(edit.name, edit.pairs))
@@ -301,10 +300,8 @@ def proves_others(said, edits, places):
 
 
 def functions_of(edits):
-    """The functions that are checked for these edits, or none where an edit changes anything other than functions and names none."""
-    if all(it.functions for it in edits):
-        return set().union(*(it.checked for it in edits))
-    return edits[0].named if len(edits) == 1 else set()
+    """The functions that are checked for these edits, or none where an edit changes anything other than functions."""
+    return set().union(*(it.checked for it in edits)) if all(it.functions for it in edits) else set()
 
 
 def without_own(edit, said):
@@ -358,7 +355,7 @@ def check_unedited(tree, crate):
             said = scratch.check_batch(batch, ())
             unproved = set(re.findall(r"(?m)^fn (\S+): (?:not proved|no proof|could not tell)", said))
             ran = re.search(r"(?m)^(only=|logic=proved)", said)
-            wrong += [it for it in batch if not ran or any(touches(path, it.checked | it.named) for path in unproved)]
+            wrong += [it for it in batch if not ran or any(touches(path, it.checked) for path in unproved)]
     tried = [Tried(it, it not in wrong, "NOT PROVED UNEDITED" if it in wrong else "proved unedited") for it in edits]
     return tried, summary_of(crate, edits, scratch)
 

@@ -18,27 +18,23 @@ class Edit:
     functions: set[str] = field(default_factory=set)
     # those that are checked: of the functions that name a constant, the shortest
     checked: set[str] = field(default_factory=set)
-    # where it changes anything other than functions, those that it names in 'only:' lines
-    named: set[str] = field(default_factory=set)
 
 
 # ---- reading
 
 
 def read_edit(path):
-    """Reads an edit, in the syntax of `rt`, which skips the 'only:' lines."""
-    file, old, pairs, named = "", None, [], set()
+    """Reads an edit, in the syntax of `rt`."""
+    file, old, pairs = "", None, []
     for line in path.read_text(encoding="utf-8").split("\n"):
         if line.startswith("file: "):
             file = line[len("file: ") :].strip()
-        elif line.startswith("only: "):
-            named.add(line[len("only: ") :].strip())
         elif line.startswith("old: "):
             old = line[len("old: ") :]
         elif line.startswith("new:") and file and old:
             pairs.append((file, old, line[len("new:") :].removeprefix(" ")))
             old = None
-    return Edit(path.name, pairs, named=named)
+    return Edit(path.name, pairs)
 
 
 def owner_of(header):
