@@ -76,7 +76,7 @@ has_word() {
 # A kill loses nothing that the server wrote: the kernel still has it. What a cut of power loses is tried by crates/store_tests alone.
 kills() {
   start store mnt log || return 1
-  python3 -m mount.kills work mnt store "$supervisor" "${kills:-20}" "$seed" models && unmount_and_end mnt || return 1
+  python3 -m mount.kills work mnt store "$supervisor" "${kills:-20}" "$seed" "$profile" models && unmount_and_end mnt || return 1
   python3 -m mount.kills compare-left store models && start store mnt log-next || return 1
   python3 -m mount.kills compare mnt models && unmount_and_end mnt && python3 -m mount.kills compare-next store models
 }
@@ -91,7 +91,7 @@ differential() {
     python3 "$here/killer.py" "$supervisor" 1000000 0.5 2>/dev/null &
     killer=$!
     record "$killer"
-    python3 -m mount.differ work mnt other plain "$seed-$number" "$part"
+    python3 -m mount.differ work mnt other "$profile" "$seed-$number" "$part"
     status=$?
     kill "$killer" 2>/dev/null
     [ "$status" -eq 0 ] && unmount_and_end mnt || return 1
@@ -202,4 +202,97 @@ has_probe() {
     if has_word "$child" --resume; then has_server=1; else probe=$child; fi
   done
   [ -n "$has_server" ] && [ -n "$probe" ]
+}
+
+# A store has room for so many bytes: a file takes no more, and one that is removed gives its room back, also if it was open.
+small() {
+  options=size=1M
+  start store mnt log || return 1
+  expect "df has its size" [ "$(df -B1 --output=size,used mnt | tail -n 1 | xargs)" = "1048576 0" ] || return 1
+  head -c 1044480 /dev/zero >mnt/first || return 1
+  expect "a file of a block has room" cp /etc/hostname mnt/second || return 1
+  if ln -s first mnt/third 2>line; then
+    echo "a link is made without room"
+    return 1
+  fi
+  expect "it says so" grep -q "No space left" line || return 1
+  exec 9<mnt/first
+  rm mnt/first
+  expect "an open file counts" [ "$(df -B1 --output=used mnt | tail -n 1 | xargs)" = 1048576 ] || return 1
+  exec 9<&-
+  await 60 has_room_for_link || return 1
+  unmount_and_end mnt
+}
+
+has_room_for_link() {
+  ln -s second mnt/third
+}
+
+# Files come and go, and the store doesn't grow after the first thousand.
+churn() {
+  local first last
+  start store mnt log && churns 1000 && first=$(bytes_of_store) && churns "$operations" && last=$(bytes_of_store) || return 1
+  echo "$first bytes after 1000 files, $last after $operations more"
+  expect "it doesn't grow" [ "$last" -le $((first + 1000000)) ] || return 1
+  unmount_and_end mnt
+}
+
+churns() {
+  python3 - "$1" <<'END'
+import os, sys
+for number in range(int(sys.argv[1])):
+    with open(f"mnt/{number}", "xb") as file:
+        file.write(b"x" * (number % 5000))
+    os.unlink(f"mnt/{number}")
+    if number % 1000 == 0:
+        os.utime("alive")
+END
+}
+
+bytes_of_store() {
+  cat store store-wal | wc -c
+}
+
+# A directory is made and committed, its server dies before it answers, and the caller is killed after the next server has asked for the
+# pending requests and before it reads one. The kernel drops the request, though it knew the name as absent for a day: the directory is
+# seen at once, since that server also had all names looked up again. The caller works in a directory whose attributes the kernel keeps
+# for a day, too, so that the request that makes the directory is its only one.
+killed_caller() {
+  local server caller
+  write_pausing_engine
+  mkfifo go
+  start store mnt log && mkdir mnt/place && server=$("$program" --server store) || return 1
+  (cd mnt/place && ! [ -e made ] && touch "$OLDPWD/knows" && read -r _ <"$OLDPWD/go" && exec mkdir made) &
+  caller=$!
+  record "$caller"
+  await 60 [ -e knows ] || return 1
+  strace -qq -o /dev/null -p "$server" -e trace=write,writev -e inject=write,writev:signal=KILL &
+  record $!
+  await 60 is_traced "$server" && touch pauses && echo >go && await 60 has_written_by 32 "$server" || return 1
+  rm pauses
+  kill -KILL "$caller"
+  wait "$caller"
+  expect "the directory is there" [ -d mnt/place/made ] || return 1
+  unmount_and_end mnt
+}
+
+# While the file `pauses` is there a server waits for three seconds before each read of the device.
+write_pausing_engine() {
+  cat >pausing-engine <<END
+#!/bin/sh
+[ -e "$PWD/pauses" ] || exec "$engine" "\$@"
+exec strace -D -qq -o /dev/null -e trace=read,readv -e inject=read,readv:delay_enter=3000000 "$engine" "\$@"
+END
+  chmod +x pausing-engine
+  export FUSEKEEP=$PWD/pausing-engine
+}
+
+is_traced() {
+  ! grep -q "^TracerPid:.0$" "/proc/$1/status"
+}
+
+# Whether another server than this one runs and has written so many bytes: has_written_by BYTES SERVER
+has_written_by() {
+  local server
+  server=$("$program" --server store) && [ "$server" != "$2" ] && [ "$(sed -n 's/^wchar: //p' "/proc/$server/io")" -ge "$1" ]
 }

@@ -3,6 +3,7 @@
 #![tactic(auto)]
 
 mod arguments;
+mod asked_store;
 mod cause;
 mod check;
 mod count_line;
@@ -18,7 +19,8 @@ mod script;
 mod serve;
 mod simulate;
 
-pub use arguments::{Run, STANDARD_INPUT, Work, parse, unreadable};
+pub use arguments::{Run, STANDARD_INPUT, Work, impossible_store, parse, unreadable};
+pub use asked_store::AskedStore;
 pub use cause::Cause;
 pub use check::run_check;
 pub use count_line::CountLine;

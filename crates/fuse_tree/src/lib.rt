@@ -25,10 +25,12 @@ pub use laws::{
 };
 pub use limits::{
     BLOCK_SIZE, CAPACITY_END, COUNTER_END, DEFAULT_CAPACITY, KEPT_SECS, MAX_FILE, MAX_HANDLES,
-    MAX_NODES, MAX_READ, ROOT_ID, SECTOR_SIZE, VALID_SECS,
+    MAX_NODES, MAX_READ, MAX_TARGET, ROOT_ID, SECTOR_SIZE, VALID_SECS,
 };
 pub use look::{Look, LookFault};
-pub use mode::{S_IFBLK, S_IFCHR, S_IFDIR, S_IFIFO, S_IFREG, S_IFSOCK, S_ISGID, TYPE_UNIT, TYPES};
+pub use mode::{
+    S_IFBLK, S_IFCHR, S_IFDIR, S_IFIFO, S_IFLNK, S_IFREG, S_IFSOCK, S_ISGID, TYPE_UNIT, TYPES,
+};
 pub use mount::clearing;
 pub use pieces::{Piece, Pieces};
 pub use plain_tree::PlainTree;

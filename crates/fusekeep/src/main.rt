@@ -15,12 +15,11 @@ use clap::Error;
 use clap::error::ErrorKind;
 use companion::{missing_log, remove_log};
 use fuse_commands::{
-    Ending, ProgressReader, Run, STANDARD_INPUT, START, Work, parse, run_check, run_decode,
-    run_dump, run_replay, unreadable,
+    Ending, ProgressReader, Run, STANDARD_INPUT, Work, impossible_store, parse, run_check,
+    run_decode, run_dump, unreadable,
 };
-use fuse_files::{Show, replay_store, simulate_store};
-use fuse_init::PlainProfile;
-use fuse_store::{PlainKeeper, PlainTree, StoreKind};
+use fuse_files::{Show, kind_asked, replay_in_memory, replay_store, simulate_store};
+use fuse_store::StoreKind;
 use fuse_store_files::StoreFiles;
 use fuse_wire::Moment;
 use serve::serve_as_asked;
@@ -92,37 +91,46 @@ fn run(rt: &HostRuntime) -> Ending {
     }
 }
 
-// Runs a command.
+// Runs a command, if the new store that it asks for is possible.
 fn run_as_asked(rt: &HostRuntime, asked: Run<'_>) -> Ending {
+    match kind_asked(asked.new_store()) {
+        Some(kind) => run_command(rt, asked, kind),
+        None => refuse(rt, impossible_store(rt.alloc())),
+    }
+}
+
+// Runs a command. A new store is of this kind.
+fn run_command(rt: &HostRuntime, asked: Run<'_>, kind: StoreKind) -> Ending {
     match asked {
         Run::Serve {
             db,
             begin,
             at,
             wary,
+            ..
         } => {
             if wary {
-                serve_as_asked(rt, db, Wary, begin, at)
+                serve_as_asked(rt, db, Wary, begin, at, kind)
             } else {
-                serve_as_asked(rt, db, Unknown, begin, at)
+                serve_as_asked(rt, db, Unknown, begin, at, kind)
             }
         }
         Run::Store { file } => show_file(rt, file, Show::Summary),
         Run::List { file, path } => show_file(rt, file, Show::Directory(path)),
         Run::Cat { file, path } => show_file(rt, file, Show::File(path)),
-        Run::Read { input, work } => run_on_input(rt, input, work),
+        Run::Read { input, work } => run_on_input(rt, input, work, kind),
     }
 }
 
 // Opens the input and processes it.
-fn run_on_input(rt: &HostRuntime, input: &str, work: Work<'_>) -> Ending {
+fn run_on_input(rt: &HostRuntime, input: &str, work: Work<'_>, kind: StoreKind) -> Ending {
     if input == STANDARD_INPUT {
-        return run_with_progress(rt, rt.reader(), None, work);
+        return run_with_progress(rt, rt.reader(), None, work, kind);
     }
     match fs::open(rt, input) {
         Ok(file) => {
             let total = size_of(&file);
-            run_with_progress(rt, file, total, work)
+            run_with_progress(rt, file, total, work, kind)
         }
         Err(_) => Ending::PortFailed,
     }
@@ -141,7 +149,7 @@ fn is_watched(rt: &HostRuntime, work: Work<'_>) -> bool {
     let prints_apart = match work {
         Work::Check => true,
         Work::Dump | Work::Decode | Work::Replay { .. } => !rt.stdout().is_terminal(),
-        Work::Simulate => false,
+        Work::Simulate { .. } => false,
     };
     prints_apart && rt.stderr().is_terminal()
 }
@@ -152,16 +160,22 @@ fn run_with_progress<R: Read + Drop>(
     reader: R,
     total: Option<u64>,
     work: Work<'_>,
+    kind: StoreKind,
 ) -> Ending {
     if is_watched(rt, work) {
-        run_work(rt, ProgressReader::new(reader, rt, total), work)
+        run_work(rt, ProgressReader::new(reader, rt, total), work, kind)
     } else {
-        run_work(rt, reader, work)
+        run_work(rt, reader, work, kind)
     }
 }
 
 // Processes the input, with buffered output.
-fn run_work<R: Read + Drop>(rt: &HostRuntime, reader: R, work: Work<'_>) -> Ending {
+fn run_work<R: Read + Drop>(
+    rt: &HostRuntime,
+    reader: R,
+    work: Work<'_>,
+    kind: StoreKind,
+) -> Ending {
     let alloc = rt.alloc();
     let Ok(mut writer) = BufWriter::new(alloc, io::writer(rt)) else {
         return Ending::Memory;
@@ -170,31 +184,18 @@ fn run_work<R: Read + Drop>(rt: &HostRuntime, reader: R, work: Work<'_>) -> Endi
         Work::Dump => run_dump(alloc, reader, &mut writer),
         Work::Decode => run_decode(alloc, reader, &mut writer),
         Work::Check => run_check(alloc, reader, &mut writer),
-        Work::Replay { db, at, wary } => {
+        Work::Replay { db, at, wary, .. } => {
             let moment = Moment { secs: at, nanos: 0 };
             match db {
-                None => replay_in_memory(alloc, reader, &mut writer, moment),
+                None => replay_in_memory(alloc, kind, reader, &mut writer, moment),
                 Some(file) if wary => {
-                    replay_on_file(rt, file, Wary, reader, &mut writer, moment)
+                    replay_on_file(rt, file, Wary, kind, reader, &mut writer, moment)
                 }
-                Some(file) => replay_on_file(rt, file, Unknown, reader, &mut writer, moment),
+                Some(file) => replay_on_file(rt, file, Unknown, kind, reader, &mut writer, moment),
             }
         }
-        Work::Simulate => simulate_in_memory(alloc, reader, &mut writer),
+        Work::Simulate { .. } => simulate_in_memory(alloc, kind, reader, &mut writer),
     }
-}
-
-// Replays over a new store in memory.
-fn replay_in_memory<R: Read + Drop, W: Write>(
-    alloc: Global,
-    reader: R,
-    writer: &mut W,
-    moment: Moment,
-) -> Ending {
-    let Ok(mut keeper) = PlainKeeper::<PlainTree<PlainProfile>>::new(alloc, START) else {
-        return Ending::Memory;
-    };
-    run_replay(alloc, &mut keeper, reader, writer, moment)
 }
 
 // Replays over the store in a file.
@@ -202,13 +203,14 @@ fn replay_on_file<S: Start, R: Read + Drop, W: Write>(
     rt: &HostRuntime,
     file: &str,
     start: S,
+    kind: StoreKind,
     reader: R,
     writer: &mut W,
     moment: Moment,
 ) -> Ending {
     let made = missing_log(rt, file);
     let files = StoreFiles::at(rt, file, start);
-    let (ending, left) = replay_store(rt.alloc(), files, StoreKind::PLAIN, reader, writer, moment);
+    let (ending, left) = replay_store(rt.alloc(), files, kind, reader, writer, moment);
     if let Some(left) = left {
         remove_log(rt, made, ending);
         let _files = left.into_files();
@@ -219,6 +221,7 @@ fn replay_on_file<S: Start, R: Read + Drop, W: Write>(
 // Runs a script over a new store in two files in memory.
 fn simulate_in_memory<R: Read + Drop, W: Write>(
     alloc: Global,
+    kind: StoreKind,
     reader: R,
     writer: &mut W,
 ) -> Ending {
@@ -226,5 +229,5 @@ fn simulate_in_memory<R: Read + Drop, W: Write>(
         log: Memory::new(alloc),
         db: Memory::new(alloc),
     };
-    simulate_store::<PlainProfile, _, _, _>(alloc, files, 0, reader, writer)
+    simulate_store(alloc, files, kind, reader, writer)
 }

@@ -15,6 +15,7 @@ pub(crate) fn serve_as_asked<S: Start>(
     start: S,
     begin: Option<Begin>,
     at: Option<u64>,
+    kind: StoreKind,
 ) -> Ending {
     let Some(begin) = begin else {
         return Ending::Modes;
@@ -22,9 +23,9 @@ pub(crate) fn serve_as_asked<S: Start>(
     match at {
         Some(secs) => {
             let mut clock = Fixed(Moment { secs, nanos: 0 });
-            serve_on_files(rt, file, start, &mut clock, begin)
+            serve_on_files(rt, file, start, &mut clock, begin, kind)
         }
-        None => serve_on_files(rt, file, start, &mut System::new(rt), begin),
+        None => serve_on_files(rt, file, start, &mut System::new(rt), begin, kind),
     }
 }
 
@@ -36,6 +37,7 @@ fn serve_on_files<S: Start, C: Clock>(
     start: S,
     clock: &mut C,
     begin: Begin,
+    kind: StoreKind,
 ) -> Ending {
     let alloc = rt.alloc();
     let made = missing_log(rt, file);
@@ -44,15 +46,7 @@ fn serve_on_files<S: Start, C: Clock>(
         ending,
         counts,
         left,
-    } = serve_store(
-        alloc,
-        files,
-        rt.stdin(),
-        rt.stdout(),
-        clock,
-        begin,
-        StoreKind::PLAIN,
-    );
+    } = serve_store(alloc, files, rt.stdin(), rt.stdout(), clock, begin, kind);
     if let Some(counts) = counts
         && ending.is_of_stream()
     {

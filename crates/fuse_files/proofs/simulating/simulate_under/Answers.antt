@@ -1,7 +1,7 @@
 use Rattle.std.proofs.Common.{inl}
 use Rattle.fuse_files.specs.StoreSimulations.{new_state, crashing}
 use Rattle.fuse_files.proofs.InMemory.{always_clean, simulated}
-use Rattle.fuse_files.proofs.simulating.simulate_store.Goals as goal
+use Rattle.fuse_files.proofs.simulating.simulate_under.Goals as goal
 
 pub returns-in-Ok-clause-simulated : goal.returns-in-Ok-clause-simulated
 returns-in-Ok-clause-simulated g c = λ sure.
