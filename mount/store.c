@@ -78,7 +78,9 @@ static bool has_one_name(const struct supervisor *s, int file, const char *store
 
 bool hold_store(struct supervisor *s, const char *store) {
   int file = open_or_make(store, 0, &s->made_store);
+  struct stat found;
   if (file < 0 || !realpath(store, s->store)) return unwritable(store);
+  s->is_new = fstat(file, &found) == 0 && found.st_size == 0;
   bool is_free = has_one_name(s, file, store) && take_lock(s);
   for (int left = LOCK_TRIES; is_free && is_held(file); poll(NULL, 0, LOCK_PAUSE)) {
     if (left-- > 0) continue;
@@ -100,6 +102,7 @@ static bool begins(struct supervisor *s, int *status) {
 
 int begin_in_store(struct supervisor *s) {
   int status;
+  choose_profile(s);
   bool has_begun = begins(s, &status);
   if (!has_begun && lacks_room(s) && give_up_reserve(s)) has_begun = begins(s, &status);
   if (has_begun) return keep_reserve(s), 0;

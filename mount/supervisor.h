@@ -45,6 +45,9 @@ enum trouble { NO_TROUBLE, LINKED, MOVED, REMOVED, LOG_REMOVED, OTHER_LOG };
 struct supervisor {
   bool foreground, fake, sloppy;
   bool wary;                                       /* the servers suppose nothing of torn writes */
+  const char *profile;                             /* of a new store; NULL where nothing is said */
+  unsigned long long size;                         /* bytes for which it has room */
+  bool has_size, is_new;                           /* there is a size; the store is to be made */
   const char *engine;
   char store[PATH_MAX], mountpoint[PATH_MAX];
   unsigned long flags;                             /* of mount(2) */
@@ -104,7 +107,7 @@ pid_t fork_child(void);
 /* Restores the signals with which this process was called, before another program is executed. */
 void give_back_signals(const struct supervisor *s);
 
-/* Runs `fusekeep serve`. */
+/* Runs `fusekeep serve`. With `--fresh` a new store gets its profile. */
 pid_t start_engine(const struct supervisor *s, const char *mode, int device);
 
 /* The last line that an engine wrote to its standard error, which is the lock's file. A line that begins with the store's path is the
@@ -134,6 +137,19 @@ int begin_in_store(struct supervisor *s);
 
 /* Removes the files that a refused mount has made. */
 void leave_no_trace(const struct supervisor *s);
+
+/* profile.c */
+
+/* Read the words of the options profile= and size=, and return whether they are valid; together they are if `fits_profile`. */
+bool take_profile(struct supervisor *s, const char *word);
+bool take_size(struct supervisor *s, const char *word);
+bool fits_profile(const struct supervisor *s);
+
+/* Sets what the options leave open: a new store is everyday, with room for nine tenths of the disk's free space. */
+void choose_profile(struct supervisor *s);
+
+/* The words with which an engine makes a new store, four at most; their number. */
+size_t words_of_store(const struct supervisor *s, const char **words);
 
 /* room.c */
 

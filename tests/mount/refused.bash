@@ -24,6 +24,10 @@ files_here() {
 refusals() {
   refuses 2 ".*usage: .*" "$program" || return 1
   refuses 2 ".*the option no_such_option isn't known" "$program" -o no_such_option store || return 1
+  refuses 2 ".*size=10X: no number of bytes" "$program" -o size=10X store || return 1
+  refuses 2 ".*size=8388608T: no number of bytes" "$program" -o size=8388608T store || return 1
+  refuses 2 ".*a plain store has no size" "$program" -o size=1M,profile=plain store || return 1
+  refuses 2 ".*the profile none isn't known: it is plain or everyday" "$program" -o profile=none store || return 1
   "$program" store missing 2>line
   expect "no mountpoint has status 1" [ $? -eq 1 ] || return 1
   mkdir alone && cp "$program" alone
@@ -117,8 +121,9 @@ has_room_again() {
 }
 
 # While the disk is full calls wait, without end. They go on once there is room, and the reserve is made again. The disk may get full
-# again at once.
+# again at once. The store has a capacity beyond that of the disk at first.
 full_disk() {
+  options=size=1G
   mkdir disk && mount -t tmpfs -o size=8m none disk && start disk/store mnt log || return 1
   expect "there is a reserve" [ "$(stat -c '%s %a' disk/store-reserve)" = "1048576 600" ] || return 1
   write_pieces &

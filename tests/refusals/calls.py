@@ -18,21 +18,23 @@ HERE = os.path.dirname(os.path.realpath(__file__))
 
 @dataclass
 class Sweep:
-    """The tests of a crate: the modules that get one, with the places of its allocations; of how many of these one is tried in the gate;
-    the modules that these use, since the crate's others are left out of the copy; and the crates that it stands on here besides."""
+    """The tests of a crate: the modules that get one, with the places of its allocations; for each of these modules, of how many
+    places one is tried in the gate; the modules that these use, since the crate's others are left out of the copy; and the crates that
+    it stands on here besides."""
     crate: str
     places: dict
-    step: int
+    steps: dict
     below: set
     more: str = ""
 
 
-# The ranges end beyond today's last places, which are some 375, 775, 100, and 3382.
+# The ranges end beyond today's last places, which are some 375, 775, 100, and 3382. The gate tries each place of the commands, which are
+# few: only one of them is the room for a replay's answer.
 SWEEPS = [
-    Sweep("spec_tests", {"sessions": range(1, 481), "events": range(1, 961), "commands": range(1, 161)}, 7,
-          {"hex", "keepers", "links", "requests", "run", "texts"}),
+    Sweep("spec_tests", {"sessions": range(1, 481), "events": range(1, 961), "commands": range(1, 121)},
+          {"sessions": 7, "events": 7, "commands": 1}, {"hex", "keepers", "links", "requests", "run", "texts"}),
     # The places before make the store and perform the first two requests. stores.py refuses such ones.
-    Sweep("store_tests", {"keepers": range(2751, 3701)}, 13, set(), "fuse_session fuse_sim"),
+    Sweep("store_tests", {"keepers": range(2751, 3701)}, {"keepers": 13}, set(), "fuse_session fuse_sim"),
 ]
 
 ALLOCATE = """
@@ -74,7 +76,7 @@ def add_module(sweep, sources, module, tests):
 def run_sweep(sweep, copy, whole):
     """Runs the tests of a copy, for all places or a sample; the number of those that passed, and of those that failed."""
     refused = max(places[-1] for places in sweep.places.values())
-    tried = {module: places[::1 if whole else sweep.step] for module, places in sweep.places.items()}
+    tried = {module: places[::1 if whole else sweep.steps[module]] for module, places in sweep.places.items()}
     sources = copy_crates(copy, sweep.crate, sweep.more)
     leave_out_others(sources, sweep.below | sweep.places.keys())
     for module, places in sweep.places.items():
