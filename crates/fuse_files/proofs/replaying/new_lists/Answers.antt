@@ -7,5 +7,5 @@ pub returns-clause-stands : goal.returns-clause-stands
 returns-clause-stands g c =
     let p = g.P.Profiled.PROFILE in
     c.over.ensures.stands (new_state p c.args.capacity)
-    (record { tree = c.new_store_is_tree.ensures p c.args.capacity start c.met.low; profile = new_profile p c.args.capacity start })
+    (record { tree = c.new_store_is_tree.ensures p c.args.capacity start c.requires.low; profile = new_profile p c.args.capacity start })
     c.in_ok-tree.ensures.held
