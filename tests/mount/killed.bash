@@ -156,16 +156,23 @@ kills_without_end() {
   unmount_and_end mnt
 }
 
-# The deaths of servers are listed beside the store, with the time and how long the next one took.
+# What `store` says of the deaths in the list.
+deaths_summed() {
+  echo "deaths=$(wc -l <store-mount.log) longest_restart=$(grep -o 'restart=[0-9.]*' store-mount.log | sed 's/.*=//' | sort -n | tail -n 1)"
+}
+
+# The deaths of servers are listed beside the store, with the time and how long the next one took, and summed up by `store`.
 deaths() {
   local line='^20[0-9-]*T[0-9:]*[.][0-9]{3}Z'
   write_broken_engine
   start store mnt log && python3 "$here/killer.py" "$supervisor" 3 0.5 && ls mnt && unmount_and_end mnt || return 1
   expect "three were killed" [ "$(grep -cE "$line signal=9 lived=[0-9]+[.][0-9]{3} restart=[0-9]+[.][0-9]{3}\$" store-mount.log)" -eq 3 ] || return 1
   expect "that is all" [ "$(wc -l <store-mount.log)" -eq 3 ] || return 1
+  expect "they are summed up" [ "$("$engine" store store | tail -n 1)" = "$(deaths_summed)" ] || return 1
   start store mnt log-broken && touch broken && kill -KILL "$("$program" --server store)" && ended 1 || return 1
   expect "one was killed" [ "$(grep -cE "$line signal=9 lived=[0-9.]+ restart=-\$" store-mount.log)" -eq 1 ] || return 1
   expect "ten ended" [ "$(grep -cE "$line status=3 lived=[0-9.]+ restart=- store: Damaged\$" store-mount.log)" -eq 10 ] || return 1
+  expect "all are summed up" [ "$("$engine" store store | tail -n 1)" = "$(deaths_summed)" ] || return 1
   umount -l mnt
 }
 

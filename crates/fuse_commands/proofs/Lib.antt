@@ -1,3 +1,4 @@
+mod Asked
 pub mod Simulations
 pub mod Scripted
 pub mod Decodings

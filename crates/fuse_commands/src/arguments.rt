@@ -322,7 +322,7 @@ fn program_command<'a>(alloc: Global) -> Result<Command<'a>, AllocError> {
 
 // A run over the input that this argument names.
 fn read_run<'a>(found: &ArgMatches<'a>, name: &str, work: Work<'a>) -> Option<Run<'a>>
-    ensures { IfSome result (λ run. asked_in run ≡ asked_for work) }
+    ensures { IfSome result (λ run. asked_in run ≡ asked_for work.entry) }
 {
     let input = found.get_str(name)?;
     Some(Run::Read { input, work })

@@ -62,7 +62,7 @@ pub(crate) fn without_new_store<'a>(argument: Arg<'a>) -> Result<Arg<'a>, AllocE
 
 // The profile of this name.
 fn profile_of(name: Option<&str>) -> Profile
-    ensures { result ≡ profile_named (option_map (λ s. s.now) name) }
+    ensures { result ≡ profile_named (option_map (λ s. s.now) name.entry) }
 {
     match name {
         Some(name) if name == EVERYDAY => Profile::Everyday,

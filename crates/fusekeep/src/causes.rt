@@ -1,5 +1,6 @@
 //! A second line on standard error: the file that was refused, and the cause, as far as it is known.
 
+use crate::snapshot::has_journal;
 use fuse_commands::{Cause, Ending, Run, STANDARD_INPUT, Work};
 use std::fs::{self, OpenOptions};
 use std::os::unix::fs::MetadataExt;
@@ -101,7 +102,7 @@ fn say_unopened_beside(rt: &HostRuntime, file: &str, writes: bool) {
     let Ok(log) = format!(in rt.alloc(); "{real}-wal") else {
         return;
     };
-    if matches!(fs::exists(rt, journal.as_str()), Ok(true)) {
+    if has_journal(rt, journal.as_str()) {
         return say(
             rt,
             journal.as_str(),

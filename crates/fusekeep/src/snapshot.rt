@@ -56,8 +56,8 @@ fn read_log(rt: &HostRuntime, path: &str) -> Result<Vec<u8>, Ending> {
     }
 }
 
-// Whether this path is a journal that only SQLite can play back, or no regular file.
-fn has_journal(rt: &HostRuntime, path: &str) -> bool {
+/// Whether this path is a journal that only SQLite can play back, or no regular file.
+pub(crate) fn has_journal(rt: &HostRuntime, path: &str) -> bool {
     match fs::symlink_metadata(rt, path) {
         Ok(found) if found.is_file() => begins_a_journal(rt, path),
         Ok(_) => true,

@@ -74,10 +74,6 @@ fn left_by(alloc: Global, stopped: Stopped) -> Result<Left, AllocError> {
     })
 }
 
-fn is_same(one: &Left, other: &Left) -> bool {
-    one.steps == other.steps && one.written == other.written && one.synced == other.synced
-}
-
 fn wanted_at(wanted: &[Observed], place: usize, observed: &Observed) -> bool {
     match wanted.get(place) {
         Some(wanted) => wanted == observed,
@@ -158,21 +154,32 @@ impl Judge {
         self.find(&held, last.steps)
     }
 
-    fn judge(&mut self, now: &Left) -> Result<(), StoreFault> {
+    // Judges the files where the process dies and those where the machine does. What is the same as
+    // after the stop before was judged there.
+    fn judge(&mut self, last: &Left, now: &Left) -> Result<(), StoreFault> {
+        let goes_on = last.steps == now.steps;
+        if !goes_on || last.written != now.written {
+            self.find(&now.written, now.steps)?;
+        }
+        if !goes_on || last.synced != now.synced {
+            self.find(&now.synced, now.steps)?;
+        }
+        Ok(())
+    }
+
+    fn judge_first(&mut self, now: &Left) -> Result<(), StoreFault> {
         self.find(&now.written, now.steps)?;
         self.find(&now.synced, now.steps)
     }
 
-    // Files that are the same as after the stop before have the same content.
     fn judge_all(&mut self, last: Option<Left>, now: &Left) -> Result<(), StoreFault> {
         self.tally.stops = self.tally.stops.saturating_add(1);
         match last {
-            Some(last) if is_same(&last, now) => Ok(()),
             Some(last) => {
                 self.judge_half(&last, now)?;
-                self.judge(now)
+                self.judge(&last, now)
             }
-            None => self.judge(now),
+            None => self.judge_first(now),
         }
     }
 }

@@ -1,4 +1,4 @@
-//! Each work, stopped at each call of the log, and then at each call of the file.
+//! Each work, stopped at each call of the log and, in a test of its own, at each call of the file.
 use crate::disks::Which;
 use crate::requests::{MESSAGES, MORE};
 use crate::stops::{Tally, stop_at_each};
@@ -28,53 +28,93 @@ fn is_right(tally: &Tally, least: [u64; 3]) -> bool {
         && tally.whole >= whole
 }
 
-// Whether all is right where the log stops, and where the file does. Prints the two tallies.
-fn stopped(rt: &HostRuntime, work: Work, log: [u64; 3], file: [u64; 3]) -> Result<bool, Fail> {
-    let at_log = stop_at_each(rt.alloc(), work, Which::Log)?;
-    println!(rt; "log: {at_log:?}")?;
-    let at_file = stop_at_each(rt.alloc(), work, Which::File)?;
-    println!(rt; "file: {at_file:?}")?;
-    Ok(is_right(&at_log, log) && is_right(&at_file, file))
+// Whether all is right where this disk stops. Prints the tally.
+fn stopped(rt: &HostRuntime, work: Work, which: Which, least: [u64; 3]) -> Result<bool, Fail> {
+    let tally = stop_at_each(rt.alloc(), work, which)?;
+    println!(rt; "{which:?}: {tally:?}")?;
+    Ok(is_right(&tally, least))
 }
 
 #[test]
-fn a_store_is_made(rt: HostRuntime) -> Result<(), Fail> {
+fn a_store_is_made_log(rt: HostRuntime) -> Result<(), Fail> {
     let work = Work::at_once(State::NOTHING, State::second(0));
-    assert!(rt; stopped(&rt, work, [40, 20, 1], [15, 4, 0])?);
+    assert!(rt; stopped(&rt, work, Which::Log, [40, 20, 1])?);
     Ok(())
 }
 
 #[test]
-fn a_mount_begins(rt: HostRuntime) -> Result<(), Fail> {
+fn a_store_is_made_file(rt: HostRuntime) -> Result<(), Fail> {
+    let work = Work::at_once(State::NOTHING, State::second(0));
+    assert!(rt; stopped(&rt, work, Which::File, [15, 4, 0])?);
+    Ok(())
+}
+
+#[test]
+fn a_mount_begins_log(rt: HostRuntime) -> Result<(), Fail> {
     let work = Work::at_once(State::second(MORE), MOUNTED);
-    assert!(rt; stopped(&rt, work, [80, 8, 1], [60, 6, 0])?);
+    assert!(rt; stopped(&rt, work, Which::Log, [80, 8, 1])?);
     Ok(())
 }
 
 #[test]
-fn a_store_is_migrated(rt: HostRuntime) -> Result<(), Fail> {
+fn a_mount_begins_file(rt: HostRuntime) -> Result<(), Fail> {
+    let work = Work::at_once(State::second(MORE), MOUNTED);
+    assert!(rt; stopped(&rt, work, Which::File, [60, 6, 0])?);
+    Ok(())
+}
+
+#[test]
+fn a_store_is_migrated_log(rt: HostRuntime) -> Result<(), Fail> {
     let work = Work::at_once(FIRST, State::second(MESSAGES));
-    assert!(rt; stopped(&rt, work, [80, 10, 1], [50, 4, 0])?);
+    assert!(rt; stopped(&rt, work, Which::Log, [80, 10, 1])?);
     Ok(())
 }
 
 #[test]
-fn the_run_in_one_group(rt: HostRuntime) -> Result<(), Fail> {
+fn a_store_is_migrated_file(rt: HostRuntime) -> Result<(), Fail> {
+    let work = Work::at_once(FIRST, State::second(MESSAGES));
+    assert!(rt; stopped(&rt, work, Which::File, [50, 4, 0])?);
+    Ok(())
+}
+
+#[test]
+fn the_run_in_one_group_log(rt: HostRuntime) -> Result<(), Fail> {
     let work = Work::at_once(State::second(0), State::second(MESSAGES));
-    assert!(rt; stopped(&rt, work, [250, 20, 1], [30, 12, 0])?);
+    assert!(rt; stopped(&rt, work, Which::Log, [250, 20, 1])?);
     Ok(())
 }
 
 #[test]
-fn the_first_groups(rt: HostRuntime) -> Result<(), Fail> {
+fn the_run_in_one_group_file(rt: HostRuntime) -> Result<(), Fail> {
+    let work = Work::at_once(State::second(0), State::second(MESSAGES));
+    assert!(rt; stopped(&rt, work, Which::File, [30, 12, 0])?);
+    Ok(())
+}
+
+#[test]
+fn the_first_groups_log(rt: HostRuntime) -> Result<(), Fail> {
     let work = Work::in_groups(State::second(0), State::second(4));
-    assert!(rt; stopped(&rt, work, [250, 20, 4], [60, 25, 0])?);
+    assert!(rt; stopped(&rt, work, Which::Log, [250, 20, 4])?);
     Ok(())
 }
 
 #[test]
-fn the_last_groups(rt: HostRuntime) -> Result<(), Fail> {
+fn the_first_groups_file(rt: HostRuntime) -> Result<(), Fail> {
+    let work = Work::in_groups(State::second(0), State::second(4));
+    assert!(rt; stopped(&rt, work, Which::File, [60, 25, 0])?);
+    Ok(())
+}
+
+#[test]
+fn the_last_groups_log(rt: HostRuntime) -> Result<(), Fail> {
     let work = Work::in_groups(State::second(4), State::second(MESSAGES));
-    assert!(rt; stopped(&rt, work, [140, 20, 4], [90, 20, 0])?);
+    assert!(rt; stopped(&rt, work, Which::Log, [140, 20, 4])?);
+    Ok(())
+}
+
+#[test]
+fn the_last_groups_file(rt: HostRuntime) -> Result<(), Fail> {
+    let work = Work::in_groups(State::second(4), State::second(MESSAGES));
+    assert!(rt; stopped(&rt, work, Which::File, [90, 20, 0])?);
     Ok(())
 }

@@ -1,6 +1,6 @@
 use Rattle.std.proofs.Common.{◌∙◌, sym, ap}
 use Rattle.sqlite.specs.Held.{state}
-use Rattle.fuse_tree.specs.Rows.{Rows}
+use Rattle.fuse_tree.specs.Rows.{Rows, rowed}
 use Rattle.fuse_store.proofs.Peeking.{looked_well, looked_wrong}
 use Rattle.fuse_store.proofs.table_keeper.TableKeeper.room.Goals as goal
 
@@ -17,5 +17,6 @@ returns-in-Err-clause-looked g c =
     c.in-Err.ensures.open c.in-Err.ensures.fault c.args.self.now.lot c.args.self.now.failed
 
 pub returns-in-Ok-clause-ok : goal.returns-in-Ok-clause-ok
+unfolding rowed
 returns-in-Ok-clause-ok g c = λ clean rows records at rowed.
     c.in-Ok.ensures.value clean at.holding at.rests ∙ sym (ap (λ (r : Rows). r.counters.room) at.is_of.rows_are)
