@@ -142,7 +142,7 @@ def settled_after_fault(program, cases, work, looks):
 def refused(program, work):
     """The wanted and the seen lines where the words name neither or both ways to begin, and where there is no store to resume."""
     usage = ["status 2", "usage: one of --fresh and --resume", "nothing is made"]
-    no_store = ["status 3", "store: NotAStore", "nothing is made"]
+    no_store = ["status 3", "store: NotAStore", f"{store_of(work)}: No such file or directory", "nothing is made"]
     seen = []
     for ways in ([], ["--fresh", "--resume"], ["--resume"]):
         store = store_of(work)
