@@ -255,8 +255,8 @@ bytes_of_store() {
 
 # A directory is made and committed, its server dies before it answers, and the caller is killed after the next server has asked for the
 # pending requests and before it reads one. The kernel drops the request, though it knew the name as absent for a day: the directory is
-# seen at once, since that server also had all names looked up again. The caller works in a directory whose attributes the kernel keeps
-# for a day, too, so that the request that makes the directory is its only one.
+# seen at once, since that server also had all names looked up again. Linux looks the name up once more before it sends MKDIR, so the
+# server dies at its second answer. The caller works in a directory whose attributes the kernel keeps, too.
 killed_caller() {
   local server caller
   write_pausing_engine
@@ -266,7 +266,7 @@ killed_caller() {
   caller=$!
   record "$caller"
   await 60 [ -e knows ] || return 1
-  strace -qq -o /dev/null -p "$server" -e trace=write,writev -e inject=write,writev:signal=KILL &
+  strace -qq -o /dev/null -p "$server" -P /dev/fuse -e trace=write,writev -e inject=write,writev:signal=KILL:when=2 &
   record $!
   await 60 is_traced "$server" && touch pauses && echo >go && await 60 has_written_by 32 "$server" || return 1
   rm pauses
@@ -281,7 +281,7 @@ write_pausing_engine() {
   cat >pausing-engine <<END
 #!/bin/sh
 [ -e "$PWD/pauses" ] || exec "$engine" "\$@"
-exec strace -D -qq -o /dev/null -e trace=read,readv -e inject=read,readv:delay_enter=3000000 "$engine" "\$@"
+exec strace -D -qq -o /dev/null -P /dev/fuse -e trace=read,readv -e inject=read,readv:delay_enter=3000000 "$engine" "\$@"
 END
   chmod +x pausing-engine
   export FUSEKEEP=$PWD/pausing-engine
