@@ -1,13 +1,15 @@
 """Tries the must-fail edits: each changes the behaviour of a function, and the prover must refuse that function.
 
 `rt ci` tries one edit a check. Here one check tries all edits of a crate that change different functions, or constants that
-different functions name. Callers see only a function's contract, so no such edit affects the proof of another function. Three things
+different functions name. Callers see only a function's contract, so no such edit affects the proof of another function. Four things
 make a check short:
 
 - It checks only the functions that edits change; of those that name a changed constant, only the shortest.
 - Each other function gets a hole in place of its proof and an endless loop as its body. The prover then takes it by its contract, which
   `rt ci` proves. Lemmas get holes too (holes.py).
 - It reuses the results of earlier checks (`--incremental`).
+- Each function that an edit changes gets an answer for a goal that isn't there. For the answers that a function lacks `rattle` would else
+  prove it once more, to print them. The errors in the added lines count for nothing (holes.py).
 
 An edit counts as refused only where the prover refuses a function that the edit changes, for a reason of that function's own. An edit
 that isn't refused so is tried again, alone, over the whole crate; and so is an edit that changes anything other than functions. Where a
@@ -18,6 +20,7 @@ witness, the shortest function that edits change must be proved without them; an
 The lines of `rattle check` that are read here. PATH names a function, as `fuse_wire::access_mode::AccessMode::of`. Other lines are
 skipped, and so is the rest of a line.
 
+    checked PATH, 3 of 45              with --progress: the proof of a function has ended; this line comes at once, the others at the end
     fn PATH: proved
     fn PATH: no holes                  with --allow-holes: proved, and so is all that it calls and cites
     fn PATH: depends on a hole in `Rattle.fuse_wire.proofs.fields.u32_of.Proof.u32_of_spec`
@@ -47,6 +50,7 @@ import shutil
 import subprocess
 import sys
 import tempfile
+import time
 from concurrent.futures import ThreadPoolExecutor
 from dataclasses import dataclass
 from pathlib import Path
@@ -63,6 +67,8 @@ REMOVED = re.compile(r"has no field|is not in scope|has no `|was not admitted")
 UNREAD = re.compile(r"(?m)^(?:\./)?(src/\S+?):(\d+):\d+: error\[")
 # The memory of a check of the largest crate with edits, in bytes.
 LARGEST = 3_500_000_000
+# How many of the longest proofs of a crate are printed.
+LONGEST = 5
 
 
 @dataclass
@@ -113,13 +119,22 @@ def words_over(tree, crate):
 
 
 def rattle(verb, words, folder):
-    """Runs `rattle`; its output, and its seconds of processor time."""
+    """Runs `rattle`; its output, its seconds of processor time, and the seconds by the clock after which each line came."""
     how = {"stdin": subprocess.DEVNULL, "stdout": subprocess.PIPE, "stderr": subprocess.STDOUT, "text": True, "errors": "replace"}
+    began, said, moments = time.monotonic(), [], []
     with subprocess.Popen([KIT / "bin/rattle", verb, *words], cwd=folder, **how) as ran:
-        said = ran.stdout.read()
+        for line in ran.stdout:
+            said.append(line)
+            moments.append(time.monotonic() - began)
         _, status, used = os.wait4(ran.pid, 0)
         ran.returncode = os.waitstatus_to_exitcode(status)
-    return said, used.ru_utime + used.ru_stime
+    return "".join(said), used.ru_utime + used.ru_stime, moments
+
+
+def seconds_of(said, moments):
+    """The seconds by the clock that the proof of each function took, but for those of the first."""
+    ended = [(at, line.split(" ")[1].rstrip(",")) for at, line in zip(moments, said.split("\n")) if line.startswith("checked ")]
+    return [(at - before, path) for (before, _), (at, path) in zip(ended, ended[1:])]
 
 
 def build(tree, crate):
@@ -127,7 +142,7 @@ def build(tree, crate):
     folder = tree / "crates" / crate
     library(tree, crate).parent.mkdir(parents=True)
     words = [*words_over(tree, crate), "--incremental", "out/incremental", "-o", library(tree, crate)]
-    said, _ = rattle("build", words, folder)
+    said, *_ = rattle("build", words, folder)
     if not library(tree, crate).is_dir():
         print(said[-4000:])
     return library(tree, crate).is_dir()
@@ -164,6 +179,8 @@ class Scratch:
         self.folder, self.source = Path(room) / crate, TOP / "crates" / crate
         self.words = [*words_over(tree, crate), "--incremental", "out"]
         self.checks, self.seconds = 0, 0.0
+        # the functions whose proofs took longest
+        self.longest = []
         self.is_proved = library(tree, crate).is_dir()
         # whether a check had holes, and whether a witness was proved
         self.has_holes, self.proves = False, False
@@ -205,7 +222,9 @@ class Scratch:
             holes = Holes(self.folder, self.source.name, self.sources)
             holes.open_lemmas()
             self.has_holes = True
-            said = self.check(functions | holes.open_others(edits), "--allow-holes")
+            for path in functions if applied else ():
+                holes.answer_no_goal(path)
+            said = holes.without_added(self.check(functions | holes.open_others(edits), "--allow-holes"))
             refused = re.findall(r"(?m)^(?:\./)?(proofs/\S+?):\d+:\d+: error: (.*)", said)
             wrong = [f"{file}: {why}" for file, why in refused if file in holes.files and "has-holes" not in why]
             if not wrong and re.search(r"(?m)^only=", said):
@@ -217,8 +236,9 @@ class Scratch:
     def check(self, functions, *flags):
         """Checks these functions, or the whole crate where there are none, over the results of earlier checks; its output."""
         only = [word for it in sorted(functions) for word in ("--only", it)]
-        said, seconds = rattle("check", [*self.words, *only, *flags], self.folder)
+        said, seconds, moments = rattle("check", [*self.words, "--progress", *only, *flags], self.folder)
         self.checks, self.seconds = self.checks + 1, self.seconds + seconds
+        self.longest = sorted(self.longest + seconds_of(said, moments), reverse=True)[:LONGEST]
         # Where a name fits no function, the prover checks nothing.
         is_unfit = not re.search(r"(?m)^only=", said) and not UNREAD.search(said)
         return self.check(()) if only and not flags and is_unfit else said
@@ -342,7 +362,9 @@ def try_crate(tree, crate):
 
 
 def summary_of(crate, edits, scratch):
-    return f"edits: {crate}: {len(edits)} edits, {scratch.checks} checks, {scratch.seconds:.0f} seconds of processor time"
+    longest = ", ".join(f"{path.split('::', 1)[1]} {seconds:.0f}" for seconds, path in scratch.longest)
+    counts = f"{len(edits)} edits, {scratch.checks} checks, {scratch.seconds:.0f} seconds of processor time"
+    return f"edits: {crate}: {counts}; the longest proofs, by the clock: {longest}"
 
 
 def check_unedited(tree, crate):

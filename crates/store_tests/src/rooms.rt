@@ -1,4 +1,8 @@
 //! Everyday stores: their room, and the nodes that go.
+ghost use Rattle.std.specs.Prelude.{◌<◌, ◌≤◌, ◌^◌, IfSome};
+ghost use Rattle.fuse_tree.specs.Bounds.{capacity_end, file_limit};
+ghost use Rattle.fuse_tree.specs.Columns.{FitsNode, FitsHandle};
+
 use crate::stores::number;
 use fuse_init::Profile;
 use fuse_keeper::StoreFault;
@@ -19,14 +23,18 @@ const ROOM: &str =
 
 const NODES: &str = "SELECT count(*) FROM nodes";
 
-fn made(alloc: Global, room: Option<u64>) -> Result<Connection<MemStore>, StoreFault> {
+fn made(alloc: Global, room: Option<u64>) -> Result<Connection<MemStore>, StoreFault>
+    requires { IfSome room (λ capacity. capacity < capacity_end) }
+{
     let mut conn = Connection::open_in_memory(alloc)?;
     make_store(&mut conn, room, START)?;
     Ok(conn)
 }
 
 // The profile and the room of a new store.
-fn opened(alloc: Global, room: Option<u64>) -> Result<(bool, i64), StoreFault> {
+fn opened(alloc: Global, room: Option<u64>) -> Result<(bool, i64), StoreFault>
+    requires { IfSome room (λ capacity. capacity < capacity_end) }
+{
     let mut conn = made(alloc, room)?;
     let is_everyday = match set_up(&mut conn)? {
         Profile::Plain => false,
@@ -62,7 +70,11 @@ fn a_damaged_room(rt: HostRuntime) -> Result<(), StoreFault> {
     Ok(())
 }
 
-fn node(number: u64, size: u64) -> NodeRow {
+fn node(number: u64, size: u64) -> NodeRow
+    requires number { number < 2 ^ 63 }
+    requires size { size ≤ file_limit }
+    ensures { FitsNode result }
+{
     NodeRow {
         node: number,
         mode: 0o100644,
@@ -110,22 +122,24 @@ fn the_blocks_of_a_mount(rt: HostRuntime) -> Result<(), StoreFault> {
     Ok(())
 }
 
-fn opens(conn: &mut Connection<MemStore>, fh: u64, node: u64) -> Result<(), StoreFault> {
-    let row = HandleRow {
+fn handle(fh: u64, node: u64) -> HandleRow
+    requires fh { fh < 2 ^ 63 }
+    requires node { node < 2 ^ 63 }
+    ensures { FitsHandle result }
+{
+    HandleRow {
         fh,
         node,
         access: AccessMode::ReadOnly,
-    };
-    insert_handle(conn, &row)?;
-    Ok(())
+    }
 }
 
 #[test]
 fn the_handles_of_a_node(rt: HostRuntime) -> Result<(), StoreFault> {
     let mut conn = begun(rt.alloc())?;
-    opens(&mut conn, 1, 2)?;
-    opens(&mut conn, 2, 3)?;
-    opens(&mut conn, 3, 2)?;
+    insert_handle(&mut conn, &handle(1, 2))?;
+    insert_handle(&mut conn, &handle(2, 3))?;
+    insert_handle(&mut conn, &handle(3, 2))?;
     let all = select_handles_of(&mut conn, 2, 9)?.len();
     let first = select_handles_of(&mut conn, 2, 1)?.len();
     let none = select_handles_of(&mut conn, 1, 9)?.len();
