@@ -185,7 +185,7 @@ class Scratch:
         # whether a check had holes, and whether a witness was proved
         self.has_holes, self.proves = False, False
         self.sources = Sources(crate)
-        self.places = {path: (file, self.sources.begin_of(path), last) for path, (file, _, last) in self.sources.places.items()}
+        self.places = self.sources.places
         self.folder.mkdir()
         kept = tree / "crates" / crate / "out" / "incremental"
         if kept.is_dir():

@@ -9,9 +9,8 @@ HOLE = """use Rattle.{crate}.proofs.{module}.Statement.{{statement}}
 pub {name}_spec : {{M : Type 1}} → statement M
 {name}_spec = ?
 """
-# An answer for a goal that isn't there, and what it needs where a function has no answers that name its goals.
-NO_GOAL = "\npub no_goal : goal.no_goal\nno_goal c = c\n"
-GOALS = "use Rattle.{crate}.proofs.{module}.Goals as goal\n"
+# What is added before and after a function's answers: one for a goal that isn't there.
+NO_GOAL = ("use Rattle.{crate}.proofs.{module}.Goals as no_goals\n", "\npub no_goal : no_goals.no_goal\nno_goal c = c\n")
 # The first line of a lemma's statement.
 LEMMA = re.compile(r"(?:pub )?([^\s(){}:,;]+) :(?: |$)")
 # The beginnings of a line that continues the one before.
@@ -91,16 +90,16 @@ class Holes:
         """Adds an answer for a goal that isn't there to a function's answers. Then the function isn't proved, whatever else is, but
         `rattle` searches all its goals and doesn't prove them once more to print the answers that they lack."""
         folder, (_, *names) = self.proof_of(path), path.split("::")
+        if (folder / "Proof.antt").is_file() or self.sources.is_bound(path):
+            return
         place = folder / "Answers.antt"
         answers = place.read_text(encoding="utf-8") if place.is_file() else ""
-        goals = "" if ".Goals as goal\n" in answers else GOALS.format(crate=self.crate, module=".".join(names))
-        if (folder / "Proof.antt").is_file() or self.sources.is_bound(path) or goals and ".Goals" in answers:
-            return
-        text = goals + answers + NO_GOAL
+        before, after = (it.format(crate=self.crate, module=".".join(names)) for it in NO_GOAL)
+        text = before + answers + after
         folder.mkdir(parents=True, exist_ok=True)
         place.write_text(text, encoding="utf-8")
         last = text.count("\n")
-        self.added[place.relative_to(self.folder).as_posix()] = {last - 1, last, *([1] if goals else [])}
+        self.added[place.relative_to(self.folder).as_posix()] = {1, last - 1, last}
 
     def without_added(self, said):
         """The output of a check without the errors in the lines that were added to answers."""

@@ -94,14 +94,6 @@ class Sources:
     def items(self, of):
         return ((file, *item) for file, items in of.items() for item in items)
 
-    def begin_of(self, path):
-        """The first line of a function with its attributes. There its goals may stand."""
-        file, first, _ = self.places[path]
-        lines = self.lines[file]
-        while first > 0 and lines[first - 1].strip() and not lines[first - 1].endswith(("{", "}", ";")):
-            first -= 1
-        return first
-
     def naming(self, name, home):
         """The functions that name a constant, or another constant that names it; unless it is public, only those of its own file."""
         word = re.compile(rf"\b{name}\b")
