@@ -1,15 +1,13 @@
 """Tries the must-fail edits: each changes the behaviour of a function, and the prover must refuse that function.
 
 `rt ci` tries one edit a check. Here one check tries all edits of a crate that change different functions, or constants that
-different functions name. Callers see only a function's contract, so no such edit affects the proof of another function. Four things
+different functions name. Callers see only a function's contract, so no such edit affects the proof of another function. Three things
 make a check short:
 
 - It checks only the functions that edits change; of those that name a changed constant, only the shortest.
 - Each other function gets a hole in place of its proof and an endless loop as its body. The prover then takes it by its contract, which
   `rt ci` proves. Lemmas get holes too (holes.py).
 - It reuses the results of earlier checks (`--incremental`).
-- Each function that an edit changes gets an answer for a goal that isn't there. For the answers that a function lacks `rattle` would else
-  prove it once more, to print them. The errors in the added lines count for nothing (holes.py).
 
 An edit counts as refused only where the prover refuses a function that the edit changes, for a reason of that function's own. An edit
 that isn't refused so is tried again, alone, over the whole crate; and so is an edit that changes anything other than functions. Where a
@@ -222,9 +220,7 @@ class Scratch:
             holes = Holes(self.folder, self.source.name, self.sources)
             holes.open_lemmas()
             self.has_holes = True
-            for path in functions if applied else ():
-                holes.answer_no_goal(path)
-            said = holes.without_added(self.check(functions | holes.open_others(edits), "--allow-holes"))
+            said = self.check(functions | holes.open_others(edits), "--allow-holes")
             refused = re.findall(r"(?m)^(?:\./)?(proofs/\S+?):\d+:\d+: error: (.*)", said)
             wrong = [f"{file}: {why}" for file, why in refused if file in holes.files and "has-holes" not in why]
             if not wrong and re.search(r"(?m)^only=", said):

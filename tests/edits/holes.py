@@ -9,8 +9,6 @@ HOLE = """use Rattle.{crate}.proofs.{module}.Statement.{{statement}}
 pub {name}_spec : {{M : Type 1}} → statement M
 {name}_spec = ?
 """
-# What is added before and after a function's answers: one for a goal that isn't there.
-NO_GOAL = ("use Rattle.{crate}.proofs.{module}.Goals as no_goals\n", "\npub no_goal : no_goals.no_goal\nno_goal c = c\n")
 # The first line of a lemma's statement.
 LEMMA = re.compile(r"(?:pub )?([^\s(){}:,;]+) :(?: |$)")
 # The beginnings of a line that continues the one before.
@@ -53,8 +51,6 @@ class Holes:
     def __init__(self, folder, crate, sources):
         self.folder, self.crate, self.sources = folder, crate, sources
         self.files = set()
-        # the lines that were added to answers, by the file
-        self.added = {}
 
     def proof_of(self, path):
         """The folder of a function's proof files."""
@@ -85,27 +81,6 @@ class Holes:
             self.empty_body(path)
             self.open_proof(path)
         return witness
-
-    def answer_no_goal(self, path):
-        """Adds an answer for a goal that isn't there to a function's answers. Then the function isn't proved, whatever else is, but
-        `rattle` searches all its goals and doesn't prove them once more to print the answers that they lack."""
-        folder, (_, *names) = self.proof_of(path), path.split("::")
-        if (folder / "Proof.antt").is_file() or self.sources.is_bound(path):
-            return
-        place = folder / "Answers.antt"
-        answers = place.read_text(encoding="utf-8") if place.is_file() else ""
-        before, after = (it.format(crate=self.crate, module=".".join(names)) for it in NO_GOAL)
-        text = before + answers + after
-        folder.mkdir(parents=True, exist_ok=True)
-        place.write_text(text, encoding="utf-8")
-        last = text.count("\n")
-        self.added[place.relative_to(self.folder).as_posix()] = {1, last - 1, last}
-
-    def without_added(self, said):
-        """The output of a check without the errors in the lines that were added to answers."""
-        at = [re.match(r"(?:\./)?(proofs/\S+?):(\d+):\d+: error: ", line) for line in said.split("\n")]
-        is_added = lambda it: it and int(it[2]) in self.added.get(it[1], ())
-        return "\n".join(line for line, it in zip(said.split("\n"), at) if not is_added(it))
 
     def open_proof(self, path):
         """Puts a hole in place of a function's proof."""
