@@ -24,17 +24,21 @@ static const char *const others_words[] = {
   "user=", "comment=", "x-", "X-",
 };
 
+static bool begins(const char *word, const char *prefix) {
+  return strncmp(word, prefix, strlen(prefix)) == 0;
+}
+
 static bool is_for_others(const char *word) {
   for (size_t i = 0; i < sizeof others_words / sizeof *others_words; i++) {
-    size_t length = strlen(others_words[i]);
-    bool begins = strchr("=-", others_words[i][length - 1]);
-    if (begins ? strncmp(word, others_words[i], length) == 0 : strcmp(word, others_words[i]) == 0) return true;
+    const char *other = others_words[i];
+    bool is_prefix = strchr("=-", other[strlen(other) - 1]);
+    if (is_prefix ? begins(word, other) : strcmp(word, other) == 0) return true;
   }
   return false;
 }
 
 static bool is_max_read(const char *word) {
-  if (strncmp(word, "max_read=", strlen("max_read=")) != 0) return false;
+  if (!begins(word, "max_read=")) return false;
   const char *digits = word + strlen("max_read=");
   return *digits && !digits[strspn(digits, "0123456789")];
 }
@@ -53,6 +57,8 @@ static bool take_option(struct supervisor *s, const char *word) {
       return append(s->options, word);
     }
   if (strcmp(word, "wary") == 0) return s->wary = true;
+  if (begins(word, "profile=")) return take_profile(s, word + strlen("profile="));
+  if (begins(word, "size=")) return take_size(s, word + strlen("size="));
   if (strcmp(word, "default_permissions") == 0 || is_for_others(word)) return true;
   if (strcmp(word, "allow_other") == 0 || is_max_read(word)) return append(s->data, word) && append(s->options, word);
   if (!s->sloppy) say("the option %s isn't known", word);
@@ -73,6 +79,7 @@ int print_help(void) {
   static const char help[] =
     "usage: fusekeep-mount [-f] [-o OPTIONS] STORE MOUNTPOINT\n"
     "       fusekeep-mount --server STORE\n"
+    "       fusekeep-mount --help | --version\n"
     "\n"
     "Mounts the store in the file STORE on the directory MOUNTPOINT, and keeps the mount alive when its server dies.\n"
     "  -f              stay in the foreground\n"
@@ -90,6 +97,8 @@ int print_help(void) {
     "                  as in mount(8)\n"
     "  allow_other     all users may access the files, as owners and modes permit\n"
     "  max_read=N      as in mount.fuse(8)\n"
+    "  profile=P       a new store is of the profile plain or everyday (everyday)\n"
+    "  size=N          a new everyday store has room for N bytes, or for N K, M, G or T (nine tenths of the free space)\n"
     "  wary            the servers suppose less of the disk, and each commit syncs twice\n"
     "  default_permissions\n"
     "                  always on, given or not\n"
@@ -98,6 +107,10 @@ int print_help(void) {
     "\n"
     "fusekeep-mount(8) says more.\n";
   return fputs(help, stdout) >= 0 && fflush(stdout) == 0 ? 0 : FAILED;
+}
+
+int print_version(void) {
+  return puts("fusekeep-mount " VERSION ", sources " SOURCES) >= 0 && fflush(stdout) == 0 ? 0 : FAILED;
 }
 
 /* mount(8) gives the options after the operands. Its own `-f` means to do all but the mount. */
@@ -111,7 +124,7 @@ bool read_arguments(struct supervisor *s, int argc, char **argv) {
     if (letter == 'o' && !take_options(s, optarg)) return false;
     if (letter == '?') is_known = false;
   }
-  if (is_known && argc - optind == 2) return true;
+  if (is_known && argc - optind == 2) return fits_profile(s);
   say("usage: %s", by_mount ? "STORE MOUNTPOINT [-sfnv] [-o OPTIONS]" : "[-f] [-o OPTIONS] STORE MOUNTPOINT, or --server STORE");
   return false;
 }

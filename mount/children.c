@@ -7,6 +7,8 @@
 #include <sys/prctl.h>
 #include <sys/wait.h>
 
+enum { MOST_WORDS = 16 }; /* of an engine */
+
 pid_t fork_child(void) {
   pid_t parent = getpid(), child = fork();
   if (child < 0) refused("fork");
@@ -21,7 +23,20 @@ void give_back_signals(const struct supervisor *s) {
   sigprocmask(SIG_SETMASK, &s->mask, NULL);
 }
 
+/* The words of `fusekeep serve`, which end by NULL. The mode stands after those of a new store. */
+static void put_words(const struct supervisor *s, const char *mode, const char **words) {
+  static const char *const first[] = {"fusekeep", "serve", "--db"};
+  memcpy(words, first, sizeof first);
+  size_t count = sizeof first / sizeof *first;
+  words[count++] = s->store;
+  if (strcmp(mode, "--fresh") == 0) count += words_of_store(s, words + count);
+  words[count++] = mode;
+  if (s->wary) words[count++] = "--wary";
+  words[count] = NULL;
+}
+
 pid_t start_engine(const struct supervisor *s, const char *mode, int device) {
+  const char *words[MOST_WORDS];
   if (ftruncate(s->lock, 0) != 0) refused("lock");
   pid_t child = fork_child();
   if (child != 0) return child;
@@ -29,19 +44,25 @@ pid_t start_engine(const struct supervisor *s, const char *mode, int device) {
   if (dup2(device, STDIN_FILENO) < 0 || dup2(device, STDOUT_FILENO) < 0) _exit(CANNOT_RUN);
   close_range(FIRST_OTHER, ~0U, 0);
   give_back_signals(s);
-  execlp(s->engine, "fusekeep", "serve", "--db", s->store, mode, s->wary ? "--wary" : NULL, NULL);
+  put_words(s, mode, words);
+  execvp(s->engine, (char **)words);
   dprintf(STDERR_FILENO, "%s: %s\n", s->engine, strerror(errno));
   _exit(CANNOT_RUN);
 }
 
 const char *last_line(const struct supervisor *s) {
-  static char text[LINE_SIZE];
-  off_t end = lseek(s->lock, 0, SEEK_END), begin = end < LINE_SIZE ? 0 : end - LINE_SIZE + 1;
-  ssize_t length = pread(s->lock, text, sizeof text - 1, begin);
+  static char text[LINE_SIZE + PATH_SIZE], joined[sizeof text + sizeof "; "];
+  off_t room = sizeof text - 1, end = lseek(s->lock, 0, SEEK_END);
+  ssize_t length = pread(s->lock, text, room, end < room ? 0 : end - room);
   while (length > 0 && text[length - 1] == '\n') length--;
   text[length > 0 ? length : 0] = '\0';
+  char *cause = strrchr(text, '\n');
+  if (!cause) return text;
+  *cause++ = '\0';
+  if (strncmp(cause, s->store, strlen(s->store)) != 0) return cause;
   char *before = strrchr(text, '\n');
-  return before ? before + 1 : text;
+  snprintf(joined, sizeof joined, "%s; %s", before ? before + 1 : text, cause);
+  return joined;
 }
 
 const char *ending(const struct supervisor *s, int status) {

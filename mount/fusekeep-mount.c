@@ -263,6 +263,7 @@ int main(int argc, char **argv) {
   while (null >= 0 && null < FIRST_OTHER);
   close(null);
   if (argc == 2 && !is_helper(argv[0]) && strcmp(argv[1], "--help") == 0) return print_help();
+  if (argc == 2 && !is_helper(argv[0]) && strcmp(argv[1], "--version") == 0) return print_version();
   if (argc == 3 && !is_helper(argv[0]) && strcmp(argv[1], "--server") == 0) return print_server(argv[2]);
   if (!read_arguments(&s, argc, argv)) return USAGE;
   if (s.fake) return 0;

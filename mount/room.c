@@ -17,7 +17,7 @@ static bool has_room(const struct supervisor *s, unsigned long long bytes) {
 }
 
 bool lacks_room(const struct supervisor *s) {
-  return !has_room(s, LEAST_ROOM);
+  return !has_room(s, LEAST_ROOM) || strstr(last_line(s), ": no room left");
 }
 
 void explain(const struct supervisor *s) {

@@ -31,11 +31,6 @@ bool unwritable(const char *path) {
   return false;
 }
 
-static bool exists(const char *path) {
-  struct stat found;
-  return lstat(path, &found) == 0;
-}
-
 /* Opens a file, and says whether this call made it. */
 static int open_or_make(const char *path, int flags, bool *made) {
   int file = open(path, flags | O_CREAT | O_EXCL | O_RDWR | O_CLOEXEC, 0644);
@@ -83,8 +78,9 @@ static bool has_one_name(const struct supervisor *s, int file, const char *store
 
 bool hold_store(struct supervisor *s, const char *store) {
   int file = open_or_make(store, 0, &s->made_store);
+  struct stat found;
   if (file < 0 || !realpath(store, s->store)) return unwritable(store);
-  s->made_log = !exists(beside(s, LOG_SUFFIX));
+  s->is_new = fstat(file, &found) == 0 && found.st_size == 0;
   bool is_free = has_one_name(s, file, store) && take_lock(s);
   for (int left = LOCK_TRIES; is_free && is_held(file); poll(NULL, 0, LOCK_PAUSE)) {
     if (left-- > 0) continue;
@@ -106,6 +102,7 @@ static bool begins(struct supervisor *s, int *status) {
 
 int begin_in_store(struct supervisor *s) {
   int status;
+  choose_profile(s);
   bool has_begun = begins(s, &status);
   if (!has_begun && lacks_room(s) && give_up_reserve(s)) has_begun = begins(s, &status);
   if (has_begun) return keep_reserve(s), 0;
@@ -116,18 +113,8 @@ int begin_in_store(struct supervisor *s) {
   return WIFEXITED(status) ? WEXITSTATUS(status) : FAILED;
 }
 
-/* A log that an engine made beside a file that is no store holds nothing of it. */
-static bool refuses_file(const struct supervisor *s) {
-  static const char *const lines[] = {"store: NotAStore", "store: Version(", "store: Damaged"};
-  const char *line = s->lock > 0 ? last_line(s) : "";
-  for (size_t i = 0; i < sizeof lines / sizeof *lines; i++)
-    if (strncmp(line, lines[i], strlen(lines[i])) == 0) return true;
-  return false;
-}
-
 void leave_no_trace(const struct supervisor *s) {
   struct stat found;
-  if (s->made_log && refuses_file(s)) unlink(beside(s, LOG_SUFFIX));
   if (s->made_store && lstat(s->store, &found) == 0 && found.st_size == 0) unlink(s->store);
   if (s->made_lock) unlink(beside(s, LOCK_SUFFIX));
 }

@@ -45,6 +45,9 @@ enum trouble { NO_TROUBLE, LINKED, MOVED, REMOVED, LOG_REMOVED, OTHER_LOG };
 struct supervisor {
   bool foreground, fake, sloppy;
   bool wary;                                       /* the servers suppose nothing of torn writes */
+  const char *profile;                             /* of a new store; NULL where nothing is said */
+  unsigned long long size;                         /* bytes for which it has room */
+  bool has_size, is_new;                           /* there is a size; the store is to be made */
   const char *engine;
   char store[PATH_MAX], mountpoint[PATH_MAX];
   unsigned long flags;                             /* of mount(2) */
@@ -54,7 +57,7 @@ struct supervisor {
   sigset_t mask;                                   /* with which this process was called */
   pid_t server, probe, unmounter;                  /* 0 for none */
   bool ready, stop_requested, is_unmounted;
-  bool made_store, made_lock, made_log;            /* by this process, or by an engine that it ran */
+  bool made_store, made_lock;                      /* by this process */
   bool is_full;                                    /* servers end because the disk has no room */
   bool has_reserve, gave_reserve;                  /* the reserve is there; it was given up */
   enum trouble trouble;
@@ -84,8 +87,9 @@ bool read_arguments(struct supervisor *s, int argc, char **argv);
 /* Whether this program runs as mount(8)'s helper. */
 bool is_helper(const char *name);
 
-/* Prints how this program is used, and returns its exit status. */
+/* Print how this program is used, or its version, and return its exit status. */
 int print_help(void);
+int print_version(void);
 
 /* Finds the engine: the one that FUSEKEEP names, else the one in the source tree or the folder of this program, else the one on
  * PATH, which mount(8) doesn't pass on. */
@@ -103,10 +107,11 @@ pid_t fork_child(void);
 /* Restores the signals with which this process was called, before another program is executed. */
 void give_back_signals(const struct supervisor *s);
 
-/* Runs `fusekeep serve`. */
+/* Runs `fusekeep serve`. With `--fresh` a new store gets its profile. */
 pid_t start_engine(const struct supervisor *s, const char *mode, int device);
 
-/* The last line that an engine wrote to its standard error, which is the lock's file. The next call overwrites it. */
+/* The last line that an engine wrote to its standard error, which is the lock's file. A line that begins with the store's path is the
+ * cause of the one before, and follows it here. The next call overwrites it. */
 const char *last_line(const struct supervisor *s);
 
 /* How an engine ended, and the last line that it wrote. The next call overwrites it. */
@@ -133,9 +138,22 @@ int begin_in_store(struct supervisor *s);
 /* Removes the files that a refused mount has made. */
 void leave_no_trace(const struct supervisor *s);
 
+/* profile.c */
+
+/* Read the words of the options profile= and size=, and return whether they are valid; together they are if `fits_profile`. */
+bool take_profile(struct supervisor *s, const char *word);
+bool take_size(struct supervisor *s, const char *word);
+bool fits_profile(const struct supervisor *s);
+
+/* Sets what the options leave open: a new store is everyday, with room for nine tenths of the disk's free space. */
+void choose_profile(struct supervisor *s);
+
+/* The words with which an engine makes a new store, four at most; their number. */
+size_t words_of_store(const struct supervisor *s, const char **words);
+
 /* room.c */
 
-/* Whether the store's disk is full. */
+/* Whether the store's disk is full, or the last engine found it so. */
 bool lacks_room(const struct supervisor *s);
 
 /* Says why an engine could not write, if the disk is full or the store's folder is read-only. */

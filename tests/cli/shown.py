@@ -1,8 +1,8 @@
 """Compares the output of `store`, `ls` and `cat` with the rows that Python's own SQLite reads from a copy of a store and its log:
 shown PROGRAM STORE
 
-It looks at each directory and each file of the tree. The bytes of all contents must also be the sum of the sizes that the program
-answers to a GETATTR of each node. It prints a line for each difference, and counts in the last line."""
+It looks at each directory of the tree, and at each file of up to 16 MiB. The bytes of all contents must also be the sum of the sizes that
+the program answers to a GETATTR of each node. It prints a line for each difference, and counts in the last line."""
 import shutil
 import sqlite3
 import stat
@@ -14,7 +14,7 @@ from pathlib import Path
 
 from lib import messages as m
 
-BLOCK = 4096
+BLOCK, LONGEST = 4096, 1 << 24
 # An id that no record of a store has, and the place of the size in an answer to GETATTR.
 FREE_ID = 1 << 40
 SIZE_AT = 40
@@ -74,7 +74,13 @@ class Store:
         records, lots = (self.count("answers"), 1) if version == 1 else (self.count("kept"), self.count("lots"))
         counts = {"version": version, "nodes": self.count("nodes"), "handles": self.count("handles"), "records": records, "lots": lots,
                   "bytes": self.one("SELECT sum(size) FROM nodes")}
-        return "".join(f"{name}={count}\n" for name, count in counts.items()) + f"settings: {self.settings()}\n"
+        return "".join(f"{name}={count}\n" for name, count in {**counts, **self.room()}.items()) + f"settings: {self.settings()}\n"
+
+    def room(self):
+        """What `store` prints of the room of an everyday store."""
+        if self.one(META, 12) is None:
+            return {}
+        return {"profile": "everyday", "capacity": BLOCK * self.one(META, 13), "used": BLOCK * self.one(META, 14)}
 
     def line(self, name, child):
         """The line of an entry."""
@@ -96,10 +102,10 @@ class Store:
         for name, child in entries:
             if is_word(name):
                 below = f"{path}/{name.decode()}"
-                mode = self.one("SELECT mode FROM nodes WHERE node = ?", child)
+                mode, size = self.db.execute("SELECT mode, size FROM nodes WHERE node = ?", (child,)).fetchone()
                 if stat.S_ISDIR(mode):
                     yield from self.wanted(child, below)
-                elif stat.S_ISREG(mode):
+                elif stat.S_ISREG(mode) and size <= LONGEST:
                     yield ["cat", below], self.content(child)
 
 

@@ -10,14 +10,15 @@ make a check short:
 - It reuses the results of earlier checks (`--incremental`).
 
 An edit counts as refused only where the prover refuses a function that the edit changes, for a reason of that function's own. An edit
-that isn't refused so is tried again, alone, over the whole crate; and so is an edit that changes anything other than functions. A witness
-shows that the holes aren't the reason of the refusals: in the same check stands one function that no edit changes, with its own proof.
-Where no function can be the witness, the shortest function that edits change must be proved without them; and over a tree in which the
-crate isn't proved, all of them.
+that isn't refused so is tried again, alone, over the whole crate; and so is an edit that changes anything other than functions. Where a
+source can't be read because of some edits of a check, the others are tried again without them. A witness shows that the holes aren't the
+reason of the refusals: in the same check stands one function that no edit changes, with its own proof. Where no function can be the
+witness, the shortest function that edits change must be proved without them; and over a tree in which the crate isn't proved, all of them.
 
 The lines of `rattle check` that are read here. PATH names a function, as `fuse_wire::access_mode::AccessMode::of`. Other lines are
 skipped, and so is the rest of a line.
 
+    checked PATH, 3 of 45              with --progress: the proof of a function has ended; this line comes at once, the others at the end
     fn PATH: proved
     fn PATH: no holes                  with --allow-holes: proved, and so is all that it calls and cites
     fn PATH: depends on a hole in `Rattle.fuse_wire.proofs.fields.u32_of.Proof.u32_of_spec`
@@ -32,6 +33,8 @@ skipped, and so is the rest of a line.
                                        an error in a proof file: file, line, column, text
     note: src/access_mode.rt:26:5: it is not proved that what the function ensures holds when it returns (`returns-in_default`); ..
                                        a goal without a proof, by its place in the source
+    src/serving.rt:74:51: error[generic-argument-count]: the struct `PlainTree` takes 1 generic argument, and 0 are written: ..
+                                       the source isn't read further, and no function is checked
     only=38 proved=38                  the check of named functions (--only) has ended: how many were checked, how many are proved
     only=38 holes=38                   the same with --allow-holes
     only=0 proved=0                    none has that name
@@ -45,6 +48,7 @@ import shutil
 import subprocess
 import sys
 import tempfile
+import time
 from concurrent.futures import ThreadPoolExecutor
 from dataclasses import dataclass
 from pathlib import Path
@@ -57,8 +61,12 @@ KIT = Path(os.path.realpath(shutil.which("rt") or "rt")).parent.parent
 PARTS = ("src", "specs", "proofs")
 # The errors about a name that an edit removed.
 REMOVED = re.compile(r"has no field|is not in scope|has no `|was not admitted")
+# An error for which a source isn't read further.
+UNREAD = re.compile(r"(?m)^(?:\./)?(src/\S+?):(\d+):\d+: error\[")
 # The memory of a check of the largest crate with edits, in bytes.
 LARGEST = 3_500_000_000
+# How many of the longest proofs of a crate are printed.
+LONGEST = 5
 
 
 @dataclass
@@ -109,13 +117,22 @@ def words_over(tree, crate):
 
 
 def rattle(verb, words, folder):
-    """Runs `rattle`; its output, and its seconds of processor time."""
+    """Runs `rattle`; its output, its seconds of processor time, and the seconds by the clock after which each line came."""
     how = {"stdin": subprocess.DEVNULL, "stdout": subprocess.PIPE, "stderr": subprocess.STDOUT, "text": True, "errors": "replace"}
+    began, said, moments = time.monotonic(), [], []
     with subprocess.Popen([KIT / "bin/rattle", verb, *words], cwd=folder, **how) as ran:
-        said = ran.stdout.read()
+        for line in ran.stdout:
+            said.append(line)
+            moments.append(time.monotonic() - began)
         _, status, used = os.wait4(ran.pid, 0)
         ran.returncode = os.waitstatus_to_exitcode(status)
-    return said, used.ru_utime + used.ru_stime
+    return "".join(said), used.ru_utime + used.ru_stime, moments
+
+
+def seconds_of(said, moments):
+    """The seconds by the clock that the proof of each function took, but for those of the first."""
+    ended = [(at, line.split(" ")[1].rstrip(",")) for at, line in zip(moments, said.split("\n")) if line.startswith("checked ")]
+    return [(at - before, path) for (before, _), (at, path) in zip(ended, ended[1:])]
 
 
 def build(tree, crate):
@@ -123,7 +140,7 @@ def build(tree, crate):
     folder = tree / "crates" / crate
     library(tree, crate).parent.mkdir(parents=True)
     words = [*words_over(tree, crate), "--incremental", "out/incremental", "-o", library(tree, crate)]
-    said, _ = rattle("build", words, folder)
+    said, *_ = rattle("build", words, folder)
     if not library(tree, crate).is_dir():
         print(said[-4000:])
     return library(tree, crate).is_dir()
@@ -160,6 +177,8 @@ class Scratch:
         self.folder, self.source = Path(room) / crate, TOP / "crates" / crate
         self.words = [*words_over(tree, crate), "--incremental", "out"]
         self.checks, self.seconds = 0, 0.0
+        # the functions whose proofs took longest
+        self.longest = []
         self.is_proved = library(tree, crate).is_dir()
         # whether a check had holes, and whether a witness was proved
         self.has_holes, self.proves = False, False
@@ -213,10 +232,12 @@ class Scratch:
     def check(self, functions, *flags):
         """Checks these functions, or the whole crate where there are none, over the results of earlier checks; its output."""
         only = [word for it in sorted(functions) for word in ("--only", it)]
-        said, seconds = rattle("check", [*self.words, *only, *flags], self.folder)
+        said, seconds, moments = rattle("check", [*self.words, "--progress", *only, *flags], self.folder)
         self.checks, self.seconds = self.checks + 1, self.seconds + seconds
+        self.longest = sorted(self.longest + seconds_of(said, moments), reverse=True)[:LONGEST]
         # Where a name fits no function, the prover checks nothing.
-        return self.check(()) if only and not flags and not re.search(r"(?m)^only=", said) else said
+        is_unfit = not re.search(r"(?m)^only=", said) and not UNREAD.search(said)
+        return self.check(()) if only and not flags and is_unfit else said
 
 
 def notes_in(said, place):
@@ -251,12 +272,17 @@ def first_error(said, path):
 
 
 def try_batch(scratch, batch):
-    """Tries edits at once. Those that weren't refused for their own functions are tried again, each alone over the whole crate."""
+    """Tries edits at once. Those that weren't refused for their own functions are tried again, each alone over the whole crate; where some
+    of them can't be read, those, and the others at once."""
     is_alone = len(batch) == 1
     why = scratch.apply(batch)
     if why and is_alone:
         return [Tried(batch[0], False, f"BAD EDIT: {why}")]
     said = "" if why else scratch.check_batch(batch, batch)
+    unread = unread_of(batch, said, scratch.places)
+    if unread and not is_alone:
+        parts = [[it for it in batch if it not in unread], *([Edit(it.name, it.pairs)] for it in unread)]
+        return [it for part in parts if part for it in try_batch(scratch, part)]
     refusals = refusals_of(said, scratch.places) if re.search(r"(?m)^(logic=not-proved|only=)", said) else {}
     scratch.proves = scratch.proves or proves_others(said, batch, scratch.places)
     tried, left = [], []
@@ -270,6 +296,14 @@ def try_batch(scratch, batch):
         else:
             left.append(Edit(edit.name, edit.pairs))
     return tried + [it for edit in left for it in try_batch(scratch, [edit])]
+
+
+def unread_of(edits, said, places):
+    """The edits because of which a source isn't read: those that change a function at such an error. No edit moves a line."""
+    errors = [(file, int(line)) for file, line in UNREAD.findall(said)]
+    spans = lambda it: [places[path] for path in it.functions if path in places]
+    is_at = lambda span, error: span[0] == error[0] and span[1] < error[1] <= span[2] + 1
+    return [it for it in edits if any(is_at(span, error) for span in spans(it) for error in errors)]
 
 
 def proves_others(said, edits, places):
@@ -324,7 +358,9 @@ def try_crate(tree, crate):
 
 
 def summary_of(crate, edits, scratch):
-    return f"edits: {crate}: {len(edits)} edits, {scratch.checks} checks, {scratch.seconds:.0f} seconds of processor time"
+    longest = ", ".join(f"{path.split('::', 1)[1]} {seconds:.0f}" for seconds, path in scratch.longest)
+    counts = f"{len(edits)} edits, {scratch.checks} checks, {scratch.seconds:.0f} seconds of processor time"
+    return f"edits: {crate}: {counts}; the longest proofs, by the clock: {longest}"
 
 
 def check_unedited(tree, crate):

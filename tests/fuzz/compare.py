@@ -93,24 +93,26 @@ class Runs:
             raise Difference(f"{' '.join(words)}: status {ran.status}, {ran.err.decode(errors='replace')[:200]}")
         return ran
 
-    def replay(self, messages, secs, store=None, before=0):
-        words = ["replay", *(["--db", store] if store else []), "--at", str(secs), "-"]
+    def replay(self, messages, secs, new, store=None, before=0):
+        """Replays messages. The words `new` make the store, unless it is there."""
+        is_new = not (store and os.path.exists(store))
+        words = ["replay", *(["--db", store] if store else []), *(new if is_new else []), "--at", str(secs), "-"]
         return seen_of(self.run(words, b"".join(messages)), before)
 
-    def simulate(self, events):
+    def simulate(self, events, new):
         script = "".join(f"{event.fate} {event.secs} {event.message.hex()}\n" for event in events)
-        return self.run(["simulate", "-"], script.encode())
+        return self.run(["simulate", *new, "-"], script.encode())
 
 
-def compare_stream(runs, messages, secs, cut):
+def compare_stream(runs, messages, secs, cut, new):
     """Compares a stream in memory, over a file, and over a file in two runs."""
-    whole = runs.replay(messages, secs)
-    same("replay and replay --db", whole, runs.replay(messages, secs, runs.store()))
+    whole = runs.replay(messages, secs, new)
+    same("replay and replay --db", whole, runs.replay(messages, secs, new, runs.store()))
     store = runs.store()
-    parts = runs.replay(messages[:cut], secs, store)
+    parts = runs.replay(messages[:cut], secs, new, store)
     if not has_ended(parts, messages[:cut]):
         before = sum(map(len, messages[:cut]))
-        parts = joined(parts, runs.replay(messages[cut:], secs, store, before))
+        parts = joined(parts, runs.replay(messages[cut:], secs, new, store, before))
     same(f"replay and two runs of replay --db, cut at message {cut}", whole, parts)
 
 
@@ -145,14 +147,14 @@ def counts_in(store):
     return f"nodes={numbers[5]} handles={numbers[6]}"
 
 
-def compare_script(runs, events):
+def compare_script(runs, events, new):
     """Compares a script with a replay of the events that were committed: each request once, in the order of its first commit."""
-    ran = runs.simulate(events)
+    ran = runs.simulate(events, new)
     lines = ran.out.decode(errors="replace").splitlines()
     store = runs.store()
     answers = []
     for life in lives_of([event for event in events if event.fate != "before"]):
-        answers += runs.replay([event.message for event in life], life[0].secs, store).answers
+        answers += runs.replay([event.message for event in life], life[0].secs, new, store).answers
     wanted = Seen(taken_of(events, answers) + [counts_in(store)], {}, "", 0)
     same("replay --db and simulate", wanted, Seen(lines, {}, ran.err.decode(errors="replace"), ran.status))
 
@@ -167,11 +169,11 @@ def try_seed(runs, seed):
     if is_of_script(seed):
         made = Scripts(seed)
         events = made.events(made.random.choice(EVENTS))
-        compare_script(runs, events)
+        compare_script(runs, events, made.room.words())
         return len(events)
     made = Streams(seed)
     messages = made.messages(made.random.choice(MESSAGES))
-    compare_stream(runs, messages, made.secs(), made.random.randrange(len(messages) + 1))
+    compare_stream(runs, messages, made.secs(), made.random.randrange(len(messages) + 1), made.room.words())
     return len(messages)
 
 

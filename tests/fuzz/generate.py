@@ -4,7 +4,7 @@ import struct
 from dataclasses import dataclass
 from functools import partial
 
-from fuzz.guess import DIRECTORY, OTHER, Guess
+from fuzz.guess import DIRECTORY, LINK, OTHER, Guess
 from fuzz.guess import FILE as FILE_KIND
 from lib import messages as m
 
@@ -27,7 +27,29 @@ WEIGHTS = {
     m.OPEN: 7, m.READ: 12, m.WRITE: 12, m.RELEASE: 3, m.OPENDIR: 4, m.READDIR: 10, m.RELEASEDIR: 2, m.INIT: 1,
     m.FORGET: 1, m.BATCH_FORGET: 1, m.INTERRUPT: 1, m.NOTIFY_REPLY: 1,
 }
+# The further requests of the everyday profile. Over a plain store they are unsupported.
+FURTHER = {m.READLINK: 6, m.SYMLINK: 6, m.STATFS: 3, m.CREATE: 10, m.READDIRPLUS: 8}
+# Bytes of small stores.
+CAPACITIES = [0, 4096, 40960, 1 << 20]
 FATES = ["answered", "answered", "answered", "lost", "before", "after"]
+
+
+@dataclass
+class Room:
+    """The store of a seed: every other one is everyday, and every third of these is small."""
+    is_everyday: bool
+    capacity: int | None
+
+    def words(self):
+        """The words that make it."""
+        profile = ["--profile", "everyday"] if self.is_everyday else []
+        return profile + (["--capacity", str(self.capacity)] if self.capacity is not None else [])
+
+
+def room_of(seed):
+    chosen = random.Random(f"{seed} room")
+    is_everyday = chosen.random() < 0.5
+    return Room(is_everyday, chosen.choice(CAPACITIES) if is_everyday and chosen.random() < 1 / 3 else None)
 
 
 @dataclass
@@ -43,6 +65,8 @@ class Values:
 
     def __init__(self, seed):
         self.random = random.Random(seed)
+        self.room = room_of(seed)
+        self.largest = 1 << 40 if self.room.is_everyday else FILE
         self.guess = Guess()
         self.effect = None
         self.longest = self.random.choice([300, 3000, 9000, 40000])
@@ -80,7 +104,7 @@ class Values:
     def offset(self):
         """A place in a file, often at the end of a block, seldom at the largest one."""
         if self.chance(0.01):
-            return self.random.choice([FILE - 1, FILE - 5000, FILE, 1 << 40, (1 << 64) - 1])
+            return self.random.choice([self.largest - 1, self.largest - 5000, self.largest, FILE, 1 << 40, (1 << 64) - 1])
         if self.chance(0.4):
             return max(0, self.random.randint(0, 4) * BLOCK + self.random.randint(-3, 3))
         return self.random.randint(0, self.longest)
@@ -136,6 +160,32 @@ class Requests(Values):
         self.will(self.guess.makes, place, name, DIRECTORY)
         return place, m.mkdir_body(name, self.word())
 
+    def linked(self):
+        place, name = self.node(DIRECTORY), self.name()
+        target = self.random.choice([b"a", b"a/b", b"../x", b"t" * self.random.randint(1, 4095), b"", b"t" * 4096])
+        if 0 < len(target) < 4096:
+            self.will(self.guess.makes, place, name, LINK)
+        return place, m.symlink_body(name, target)
+
+    def link(self):
+        return self.node(LINK), b""
+
+    def room_left(self):
+        return self.node(), b""
+
+    def created(self):
+        place, name = self.node(DIRECTORY), self.name()
+        flags = self.random.choice([0, 1, 2, 0x42, 0x42, 3, self.word()])
+        if flags & 3 != 3:
+            self.will(self.creates, place, name)
+        return place, m.create_body(name, flags, self.word())
+
+    def creates(self, place, name):
+        before = len(self.guess.kinds)
+        self.guess.makes(place, name, FILE_KIND)
+        if len(self.guess.kinds) > before:
+            self.guess.opens(len(self.guess.kinds), FILE_KIND)
+
     def moved(self):
         """The two places of a rename, often two entries."""
         place, old = self.place()
@@ -190,7 +240,7 @@ class Requests(Values):
         return self.release(DIRECTORY)
 
     def init(self):
-        major, minor = self.random.choice([(7, 40), (7, 40), (7, 41), (7, 31), (7, 23), (7, 22), (8, 0), (6, 99)])
+        major, minor = self.random.choice([(7, 40), (7, 40), (7, 44), (7, 45), (7, 41), (7, 31), (7, 23), (7, 22), (8, 0), (6, 99)])
         flags2 = self.random.choice([m.RESENDS, m.RESENDS, 0, WORD, None])
         return 0, m.init_body(major, minor, self.word(), self.random.choice([m.OFFERED, m.OFFERED, 0, WORD]), flags2)
 
@@ -210,6 +260,7 @@ BODIES = {
     m.RMDIR: "rmdir", m.RENAME: "rename", m.RENAME2: "rename2", m.OPEN: "opened", m.READ: "read", m.WRITE: "write",
     m.RELEASE: "release", m.OPENDIR: "opened_directory", m.READDIR: "listed", m.RELEASEDIR: "release_directory", m.INIT: "init",
     m.FORGET: "forget", m.BATCH_FORGET: "items", m.INTERRUPT: "forget", m.NOTIFY_REPLY: "anything",
+    m.READLINK: "link", m.SYMLINK: "linked", m.STATFS: "room_left", m.CREATE: "created", m.READDIRPLUS: "listed",
 }
 
 
@@ -219,6 +270,7 @@ class Messages(Requests):
     def __init__(self, seed):
         super().__init__(seed)
         self.next_id = self.random.choice([2, 2, 2, 1, 1 << 40, (1 << 62) - 3])
+        self.weights = {**WEIGHTS, **FURTHER} if self.room.is_everyday else WEIGHTS
 
     def fresh(self):
         """An id that no message had."""
@@ -262,11 +314,11 @@ class Messages(Requests):
         """The kind of a request; where there are many entries, more requests remove."""
         if len(self.guess.entries) > MUCH and self.chance(0.3):
             return self.random.choice([m.UNLINK, m.UNLINK, m.RMDIR])
-        return self.random.choices(list(WEIGHTS), WEIGHTS.values())[0]
+        return self.random.choices(list(self.weights), self.weights.values())[0]
 
     def first(self):
-        """An INIT that is agreed on."""
-        return m.message(m.INIT, self.fresh(), 0, m.init_body())
+        """An INIT that is agreed on. Many kernels of everyday stores may keep names."""
+        return m.message(m.INIT, self.fresh(), 0, m.init_body(minor=self.random.choice([40, 44, 45]) if self.room.is_everyday else 40))
 
     def request(self, unique):
         """Any message but a DESTROY, and its effect."""

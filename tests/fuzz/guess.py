@@ -1,6 +1,6 @@
 """The tree that a stream has probably made so far, so that most of its requests name nodes that exist. No test depends on it."""
 
-DIRECTORY, FILE, OTHER = "directory", "file", "other"
+DIRECTORY, FILE, LINK, OTHER = "directory", "file", "link", "other"
 NOREPLACE, EXCHANGE = 1, 2
 
 

@@ -151,6 +151,7 @@ static void bits(void)
 	NUMBER(S_IFBLK);
 	NUMBER(S_IFIFO);
 	NUMBER(S_IFSOCK);
+	NUMBER(S_IFLNK);
 	NUMBER(S_ISGID);
 }
 

@@ -20,6 +20,8 @@ NOBODY = 65534
 ROOM = 640 * 1024
 STEP = 24 * 1024
 REFUSED = re.compile(r"store: (Sql|NotAStore)")
+CAUSE = re.compile(r"/\S*(: No such file or directory|: Permission denied|: Read-only file system)")
+NO_ROOM = re.compile(r"/\S*/store(-wal)?: no room left")
 COUNTS = re.compile(r"(\w+)=(\d+)")
 AT = ["--at", "1000"]
 
@@ -42,11 +44,20 @@ def replayed(ran):
     lines = ran.out.decode().splitlines()
     counts = {name: int(number) for line in lines[-1:] for name, number in COUNTS.findall(line)}
     answers = [bytes.fromhex(line) for line in (lines[:-1] if counts else lines)]
-    return answers, counts, ran.err.decode().strip()
+    return answers, counts, fault_of(ran)
 
 
-def last_line(ran):
-    return (ran.err.decode().splitlines() or [""])[-1]
+def lines_of(ran):
+    """The lines on standard error, but for the counts: the fault line, and the line of its cause."""
+    return [line for line in ran.err.decode().splitlines() if not line.startswith("served ")]
+
+
+def fault_of(ran):
+    return (lines_of(ran) or [""])[0]
+
+
+def cause_of(ran):
+    return (lines_of(ran) + ["", ""])[1]
 
 
 def unmarked(answers):
@@ -148,6 +159,7 @@ def fills_in_replay(report, place, folder, room):
     report.saw("full disk, replay", line)
     is_right = (ran.status, line) in ((3, "store: Sql"), (0, ""))
     report.check(name, is_right, f"status {ran.status}, '{line}'")
+    report.check(f"{name}, the cause", line == "" or NO_ROOM.fullmatch(cause_of(ran)), f"'{cause_of(ran)}'")
     report.check(f"{name}, its answers", answers == whole()[:len(answers)], f"{len(answers)} answers that differ")
     goes_on(report, name, moved(place, folder), len(answers))
     os.remove(f"{place}/filler")
@@ -163,7 +175,7 @@ def fills_in_serve(report, place, folder, room):
     leave(place, room)
     ran = program.run(["serve", "--db", f"{place}/store", "--fresh", *AT], b"".join(MESSAGES), SECONDS)
     answers = m.cut(ran.out)
-    line = last_line(ran)
+    line = fault_of(ran)
     report.saw("full disk, serve --fresh", line if ran.status else "")
     is_right = ran.status == 0 or (ran.status, line) == (3, "store: Sql")
     report.check(name, is_right and answers == whole()[:len(answers)], f"status {ran.status}, '{line}', {len(answers)} answers")
@@ -174,7 +186,7 @@ def fills_in_serve(report, place, folder, room):
     ran = program.run(["serve", "--db", store, "--resume", *AT], b"".join(rest), SECONDS)
     found = unmarked(m.cut(ran.out)[1:])
     is_rest = ran.status == 0 and found == whole()[len(answers):]
-    report.check(f"{name}, with room", is_rest, f"status {ran.status}, '{last_line(ran)}', {len(found)} answers")
+    report.check(f"{name}, with room", is_rest, f"status {ran.status}, '{fault_of(ran)}', {len(found)} answers")
 
 
 def full_disks(report, folder):
@@ -236,10 +248,10 @@ def is_refused(report, name, store, before=()):
     for mode in (["replay", "--db", store, *AT, "-"], [*serve, "--fresh"], [*serve, "--resume"]):
         ran = subprocess.run([*before, program.BUILT, *mode], input=b"".join(MESSAGES), capture_output=True, timeout=SECONDS,
                              check=False)
-        line = last_line(ran_of(ran))
+        line = fault_of(ran_of(ran))
         report.saw(name, line)
-        is_right = ran.returncode == 3 and REFUSED.fullmatch(line)
-        report.check(f"{name}, {mode[0]}", is_right, f"status {ran.returncode}, '{line}'")
+        is_right = ran.returncode == 3 and REFUSED.fullmatch(line) and CAUSE.fullmatch(cause_of(ran_of(ran)))
+        report.check(f"{name}, {mode[0]}", is_right, f"status {ran.returncode}, {lines_of(ran_of(ran))}")
     after = bytes_of(store) if os.path.exists(store) else None
     report.check(f"{name}, its bytes", held == after, "they changed")
 

@@ -51,8 +51,8 @@ class Outcome:
 
 
 def line_of(ran):
-    """The fault line of a run: its standard error without the line of counts."""
-    lines = [line for line in ran.err.decode(errors="replace").splitlines() if not COUNTS.fullmatch(line)]
+    """The fault line of a run: its standard error without the line of counts, and without the cause, which names a file."""
+    lines = [line for line in ran.err.decode(errors="replace").splitlines() if not COUNTS.fullmatch(line) and not line.startswith("/")]
     return "\n".join(lines)
 
 

@@ -100,9 +100,9 @@ def store_of(work):
     return f"{work}/store"
 
 
-def make_store(program, work):
-    """Makes a new store in this folder, by a `serve` at second 0 without input."""
-    run_on_device([program, "serve", "--db", store_of(work), "--fresh", "--at", "0"], [], work)
+def make_store(program, work, words=()):
+    """Makes a new store in this folder, by a `serve` at second 0 without input. Further words give its profile and capacity."""
+    run_on_device([program, "serve", "--db", store_of(work), "--fresh", *words, "--at", "0"], [], work)
 
 
 def copy_store(work, name):

@@ -4,6 +4,7 @@ import struct
 LOOKUP, FORGET, GETATTR, SETATTR, MKNOD, MKDIR, UNLINK, RMDIR, RENAME = 1, 2, 3, 4, 8, 9, 10, 11, 12
 OPEN, READ, WRITE, RELEASE, INIT, OPENDIR, READDIR, RELEASEDIR = 14, 15, 16, 18, 26, 27, 28, 29
 INTERRUPT, DESTROY, NOTIFY_REPLY, BATCH_FORGET, RENAME2 = 36, 38, 41, 42, 45
+READLINK, SYMLINK, STATFS, CREATE, READDIRPLUS = 5, 6, 17, 35, 44
 SILENT = (FORGET, INTERRUPT, NOTIFY_REPLY, BATCH_FORGET)
 
 REGULAR, DIRECTORY, CHARACTERS, BLOCKS, FIFO, SOCKET = 0o100000, 0o040000, 0o020000, 0o060000, 0o010000, 0o140000
@@ -47,6 +48,14 @@ def mknod_body(name, mode=REGULAR | 0o644, rdev=0):
 
 def mkdir_body(name, mode=0o755):
     return struct.pack("<II", mode, 0o022) + name + b"\0"
+
+
+def symlink_body(name, target):
+    return name + b"\0" + target + b"\0"
+
+
+def create_body(name, flags, mode=REGULAR | 0o644):
+    return struct.pack("<IIII", flags, mode, 0o022, 0) + name + b"\0"
 
 
 def rename_body(new_dir, old, new):

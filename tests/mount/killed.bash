@@ -76,7 +76,7 @@ has_word() {
 # A kill loses nothing that the server wrote: the kernel still has it. What a cut of power loses is tried by crates/store_tests alone.
 kills() {
   start store mnt log || return 1
-  python3 -m mount.kills work mnt store "$supervisor" "${kills:-20}" "$seed" models && unmount_and_end mnt || return 1
+  python3 -m mount.kills work mnt store "$supervisor" "${kills:-20}" "$seed" "$profile" models && unmount_and_end mnt || return 1
   python3 -m mount.kills compare-left store models && start store mnt log-next || return 1
   python3 -m mount.kills compare mnt models && unmount_and_end mnt && python3 -m mount.kills compare-next store models
 }
@@ -91,7 +91,7 @@ differential() {
     python3 "$here/killer.py" "$supervisor" 1000000 0.5 2>/dev/null &
     killer=$!
     record "$killer"
-    python3 -m mount.differ work mnt other plain "$seed-$number" "$part"
+    python3 -m mount.differ work mnt other "$profile" "$seed-$number" "$part"
     status=$?
     kill "$killer" 2>/dev/null
     [ "$status" -eq 0 ] && unmount_and_end mnt || return 1
@@ -156,16 +156,23 @@ kills_without_end() {
   unmount_and_end mnt
 }
 
-# The deaths of servers are listed beside the store, with the time and how long the next one took.
+# What `store` says of the deaths in the list.
+deaths_summed() {
+  echo "deaths=$(wc -l <store-mount.log) longest_restart=$(grep -o 'restart=[0-9.]*' store-mount.log | sed 's/.*=//' | sort -n | tail -n 1)"
+}
+
+# The deaths of servers are listed beside the store, with the time and how long the next one took, and summed up by `store`.
 deaths() {
   local line='^20[0-9-]*T[0-9:]*[.][0-9]{3}Z'
   write_broken_engine
   start store mnt log && python3 "$here/killer.py" "$supervisor" 3 0.5 && ls mnt && unmount_and_end mnt || return 1
   expect "three were killed" [ "$(grep -cE "$line signal=9 lived=[0-9]+[.][0-9]{3} restart=[0-9]+[.][0-9]{3}\$" store-mount.log)" -eq 3 ] || return 1
   expect "that is all" [ "$(wc -l <store-mount.log)" -eq 3 ] || return 1
+  expect "they are summed up" [ "$("$engine" store store | tail -n 1)" = "$(deaths_summed)" ] || return 1
   start store mnt log-broken && touch broken && kill -KILL "$("$program" --server store)" && ended 1 || return 1
   expect "one was killed" [ "$(grep -cE "$line signal=9 lived=[0-9.]+ restart=-\$" store-mount.log)" -eq 1 ] || return 1
   expect "ten ended" [ "$(grep -cE "$line status=3 lived=[0-9.]+ restart=- store: Damaged\$" store-mount.log)" -eq 10 ] || return 1
+  expect "all are summed up" [ "$("$engine" store store | tail -n 1)" = "$(deaths_summed)" ] || return 1
   umount -l mnt
 }
 
@@ -195,4 +202,97 @@ has_probe() {
     if has_word "$child" --resume; then has_server=1; else probe=$child; fi
   done
   [ -n "$has_server" ] && [ -n "$probe" ]
+}
+
+# A store has room for so many bytes: a file takes no more, and one that is removed gives its room back, also if it was open.
+small() {
+  options=size=1M
+  start store mnt log || return 1
+  expect "df has its size" [ "$(df -B1 --output=size,used mnt | tail -n 1 | xargs)" = "1048576 0" ] || return 1
+  head -c 1044480 /dev/zero >mnt/first || return 1
+  expect "a file of a block has room" cp /etc/hostname mnt/second || return 1
+  if ln -s first mnt/third 2>line; then
+    echo "a link is made without room"
+    return 1
+  fi
+  expect "it says so" grep -q "No space left" line || return 1
+  exec 9<mnt/first
+  rm mnt/first
+  expect "an open file counts" [ "$(df -B1 --output=used mnt | tail -n 1 | xargs)" = 1048576 ] || return 1
+  exec 9<&-
+  await 60 has_room_for_link || return 1
+  unmount_and_end mnt
+}
+
+has_room_for_link() {
+  ln -s second mnt/third
+}
+
+# Files come and go, and the store doesn't grow after the first thousand.
+churn() {
+  local first last
+  start store mnt log && churns 1000 && first=$(bytes_of_store) && churns "$operations" && last=$(bytes_of_store) || return 1
+  echo "$first bytes after 1000 files, $last after $operations more"
+  expect "it doesn't grow" [ "$last" -le $((first + 1000000)) ] || return 1
+  unmount_and_end mnt
+}
+
+churns() {
+  python3 - "$1" <<'END'
+import os, sys
+for number in range(int(sys.argv[1])):
+    with open(f"mnt/{number}", "xb") as file:
+        file.write(b"x" * (number % 5000))
+    os.unlink(f"mnt/{number}")
+    if number % 1000 == 0:
+        os.utime("alive")
+END
+}
+
+bytes_of_store() {
+  cat store store-wal | wc -c
+}
+
+# A directory is made and committed, its server dies before it answers, and the caller is killed after the next server has asked for the
+# pending requests and before it reads one. The kernel drops the request, though it knew the name as absent for a day: the directory is
+# seen at once, since that server also had all names looked up again. Linux looks the name up once more before it sends MKDIR, so the
+# server dies at its second answer. The caller works in a directory whose attributes the kernel keeps, too.
+killed_caller() {
+  local server caller
+  write_pausing_engine
+  mkfifo go
+  start store mnt log && mkdir mnt/place && server=$("$program" --server store) || return 1
+  (cd mnt/place && ! [ -e made ] && touch "$OLDPWD/knows" && read -r _ <"$OLDPWD/go" && exec mkdir made) &
+  caller=$!
+  record "$caller"
+  await 60 [ -e knows ] || return 1
+  strace -qq -o /dev/null -p "$server" -P /dev/fuse -e trace=write,writev -e inject=write,writev:signal=KILL:when=2 &
+  record $!
+  await 60 is_traced "$server" && touch pauses && echo >go && await 60 has_written_by 32 "$server" || return 1
+  rm pauses
+  kill -KILL "$caller"
+  wait "$caller"
+  expect "the directory is there" [ -d mnt/place/made ] || return 1
+  unmount_and_end mnt
+}
+
+# While the file `pauses` is there a server waits for three seconds before each read of the device.
+write_pausing_engine() {
+  cat >pausing-engine <<END
+#!/bin/sh
+[ -e "$PWD/pauses" ] || exec "$engine" "\$@"
+exec strace -D -qq -o /dev/null -P /dev/fuse -e trace=read,readv -e inject=read,readv:delay_enter=3000000 "$engine" "\$@"
+END
+  chmod +x pausing-engine
+  export FUSEKEEP=$PWD/pausing-engine
+}
+
+is_traced() {
+  ! grep -q "^TracerPid:.0$" "/proc/$1/status"
+}
+
+# Whether another server than this one runs and has written so many bytes: has_written_by BYTES SERVER
+has_written_by() {
+  local server
+  server=$("$program" --server store) && [ "$server" != "$2" ] && [ "$(sed -n 's/^wchar: //p' "/proc/$server/io")" -ge "$1" ]
 }

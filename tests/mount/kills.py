@@ -1,10 +1,10 @@
 #!/usr/bin/env python3
 """Kills the servers of one mount by SIGKILL while writers change its tree, and compares the tree with a model of it.
 
-    kills.py work MOUNT STORE SUPERVISOR KILLS SEED MODELS   ends after KILLS killed servers, and keeps the models in MODELS
-    kills.py compare MOUNT MODELS                            compares the tree of a mount with the models
-    kills.py compare-left STORE MODELS                       the same of a store that this mount left, by SQL
-    kills.py compare-next STORE MODELS                       the same of one that the next mount left: no node without a name is in it
+    kills.py work MOUNT STORE SUPERVISOR KILLS SEED PROFILE MODELS   ends after KILLS killed servers, and keeps the models in MODELS
+    kills.py compare MOUNT MODELS                   compares the tree of a mount with the models
+    kills.py compare-left STORE MODELS              the same of a store that this mount left, by SQL
+    kills.py compare-next STORE MODELS              the same of one that the next mount left: no node without a name is in it
 
 Each writer has a directory of its own and a model of it (model.py). A step is one call that changes the tree, or none, and no step may
 fail. Some servers live for some milliseconds, so that the next one is killed while it resumes, some for a third of a second, and each
@@ -42,10 +42,10 @@ def moments(rng):
 
 
 class Run:
-    def __init__(self, mount, store, supervisor, kills, seed):
+    def __init__(self, mount, store, supervisor, kills, seed, profile):
         self.mount, self.store, self.supervisor, self.kills = mount, store, supervisor, kills
         self.rng, self.sampling = random.Random(seed), random.Random(f"{seed} sample")
-        self.writers = [Writer(f"{mount}/own-{number}", random.Random(f"{seed} {number}")) for number in range(WRITERS)]
+        self.writers = [Writer(f"{mount}/own-{number}", random.Random(f"{seed} {number}"), profile) for number in range(WRITERS)]
         self.killed = self.early = 0
         self.looks = self.absent = self.present = self.compared = 0
 
@@ -84,11 +84,13 @@ class Run:
         self.present += bool(before)
 
     def compare_made(self, store, waits):
-        """As many nodes as were made, each once; those of waiting steps may be there."""
+        """As many nodes as were made, each once; those of waiting steps may be there. An everyday store removes a node after the RELEASE of
+        its last descriptor, which may come later."""
         nodes, _ = m.numbers_in(store)
-        least = 1 + WRITERS + sum(model.made for model, _ in waits)
-        most = least + sum(step is not None and step.makes for _, step in waits)
-        unless(not least <= nodes <= most, f"{nodes} nodes, and {least} to {most} were made", [])
+        numbers = [[model.nodes()] + [changed(model, it).nodes() for it in (step.changes if step else ())] for model, step in waits]
+        least = 1 + WRITERS + sum(map(min, numbers))
+        most = 1 + WRITERS + sum(model.made + step_makes(step) if model.removes else max(it) for it, (model, step) in zip(numbers, waits))
+        unless(not least <= nodes <= most, f"{nodes} nodes, and there are {least} to {most}", [])
 
     # ---- the whole tree, while servers are killed
 
@@ -118,7 +120,7 @@ class Run:
 
     def compare_numbers(self):
         """The numbers that `store` prints. The kernel closes handles after their last descriptor, at some time."""
-        wanted = {"nodes": 1 + WRITERS + sum(writer.model.made for writer in self.writers),
+        wanted = {"nodes": 1 + WRITERS + sum(writer.model.nodes() for writer in self.writers),
                   "handles": sum(len(writer.model.held) for writer in self.writers),
                   "bytes": sum(writer.model.bytes() for writer in self.writers)}
         until = time.monotonic() + 60
@@ -214,6 +216,10 @@ def copy_if_there(old, new):
         os.remove(new)
 
 
+def step_makes(step):
+    return int(step is not None and step.makes)
+
+
 def changed(model, change):
     another = copy.deepcopy(model)
     change(another)
@@ -249,11 +255,12 @@ def whole_of(models):
     return whole
 
 
-def work(mount, store, supervisor, kills, seed, models):
-    run = Run(os.path.abspath(mount), os.path.abspath(store), int(supervisor), int(kills), seed)
+def work(mount, store, supervisor, kills, seed, profile, models):
+    run = Run(os.path.abspath(mount), os.path.abspath(store), int(supervisor), int(kills), seed, profile)
     run.work()
     with open(models, "wb") as file:
         pickle.dump([writer.closed_model() for writer in run.writers], file)
+    run.compare_numbers()
     run.report()
 
 
@@ -267,7 +274,7 @@ def main():
     if what == "compare":
         unless_same("the mount", whole_of(models), below_top(m.tree_of_mount(place)))
     elif what == "compare-left":
-        compare_store(place, models, 1 + WRITERS + sum(model.made for model in models))
+        compare_store(place, models, 1 + WRITERS + sum(model.nodes() for model in models))
     else:
         compare_store(place, models, 1 + len(whole_of(models)))
 

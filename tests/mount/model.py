@@ -56,9 +56,11 @@ def digest(data):
 
 class Model:
     """The tree under one directory, the nodes of the descriptors that are open in it, the number of nodes that were made, and the
-    bytes of those that have neither a name nor a descriptor any more: they stay in the store until the next mount."""
+    bytes of those that have neither a name nor a descriptor any more: they stay in a plain store until the next mount, and an everyday
+    one removes them."""
 
-    def __init__(self):
+    def __init__(self, removes):
+        self.removes = removes
         self.root = Node(stat.S_IFDIR | 0o755)
         self.held = []
         self.made = self.gone = 0
@@ -80,10 +82,17 @@ class Model:
     def flat(self):
         return {path: node.found() for path, node in walk(self.root, "")}
 
+    def unnamed(self):
+        """The nodes that are open and have no name, and the bytes of each."""
+        return {id(node): len(node.data) for node in self.held if not node.is_named}
+
+    def nodes(self):
+        """The number of nodes that a store has of it, beside its directory."""
+        return len(self.paths()) - 1 + len(self.unnamed()) if self.removes else self.made
+
     def bytes(self):
         """The bytes of all nodes, named or not."""
-        held = {id(node): len(node.data) for node in self.held if not node.is_named}
-        return self.gone + sum(held.values()) + sum(len(node.data) for _, node in walk(self.root, ""))
+        return (0 if self.removes else self.gone) + sum(self.unnamed().values()) + sum(len(node.data) for _, node in walk(self.root, ""))
 
     def is_held(self, node):
         return any(other is node for other in self.held)

@@ -24,6 +24,10 @@ files_here() {
 refusals() {
   refuses 2 ".*usage: .*" "$program" || return 1
   refuses 2 ".*the option no_such_option isn't known" "$program" -o no_such_option store || return 1
+  refuses 2 ".*size=10X: no number of bytes" "$program" -o size=10X store || return 1
+  refuses 2 ".*size=8388608T: no number of bytes" "$program" -o size=8388608T store || return 1
+  refuses 2 ".*a plain store has no size" "$program" -o size=1M,profile=plain store || return 1
+  refuses 2 ".*the profile none isn't known: it is plain or everyday" "$program" -o profile=none store || return 1
   "$program" store missing 2>line
   expect "no mountpoint has status 1" [ $? -eq 1 ] || return 1
   mkdir alone && cp "$program" alone
@@ -34,6 +38,9 @@ refusals() {
   expect "no lock is made" [ ! -e store-mount ] || return 1
   printf 'this is no store, and was never one' >junk
   refuses 3 "store: NotAStore" "$program" junk || return 1
+  printf '#!/bin/sh\necho "store: Sql" >&2\necho "$3: no room left" >&2\nexit 3\n' >full && chmod 755 full
+  refuses 3 "store: Sql; $PWD/store: no room left" env FUSEKEEP=./full "$program" store || return 1
+  refuses 3 "fusekeep-mount: $PWD has no room left" env FUSEKEEP=./full "$program" store || return 1
   mkdir first below
   refuses 1 ".*: No such file or directory" "$program" no-folder/store || return 1
   refuses 1 ".*: mnt/store lies below $PWD/mnt, which would hide it" "$program" mnt/store || return 1
@@ -62,7 +69,7 @@ held_store() {
   refuses 1 "fusekeep-mount: store is held by process $server .fusekeep., another server or a program that has it open" "$program" store || return 1
   "$engine" serve --db store --resume </dev/null 2>line
   expect "the engine's status is 3" [ $? -eq 3 ] || return 1
-  expect "the engine reports it" [ "$(cat line)" = "store: Sql" ] || return 1
+  expect "the engine reports it" [ "$(cat line)" = $'store: Sql\nstore is in use by another server' ] || return 1
   exec 9>&-
   wait "$server"
   expect "the first server ends well" [ $? -eq 0 ] || return 1
@@ -114,8 +121,9 @@ has_room_again() {
 }
 
 # While the disk is full calls wait, without end. They go on once there is room, and the reserve is made again. The disk may get full
-# again at once.
+# again at once. The store has a capacity beyond that of the disk at first.
 full_disk() {
+  options=size=1G
   mkdir disk && mount -t tmpfs -o size=8m none disk && start disk/store mnt log || return 1
   expect "there is a reserve" [ "$(stat -c '%s %a' disk/store-reserve)" = "1048576 600" ] || return 1
   write_pieces &

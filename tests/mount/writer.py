@@ -45,11 +45,11 @@ def read_of(fd):
 class Writer(threading.Thread):
     """It works in a thread. `snapshot` is the model with the step that waits, None between steps."""
 
-    def __init__(self, top, rng):
+    def __init__(self, top, rng, profile):
         super().__init__(daemon=True)
-        self.top, self.rng = top, rng
+        self.top, self.rng, self.is_plain = top, rng, profile == "plain"
         self.lock = threading.Lock()
-        self.model, self.step, self.fds = Model(), None, []
+        self.model, self.step, self.fds = Model(not self.is_plain), None, []
         self.fault, self.since, self.steps = None, time.monotonic(), 0
         self.may_make, self.serial = 100, 0
         self.goes, self.idle, self.ends = threading.Event(), threading.Event(), False
@@ -322,8 +322,9 @@ class Writer(threading.Thread):
         """A call that must be refused, and changes nothing."""
         place, leaf, full = self.a_dir(), self.a_leaf(), self.a_path(lambda node: node.names)
         path, new = self.real(place), self.real(self.new_path())
-        ways = [lambda: refused(errno.EEXIST, os.mkdir, path), lambda: refused(errno.ENOENT, os.unlink, new),
-                lambda: refused(errno.ENOSYS, os.symlink, "a", new)]
+        ways = [lambda: refused(errno.EEXIST, os.mkdir, path), lambda: refused(errno.ENOENT, os.unlink, new)]
+        if self.is_plain:
+            ways.append(lambda: refused(errno.ENOSYS, os.symlink, "a", new))
         if full:
             ways.append(lambda: refused(errno.ENOTEMPTY, os.rmdir, self.real(full)))
         if place:
@@ -339,7 +340,7 @@ class Writer(threading.Thread):
                 lambda: refused(errno.EEXIST, renameat2, leaf, leaf, NOREPLACE),
                 lambda: refused(errno.ENOENT, renameat2, leaf, new, EXCHANGE)]
         if is_file:
-            ways += [lambda: refused(errno.EFBIG, os.truncate, leaf, (1 << 24) + 1),
+            ways += [lambda: refused(errno.EFBIG, os.truncate, leaf, (1 << (24 if self.is_plain else 40)) + 1),
                      lambda: refused(errno.EOPNOTSUPP, os.setxattr, leaf, "user.a", b"b")]
         return ways
 

@@ -13,7 +13,7 @@ from lib.folders import quick_folder
 from spec import serving
 from spec.ports import each_port_call
 from spec.prefixes import prefixes_of
-from spec.read import BadCase, chain_of, last_said, moved_end, read_all
+from spec.read import BadCase, chain_of, last_said, moved_end, read_all, words_of_store
 from spec.scripts import bad_lines, good_lines
 from spec.starts import lots_over_starts
 from spec.stores import knows_strict_tables, look_into, run_lives
@@ -124,7 +124,7 @@ class Cases:
     def replays(self, chain, way):
         """Replays a case in this way; whether it passed."""
         case = chain[-1]
-        ran = run_lives(self.program, way, self.work)
+        ran = run_lives(self.program, way, self.work, words_of_store(chain))
         self.count(case, "replay --db" if way.in_file else "replay", len(ran))
         seen, lots = seen_of(ran)
         wanted = wanted_of(chain, way)
@@ -138,7 +138,7 @@ class Cases:
         case = chain[-1]
         events = [event for one in chain for event in one.events]
         script = "".join(f"{event.fate} {event.secs} {event.message.hex()}\n" for event in events)
-        ran = run_program([self.program, "simulate", "-"], script.encode(), [], self.work)
+        ran = run_program([self.program, "simulate", *words_of_store(chain), "-"], script.encode(), [], self.work)
         self.count(case, "simulate", 1)
         wanted = [event.answer.hex() if event.fate == "answered" and event.answer else "-" for event in events]
         wanted += [re.sub(r"^left | records=.*", "", case.left), "status 0"]
@@ -148,7 +148,7 @@ class Cases:
         """Serves a case, each life in one piece or each message in a piece; whether it passed."""
         case = chain[-1]
         lives = serving.lives_of_servers(chain)
-        ran, last = serving.serve_lives(self.program, lives, whole, self.work)
+        ran, last = serving.serve_lives(self.program, lives, whole, self.work, words_of_store(chain))
         self.count(case, "serve", len(ran) + 1)
         counts = serving.lines_of_counts(ran)
         seen = [line for one in [*ran, last] for line in serving.seen_of(one)] + [counts_in(counts)]
@@ -216,7 +216,7 @@ class Cases:
         name, stream, answers, fault = prefix
         before = [event for case in chain[:-1] for event in fed(case.events)]
         store = ["--db", store_of(self.work)] if in_file else []
-        words = [self.program, "replay", *store, "--at", "1000", "-"]
+        words = [self.program, "replay", *store, *words_of_store(chain), "--at", "1000", "-"]
         ran = run_program(words, bytes_in(before) + stream, [], self.work)
         kind = "replay --db" if in_file else "replay"
         self.count(chain[-1], kind, 1)

@@ -23,6 +23,8 @@ class Event:
 class Case:
     name: str
     follows: str = ""
+    profile: str = ""
+    capacity: str = ""
     by_replay: bool = False
     by_script: bool = False
     mount: bool = False
@@ -105,7 +107,7 @@ def add_line(case, line):
         case.pieces = [int(size) for size in rest.split()]
     elif word == "dump":
         case.dump.append(rest)
-    elif word in ("follows", "ends", "check"):
+    elif word in ("follows", "profile", "capacity", "ends", "check"):
         setattr(case, word, rest)
     elif word in ("served", "left", "settled", "settings", "blocks"):
         setattr(case, word, line)
@@ -163,6 +165,11 @@ def chain_of(cases, case):
     while chain[0].follows:
         chain.insert(0, cases[chain[0].follows])
     return chain
+
+
+def words_of_store(chain):
+    """The words that make the store that the first case begins with."""
+    return [word for name in ("profile", "capacity") if getattr(chain[0], name) for word in (f"--{name}", getattr(chain[0], name))]
 
 
 def last_said(chain, word):

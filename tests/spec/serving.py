@@ -4,11 +4,13 @@ import re
 from dataclasses import dataclass, replace
 
 from lib.device import copy_store, make_store, run_on_device, store_of
-from spec.read import chain_of, last_said
+from spec.read import chain_of, last_said, words_of_store
 from spec.stores import look_into
 from spec.ways import bytes_in, lives_of
 
 NOTICE = "10000000070000000000000000000000"
+# The one that follows it where the kernel keeps names.
+EPOCH = "10000000080000000000000000000000"
 NOT_OFFERED = ["status 3", "resume: NotOffered"]
 HAS_RESEND = 1 << 39
 
@@ -55,9 +57,9 @@ def serve(program, work, begin, events, secs=1000, whole=True, room=None):
     return run_on_device(words, pieces, work, room) if room else run_on_device(words, pieces, work)
 
 
-def serve_lives(program, lives, whole, work):
-    """Runs the lives, one after the other, over one new store; then a server that resumes without input."""
-    make_store(program, work)
+def serve_lives(program, lives, whole, work, new):
+    """Runs the lives, one after the other, over one new store, which these words make; then a server that resumes without input."""
+    make_store(program, work, new)
     ran = []
     for life in lives:
         secs = life.events[0].secs if life.events else 1000
@@ -75,6 +77,12 @@ def is_offered(chain):
     return flags is None or bool(int(flags.group(1), 16) & HAS_RESEND)
 
 
+def notices_of(chain):
+    """The notices: the second one for a kernel that keeps names, which only an everyday store lets it."""
+    keeps = words_of_store(chain) and " minor=44 " in f"{' '.join(last_said(chain, 'settings'))} "
+    return [NOTICE, EPOCH] if keeps else [NOTICE]
+
+
 def seen_of(served):
     """The packets of a server, and its end, without its counts."""
     lines = [line for line in served.err if not line.startswith("served ")]
@@ -85,8 +93,8 @@ def wanted_of(chain, lives):
     """The same of all lives, as the cases say it, and of the last server, which has no input."""
     wanted = []
     for life in lives:
-        wanted += [NOTICE] * (life.begin == "--resume") + answers_of(life.events) + ["status 0"]
-    return wanted + ([NOTICE, "status 0"] if is_offered(chain) else NOT_OFFERED)
+        wanted += notices_of(chain) * (life.begin == "--resume") + answers_of(life.events) + ["status 0"]
+    return wanted + ([*notices_of(chain), "status 0"] if is_offered(chain) else NOT_OFFERED)
 
 
 def lines_of_counts(ran):
@@ -134,7 +142,7 @@ def settled_after_fault(program, cases, work, looks):
 def refused(program, work):
     """The wanted and the seen lines where the words name neither or both ways to begin, and where there is no store to resume."""
     usage = ["status 2", "usage: one of --fresh and --resume", "nothing is made"]
-    no_store = ["status 3", "store: NotAStore", "nothing is made"]
+    no_store = ["status 3", "store: NotAStore", f"{store_of(work)}: No such file or directory", "nothing is made"]
     seen = []
     for ways in ([], ["--fresh", "--resume"], ["--resume"]):
         store = store_of(work)

@@ -8,13 +8,13 @@ from spec.ways import bytes_in
 HERE = os.path.dirname(os.path.realpath(__file__))
 
 
-def run_lives(program, way, work):
-    """Runs the lives of a way, one after the other, over one new store."""
+def run_lives(program, way, work, new):
+    """Runs the lives of a way, one after the other, over one new store, which these words make."""
     store = ["--db", store_of(work)] if way.in_file else []
     ran = []
     for life in way.lives:
         secs = str(life[0].secs if life else 1000)
-        words = [program, "replay", *store, "--at", secs, "-"]
+        words = [program, "replay", *store, *([] if ran else new), "--at", secs, "-"]
         ran.append(run_program(words, bytes_in(life), way.pieces, work))
     return ran
 

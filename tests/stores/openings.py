@@ -84,6 +84,28 @@ def lies():
             yield Case(f"version 1, the next {what} is {number}, and {most} is there", of_version(1), (change,), "store: Damaged")
 
 
+# The three entries of an everyday store of 100 blocks, of which 5 are used.
+EVERYDAY = ((12, 2), (13, 100), (14, 5))
+
+
+def everyday_with(*rows):
+    """A store whose `meta` has these entries besides."""
+    return of_version(2) + "".join(f"INSERT INTO meta VALUES ({key}, {value});" for key, value in rows)
+
+
+def profiles():
+    """Entries of another profile, without one another, or of more blocks in use than there are."""
+    for number in (0, 1, 3, -1):
+        yield Case(f"profile {number}", everyday_with((12, number), *EVERYDAY[1:]), FULL, "store: Damaged")
+    for left in range(3):
+        rows = EVERYDAY[:left] + EVERYDAY[left + 1:]
+        yield Case(f"no row {EVERYDAY[left][0]} of meta", everyday_with(*rows), FULL, "store: Damaged")
+        yield Case(f"row {EVERYDAY[left][0]} of meta alone", everyday_with(EVERYDAY[left]), FULL, "store: Damaged")
+    for used, capacity in ((101, 100), (1, 0), (-1, 100)):
+        rows = (EVERYDAY[0], (13, capacity), (14, used))
+        yield Case(f"{used} blocks used of {capacity}", everyday_with(*rows), FULL, "store: Damaged")
+
+
 def below_zero():
     """Versions below 0, which are reported by their bits."""
     for number, bits in ((-1, (1 << 64) - 1), (-(1 << 63), 1 << 63)):
@@ -233,6 +255,22 @@ def try_counted(tally, room):
         tally.compare(f"counters above what is there, {' '.join(words[:1])}", [0], run(path, words)[1])
 
 
+def try_everyday(tally, room):
+    """An everyday store opens, up to the last block in use, and keeps its profile and its capacity. No file is there, so that no block is
+    in use after a mount begins."""
+    for used in (0, 5, 100):
+        for number, words in enumerate(OPENINGS):
+            path = f"{room}/everyday-{used}-{number}"
+            make(Case("everyday", everyday_with(*EVERYDAY[:2], (14, used)), FULL, ""), path, False)
+            tally.compare(f"everyday, {used} blocks used, {' '.join(words[:1] + words[3:4])}", [0], run(path, words)[1])
+            found = content_of(path)[1]["meta"]
+            tally.compare("everyday: its profile and capacity", [(12, 2), (13, 100)], [row for row in found if row[0] in (12, 13)])
+        said = run(path, ["store", "STORE"])[0].out.decode().splitlines()
+        wanted = ["profile=everyday", "capacity=409600", f"used={used * BLOCK}"]
+        found = [line for line in said if line.split("=")[0] in ("profile", "capacity", "used")]
+        tally.compare("everyday: what `store` prints", wanted, found)
+
+
 # A block of the letter y, and the bytes that a file of x or y has.
 OF_Y = "UPDATE blocks SET bytes = CAST(replace(hex(zeroblob(2048)), '0', 'y') AS BLOB)"
 
@@ -256,7 +294,7 @@ def try_past_size(tally, room):
 def main():
     tally = Tally()
     with tempfile.TemporaryDirectory(dir=quick_folder()) as folder:
-        for number, case in enumerate([*refusals(), *lies(), *below_zero()]):
+        for number, case in enumerate([*refusals(), *lies(), *profiles(), *below_zero()]):
             room = f"{folder}/{number}"
             os.mkdir(room)
             try_refusal(tally, case, room)
@@ -265,6 +303,7 @@ def main():
         try_past_size(tally, f"{folder}/opened")
         try_index(tally, f"{folder}/opened")
         try_counted(tally, f"{folder}/opened")
+        try_everyday(tally, f"{folder}/opened")
     return print_counts("stores openings", tally.passed, tally.failed)
 
 

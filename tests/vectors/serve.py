@@ -4,7 +4,7 @@ import os
 import re
 import sys
 import tempfile
-from dataclasses import dataclass
+from dataclasses import dataclass, replace
 
 from lib import program
 from lib.counts import print_counts
@@ -15,16 +15,25 @@ from spec.read import moved_end
 HERE = os.path.dirname(os.path.realpath(__file__))
 
 NOTICE = "10000000070000000000000000000000"
+# The one that follows it where the kernel keeps names: over an everyday store, from 7.44 on.
+EPOCH = "10000000080000000000000000000000"
 NOT_OFFERED = ["status 3", "resume: NotOffered"]
 
 SILENT = ("FORGET", "INTERRUPT", "OP(41)", "BATCH_FORGET")
+# READLINK, SYMLINK, STATFS, CREATE, READDIRPLUS: everyday stores keep them.
+FURTHER = ("OP(5)", "OP(6)", "OP(17)", "OP(35)", "OP(44)")
 RESEND = bytes(15) + b"\x80"
+
+# The place of the minor in an INIT, and the first with which the kernel keeps names.
+MINOR, KEEPS = slice(44, 48), 44
 
 # Places in the answer to an INIT, and the bit that says that resends were agreed on.
 MAX_WRITE, FLAGS2, HAS_RESEND = slice(36, 40), slice(48, 52), 0x80
 
 # The number of places at which a stream is cut in two.
 CUTS = 3
+
+SECONDS = 60
 
 
 @dataclass
@@ -34,21 +43,25 @@ class Message:
     opcode: str
     unique: str
     is_malformed: bool
+    is_supported: bool
     answer: str = ""
 
     def is_silent(self):
         return self.opcode in SILENT
 
     def is_kept(self):
-        return not (self.is_silent() or self.is_malformed or self.opcode.startswith("OP("))
+        return self.is_supported and not (self.is_silent() or self.is_malformed)
 
 
 @dataclass
 class Stream:
-    """The messages that are processed, the bytes after them, the end, and how many bytes were left out."""
+    """The messages that are processed, the bytes after them, the end, the words that make its store, the line of counts of its file, and
+    how many bytes were left out."""
     messages: list
     rest: bytes
     ends: list
+    words: list
+    served: str
     gone: int = 0
 
 
@@ -57,12 +70,27 @@ def lines_of(name, kind):
         return file.read().splitlines()
 
 
-def read_message(stream, line):
-    """The message of a line of `dump`."""
+def lines_of_dump(name):
+    """The lines of `dump`: those of the file, or of the program where there is none. Their counts are compared."""
+    if os.path.exists(f"{HERE}/{name}.dump"):
+        return lines_of(name, "dump")
+    return program.run(["dump", f"{HERE}/{name}.stream"], b"", SECONDS).out.decode().splitlines()
+
+
+def words_of_store(name):
+    """The words that make the store of a stream."""
+    capacity = f"{HERE}/{name}.capacity"
+    words = ["--profile", "everyday"] if name.startswith("everyday-") else []
+    return words + (["--capacity", *lines_of(name, "capacity")] if os.path.exists(capacity) else [])
+
+
+def read_message(stream, line, further):
+    """The message of a line of `dump`. These further opcodes are supported."""
     words = line.split()
     fields = dict(word.split("=") for word in words[2:])
     begin = int(words[0])
-    return Message(stream[begin:begin + int(fields["len"])], words[1], fields["id"], "malformed" in fields)
+    is_supported = words[1] in further or not words[1].startswith("OP(")
+    return Message(stream[begin:begin + int(fields["len"])], words[1], fields["id"], "malformed" in fields, is_supported)
 
 
 def read_stream(name):
@@ -70,15 +98,16 @@ def read_stream(name):
     with open(f"{HERE}/{name}.stream", "rb") as file:
         content = file.read()
     *answers, served = lines_of(name, "replay")
+    words = words_of_store(name)
     count = int(re.match(r"served messages=(\d+) ", served).group(1))
-    messages = [read_message(content, line) for line in lines_of(name, "dump")[:count]]
+    messages = [read_message(content, line, FURTHER if words else ()) for line in lines_of_dump(name)[:count]]
     waiting = iter(answers)
     for message in messages:
         message.answer = "" if message.is_silent() else next(waiting)
     end = next(line for line in lines_of(name, "ends") if line.startswith("replay "))
     _, status, *line = end.split(" ", 2)
     size = sum(len(message.content) for message in messages)
-    return Stream(messages, content[size:], [f"status {status}", *line])
+    return Stream(messages, content[size:], [f"status {status}", *line], words, served)
 
 
 def without_repeats(stream):
@@ -93,7 +122,7 @@ def without_repeats(stream):
     gone = sum(len(one.content) for one in stream.messages) - sum(len(one.content) for one in left)
     ended_by = stream.messages[-1]
     is_open = ended_by.opcode == "DESTROY" and left[-1] is not ended_by
-    return Stream(left, b"" if is_open else stream.rest, stream.ends, gone)
+    return replace(stream, messages=left, rest=b"" if is_open else stream.rest, gone=gone)
 
 
 def counts_of(messages, repeated):
@@ -105,11 +134,20 @@ def counts_of(messages, repeated):
             f"silent={len(silent)} interrupts={interrupts}")
 
 
-def is_offered(messages):
-    """Whether the notice is sent after these messages: where no INIT was agreed on, or the last one agreed on resends."""
-    agreed = [bytes.fromhex(one.answer) for one in messages if one.is_kept() and one.opcode == "INIT"]
-    flags = [int.from_bytes(answer[FLAGS2], "little") for answer in agreed if any(answer[MAX_WRITE])]
-    return not flags or bool(flags[-1] & HAS_RESEND)
+def last_init(messages):
+    """The last INIT that was agreed on, if there is one, and its answer."""
+    inits = [(one.content, bytes.fromhex(one.answer)) for one in messages if one.is_kept() and one.opcode == "INIT"]
+    return next(((content, answer) for content, answer in reversed(inits) if any(answer[MAX_WRITE])), None)
+
+
+def notices_of(stream, messages):
+    """The notices of a resume after these messages of a stream. There is none where the last INIT agreed on no resends."""
+    agreed = last_init(messages)
+    if agreed is None:
+        return [NOTICE]
+    content, answer = agreed
+    keeps = stream.words and int.from_bytes(content[MINOR], "little") >= KEEPS
+    return ([NOTICE] + [EPOCH] * bool(keeps)) * bool(int.from_bytes(answer[FLAGS2], "little") & HAS_RESEND)
 
 
 def again(message):
@@ -117,7 +155,7 @@ def again(message):
     content, answer = [bytes(a | b for a, b in zip(text, RESEND)) + text[16:]
                        for text in (message.content, bytes.fromhex(message.answer) + bytes(16))]
     answer = answer[:len(message.answer) // 2].hex()
-    return Message(content, message.opcode, message.unique, message.is_malformed, answer)
+    return replace(message, content=content, answer=answer)
 
 
 def sent(messages):
@@ -154,15 +192,20 @@ class Serving:
             print(*[f"  {word} {line[:160]}" for word, lines in (("wanted", wanted), ("seen", seen)) for line in lines[place:place + 1]],
                   sep="\n")
 
+    def compare_counts(self, name, stream):
+        """The counts of the messages are those of the file: each is taken for what it is."""
+        repeated = int(re.search(r" repeated=(\d+) ", stream.served).group(1))
+        self.compare(name, ", its counts", [stream.served], [counts_of(stream.messages, repeated)])
+
     def in_one_life(self, name, stream):
-        make_store(self.program, self.work)
+        make_store(self.program, self.work, stream.words)
         content = b"".join(one.content for one in stream.messages)
         wanted = sent(stream.messages) + end_of(stream, stream.messages, 0, 0)
         self.compare(name, "", wanted, self.serve("--fresh", content + stream.rest))
 
     def in_two_lives(self, name, stream, cut):
         """Cut after this many messages. The second life begins with the last message that the first one kept, sent again."""
-        make_store(self.program, self.work)
+        make_store(self.program, self.work, stream.words)
         first, second = stream.messages[:cut], stream.messages[cut:]
         how = f" in two lives, cut after {cut} messages"
         content = b"".join(one.content for one in first)
@@ -170,9 +213,10 @@ class Serving:
         self.compare(name, f"{how}, the first", wanted, self.serve("--fresh", content))
         resent = [again(one) for one in first if one.is_kept()][-1:]
         whole = resent + second
-        if is_offered(first):
+        notices = notices_of(stream, first)
+        if notices:
             by = sum(len(one.content) for one in resent) - len(content)
-            wanted = [NOTICE] + sent(whole) + end_of(stream, whole, len(resent), by)
+            wanted = notices + sent(whole) + end_of(stream, whole, len(resent), by)
         else:
             wanted = NOT_OFFERED
         seen = self.serve("--resume", b"".join(one.content for one in whole) + stream.rest)
@@ -184,7 +228,9 @@ def main():
     with tempfile.TemporaryDirectory(prefix="vectors-", dir=quick_folder()) as work:
         serving = Serving(work)
         for name in names:
-            stream = without_repeats(read_stream(name))
+            whole = read_stream(name)
+            serving.compare_counts(name, whole)
+            stream = without_repeats(whole)
             serving.in_one_life(name, stream)
             for part in range(1, CUTS + 1):
                 serving.in_two_lives(name, stream, len(stream.messages) * part // (CUTS + 1))

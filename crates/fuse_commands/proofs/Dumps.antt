@@ -25,13 +25,13 @@ dump_lines-one at (n ∷ ms) m =
     ∙ sym (append_assoc (line_at at n) (dump_lines (at + length n) ms) (line_at ((at + length n) + length (joined ms)) m))
     ∙ ap (λ k. (line_at at n ++ dump_lines (at + length n) ms) ++ line_at k m) place
 
-appends_then : (a b c : Option (List ℕ)) (x y : List ℕ) → Appends a b x → Appends b c y → Appends a c (x ++ y)
+pub appends_then : (a b c : Option (List ℕ)) (x y : List ℕ) → Appends a b x → Appends b c y → Appends a c (x ++ y)
 appends_then None b c x y h g = tt
 appends_then (Some a) None c x y h g = absurd h
 appends_then (Some a) (Some b) None x y h g = absurd g
 appends_then (Some a) (Some b) (Some c) x y h g = g ∙ ap (λ (z : List ℕ). z ++ y) h ∙ append_assoc a x y
 
-appends_none : (a : Option (List ℕ)) → Appends a a []
+pub appends_none : (a : Option (List ℕ)) → Appends a a []
 appends_none None = tt
 appends_none (Some a) = sym (append-nil a)
 

@@ -1,5 +1,7 @@
+mod Asked
 pub mod Simulations
 pub mod Scripted
+pub mod Decodings
 pub mod Dumps
 pub mod Faults
 pub mod Firmness

@@ -40,7 +40,7 @@ bad_not_whole w (inr high) =
     and_right (nat_le 4 (length w)) _
     (and_right (nat_le 40 (number_of 4 w)) _ (and_left (nat_le (number_of 4 w) 135168) _ (lt-leb (number_of 4 w) 135168 high)))
 
-number_stays : (w later : List ℕ) → 4 ≤ length w → number_of 4 (w ++ later) ≡ number_of 4 w
+pub number_stays : (w later : List ℕ) → 4 ≤ length w → number_of 4 (w ++ later) ≡ number_of 4 w
 unfolding number_of
 number_stays [] later long = absurd (omega arith)
 number_stays (a ∷ []) later long = absurd (omega arith)

@@ -21,7 +21,7 @@ use Rattle.fuse_commands.proofs.Known.{consumes_then}
 all_one : (P : List ℕ → Type 0) (m : List ℕ) → P m → All P (m ∷ [])
 all_one P m h = All-cons P m [] h (All-nil P)
 
-joined-one : (ms : List (List ℕ)) (m : List ℕ) → joined (ms ++ m ∷ []) ≡ joined ms ++ m
+pub joined-one : (ms : List (List ℕ)) (m : List ℕ) → joined (ms ++ m ∷ []) ≡ joined ms ++ m
 joined-one [] m = append-nil m
 joined-one (n ∷ ms) m = ap (λ (x : List ℕ). n ++ x) (joined-one ms m) ∙ sym (append_assoc n (joined ms) m)
 

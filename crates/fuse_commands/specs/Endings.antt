@@ -6,6 +6,7 @@ use Rattle.fuse_keeper.specs.declared.fault.StoreFault.{StoreFault}
 use Rattle.fuse_keeper.specs.declared.fault.StoreFault.TheVariants as store
 use Rattle.fuse_session.specs.declared.ended.Ended.{Ended}
 use Rattle.fuse_session.specs.declared.ended.Ended.TheVariants as session
+use Rattle.fuse_commands.specs.Causes.{cause_of}
 use Rattle.fuse_commands.specs.declared.ending.Ending.{Ending}
 use Rattle.fuse_commands.specs.declared.ending.Ending.TheVariants.{Done, Short, TooLong, Cut, ZeroUnique, Malformed, ScriptLine, Usage, Sql, NotAStore, Version}
 use Rattle.fuse_commands.specs.declared.ending.Ending.TheVariants.{Modes, Damaged, Busy, NotOffered, PortFailed, PortTurns, Memory}
@@ -21,7 +22,7 @@ status_of Malformed = 1
 status_of (ScriptLine _) = 1
 status_of Usage = 2
 status_of Modes = 2
-status_of Sql = 3
+status_of (Sql _) = 3
 status_of NotAStore = 3
 status_of (Version _) = 3
 status_of Damaged = 3
@@ -50,7 +51,7 @@ line_of Malformed = None
 line_of (ScriptLine line) = Some (codes "script: line " ++ decimal line)
 line_of Usage = None
 line_of Modes = Some (codes "usage: one of --fresh and --resume")
-line_of Sql = Some (codes "store: Sql")
+line_of (Sql _) = Some (codes "store: Sql")
 line_of NotAStore = Some (codes "store: NotAStore")
 line_of (Version n) = Some (codes "store: Version(" ++ (decimal n ++ codes ")"))
 line_of Damaged = Some (codes "store: Damaged")
@@ -73,7 +74,7 @@ stream_ending frame.Memory = Memory
 -- the ending of each fault of a store
 abbrev pub store_ending : StoreFault → Ending
 store_ending store.Memory = Memory
-store_ending (store.Sql _) = Sql
+store_ending (store.Sql e) = Sql (cause_of e)
 store_ending store.NotAStore = NotAStore
 store_ending (store.Version n) = Version n
 store_ending store.Damaged = Damaged

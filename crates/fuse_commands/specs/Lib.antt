@@ -1,4 +1,7 @@
+pub mod Asking
+pub mod Causes
 pub mod Checking
+pub mod Decoding
 pub mod Dumping
 pub mod Endings
 pub mod Input

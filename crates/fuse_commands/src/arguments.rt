@@ -1,7 +1,10 @@
 //! The command line.
-ghost use Rattle.std.specs.Prelude.{◌≡◌, ◌⊎◌, IfOk};
+ghost use Rattle.std.specs.Prelude.{◌≡◌, ◌⊎◌, IfOk, IfSome};
 ghost use Rattle.clap.specs.Values.{kind_of};
+ghost use Rattle.clap.specs.Matches.{found_of};
+ghost use Rattle.fuse_commands.specs.Asking.{AsksFor, asked_in, asked_for};
 
+use crate::asked_store::{AskedStore, asked_store, with_new_store, without_new_store};
 use crate::serve::Begin;
 use clap::error::ErrorKind;
 use clap::{Arg, ArgAction, ArgMatches, Command, Error, value_parser};
@@ -12,6 +15,8 @@ use std::convert::AsStr;
 pub const STANDARD_INPUT: &str = "-";
 
 const DUMP: &str = "dump";
+
+const DECODE: &str = "decode";
 
 const CHECK: &str = "check";
 
@@ -48,6 +53,9 @@ const PATH: &str = "path";
 /// The path of the root directory of a store.
 const TOP: &str = "/";
 
+const CAPACITY_TEXT: &str =
+    "--capacity is for --profile everyday: a multiple of 4096, at most 9223372036854771712";
+
 const STREAM_HELP: &str = "The file of the stream, or - for standard input";
 
 /// What a command line asks for.
@@ -58,14 +66,16 @@ pub enum Run<'a> {
         input: &'a str,
         work: Work<'a>,
     },
-    /// To serve requests from a device over the store in a file. `begin` is `None` where neither
-    /// way to begin is named, or both. Without `at` the moments are those of the machine's clock.
-    /// Where it is `wary`, a torn write may leave any bytes in the store's files.
+    /// To serve requests from a device over the store in a file, or over a `new` one. `begin` is
+    /// `None` where neither way to begin is named, or both. Without `at` the moments are those of
+    /// the machine's clock. Where it is `wary`, a torn write may leave any bytes in the store's
+    /// files.
     Serve {
         db: &'a str,
         begin: Option<Begin>,
         at: Option<u64>,
         wary: bool,
+        new: AskedStore,
     },
     /// To print a summary of the store in a file.
     Store {
@@ -88,17 +98,43 @@ pub enum Run<'a> {
 pub enum Work<'a> {
     /// To print a line for each message of a stream.
     Dump,
+    /// To print a line for each answer of a stream that a server sent.
+    Decode,
     /// To count the messages of a stream.
     Check,
     /// To serve a recorded stream, each request at the same second, over the store in the file
-    /// `db`, which `wary` is about as for a server, or else over a new store in memory.
+    /// `db`, which `wary` is about as for a server, or over a `new` one: in that file, or else in
+    /// memory.
     Replay {
         db: Option<&'a str>,
         at: u64,
         wary: bool,
+        new: AskedStore,
     },
-    /// To run the events of a script.
-    Simulate,
+    /// To run the events of a script over a new store in memory.
+    Simulate {
+        new: AskedStore,
+    },
+}
+
+impl Run<'_> {
+    /// The new store that is asked for. Of a command that makes none it is a plain one.
+    pub fn new_store(&self) -> AskedStore
+        ensures { result ≡ asked_in self.now }
+    {
+        match self {
+            Run::Serve { new, .. } => *new,
+            Run::Read {
+                work: Work::Replay { new, .. },
+                ..
+            } => *new,
+            Run::Read {
+                work: Work::Simulate { new },
+                ..
+            } => *new,
+            _ => AskedStore::PLAIN,
+        }
+    }
 }
 
 // A required argument.
@@ -132,6 +168,12 @@ fn dump_command<'a>(alloc: Global) -> Result<Command<'a>, AllocError> {
     let about = "Prints a line for each message of a stream";
     let example = "Example:\n  fusekeep dump examples/first-run.stream";
     file_command(alloc, DUMP, about, example)
+}
+
+fn decode_command<'a>(alloc: Global) -> Result<Command<'a>, AllocError> {
+    let about = "Prints a line for each answer and notice of a stream that a server sent";
+    let example = "Example:\n  fusekeep serve --db notes.store --fresh <in | fusekeep decode -";
+    file_command(alloc, DECODE, about, example)
 }
 
 fn check_command<'a>(alloc: Global) -> Result<Command<'a>, AllocError> {
@@ -177,35 +219,38 @@ fn wary_argument<'a>(alloc: Global) -> Arg<'a> {
 fn replay_command<'a>(alloc: Global) -> Result<Command<'a>, AllocError> {
     let example =
         "Example:\n  fusekeep replay --db notes.store --at 1000 examples/first-run.stream";
-    Command::new(alloc, REPLAY)
+    let command = Command::new(alloc, REPLAY)
         .about("Serves a recorded stream over a new store in memory, or over the store in a file")
         .after_help(example)
         .arg(db_argument(alloc))?
         .arg(wary_argument(alloc).requires_arg(DB)?)?
         .arg(at_argument(alloc))?
-        .arg(needed_argument(alloc, STREAM, "STREAM", STREAM_HELP))
+        .arg(needed_argument(alloc, STREAM, "STREAM", STREAM_HELP))?;
+    with_new_store(alloc, command)
 }
 
 fn serve_command<'a>(alloc: Global) -> Result<Command<'a>, AllocError> {
     let fresh = "Begins a mount, over a new store if the file is missing or empty";
     let resume = "Continues a mount: asks the kernel to resend its pending requests";
     let db = needed_argument(alloc, DB, "FILE", "The file of the store").long(DB);
-    Command::new(alloc, SERVE)
+    let command = Command::new(alloc, SERVE)
         .about("Serves requests from standard input to standard output, as they come")
         .after_help("Example:\n  fusekeep serve --db notes.store --fresh <in >out")
         .arg(db)?
         .arg(flag(alloc, FRESH, fresh))?
-        .arg(flag(alloc, RESUME, resume))?
+        .arg(without_new_store(flag(alloc, RESUME, resume))?)?
         .arg(wary_argument(alloc))?
-        .arg(at_argument(alloc).required(false))
+        .arg(at_argument(alloc).required(false))?;
+    with_new_store(alloc, command)
 }
 
 fn simulate_command<'a>(alloc: Global) -> Result<Command<'a>, AllocError> {
     let help = "The file of the script, or - for standard input";
-    Command::new(alloc, SIMULATE)
+    let command = Command::new(alloc, SIMULATE)
         .about("Runs the events of a script over a new store in memory")
         .after_help("Example:\n  fusekeep simulate examples/died-after-commit.script")
-        .arg(needed_argument(alloc, SCRIPT, "SCRIPT", help))
+        .arg(needed_argument(alloc, SCRIPT, "SCRIPT", help))?;
+    with_new_store(alloc, command)
 }
 
 // A read-only command over the store in a file.
@@ -267,6 +312,7 @@ fn program_command<'a>(alloc: Global) -> Result<Command<'a>, AllocError> {
         .after_help("Example:\n  fusekeep check examples/first-run.stream")
         .subcommand_required(true);
     let command = with_command(command, dump_command(alloc))?;
+    let command = with_command(command, decode_command(alloc))?;
     let command = with_command(command, check_command(alloc))?;
     let command = with_command(command, replay_command(alloc))?;
     let command = with_command(command, serve_command(alloc))?;
@@ -275,16 +321,28 @@ fn program_command<'a>(alloc: Global) -> Result<Command<'a>, AllocError> {
 }
 
 // A run over the input that this argument names.
-fn read_run<'a>(found: &ArgMatches<'a>, name: &str, work: Work<'a>) -> Option<Run<'a>> {
+fn read_run<'a>(found: &ArgMatches<'a>, name: &str, work: Work<'a>) -> Option<Run<'a>>
+    ensures { IfSome result (λ run. asked_in run ≡ asked_for work.entry) }
+{
     let input = found.get_str(name)?;
     Some(Run::Read { input, work })
 }
 
-fn replay_run<'a>(found: &ArgMatches<'a>) -> Option<Run<'a>> {
+fn replay_run<'a>(found: &ArgMatches<'a>) -> Option<Run<'a>>
+    ensures { IfSome result (λ run. AsksFor (found_of found.now) (asked_in run)) }
+{
     let db = found.get_str(DB);
     let at = found.get_one::<u64>(AT)?;
     let wary = found.get_flag(WARY);
-    read_run(found, STREAM, Work::Replay { db, at, wary })
+    let new = asked_store(found);
+    read_run(found, STREAM, Work::Replay { db, at, wary, new })
+}
+
+fn simulate_run<'a>(found: &ArgMatches<'a>) -> Option<Run<'a>>
+    ensures { IfSome result (λ run. AsksFor (found_of found.now) (asked_in run)) }
+{
+    let new = asked_store(found);
+    read_run(found, SCRIPT, Work::Simulate { new })
 }
 
 // The way to begin, if exactly one is named.
@@ -296,12 +354,15 @@ fn begin_of(found: &ArgMatches<'_>) -> Option<Begin> {
     }
 }
 
-fn serve_run<'a>(found: &ArgMatches<'a>) -> Option<Run<'a>> {
+fn serve_run<'a>(found: &ArgMatches<'a>) -> Option<Run<'a>>
+    ensures { IfSome result (λ run. AsksFor (found_of found.now) (asked_in run)) }
+{
     Some(Run::Serve {
         db: found.get_str(DB)?,
         begin: begin_of(found),
         at: found.get_one::<u64>(AT),
         wary: found.get_flag(WARY),
+        new: asked_store(found),
     })
 }
 
@@ -322,10 +383,11 @@ fn cat_run<'a>(found: &ArgMatches<'a>) -> Option<Run<'a>> {
 fn run_of<'a>(matches: &ArgMatches<'a>) -> Option<Run<'a>> {
     match matches.subcommand()? {
         (DUMP, found) => read_run(found, FILE, Work::Dump),
+        (DECODE, found) => read_run(found, FILE, Work::Decode),
         (CHECK, found) => read_run(found, FILE, Work::Check),
         (REPLAY, found) => replay_run(found),
         (SERVE, found) => serve_run(found),
-        (SIMULATE, found) => read_run(found, SCRIPT, Work::Simulate),
+        (SIMULATE, found) => simulate_run(found),
         (STORE, found) => Some(Run::Store {
             file: found.get_str(FILE)?,
         }),
@@ -343,9 +405,15 @@ fn usage_error(alloc: Global, kind: ErrorKind, text: &str) -> Result<Error, Allo
 }
 
 /// Parses a command line, whose first word is the program's name. An `Err` is a mistake in it, the
-/// help that it asks for, or out of memory.
-pub fn parse<'a, S: AsStr>(alloc: Global, words: &'a [S]) -> Result<Run<'a>, Error> {
-    let matches = program_command(alloc)?.try_get_matches_from(words)?;
+/// help or the version that it asks for, or out of memory.
+pub fn parse<'a, S: AsStr>(
+    alloc: Global,
+    words: &'a [S],
+    version: &'a str,
+) -> Result<Run<'a>, Error> {
+    let matches = program_command(alloc)?
+        .version(version)
+        .try_get_matches_from(words)?;
     match run_of(&matches) {
         Some(run) => Ok(run),
         None => Err(usage_error(
@@ -353,6 +421,17 @@ pub fn parse<'a, S: AsStr>(alloc: Global, words: &'a [S]) -> Result<Run<'a>, Err
             ErrorKind::MissingRequiredArgument,
             "a word is missing",
         )?),
+    }
+}
+
+/// The error for a new store that is not possible: a plain one with a capacity, or an everyday one
+/// with a capacity that is none.
+pub fn impossible_store(alloc: Global) -> Error
+    ensures { (kind_of result ≡ ErrorKind.InvalidValue) ⊎ (kind_of result ≡ ErrorKind.OutOfMemory) }
+{
+    match usage_error(alloc, ErrorKind::InvalidValue, CAPACITY_TEXT) {
+        Ok(error) => error,
+        Err(refused) => Error::from(refused),
     }
 }
 

@@ -71,7 +71,7 @@ impl fmt::Display for Flaw {
 
 // The resend bit of a message.
 #[derive(Clone, Copy)]
-struct Resend(u64);
+pub(crate) struct Resend(pub(crate) u64);
 
 impl fmt::Display for Resend {
     ghost use Rattle.std.specs.Prelude.{Some};

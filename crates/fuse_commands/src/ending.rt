@@ -2,6 +2,7 @@ ghost use Rattle.std.specs.Prelude.{◌≡◌, nat_le, option_map};
 ghost use Rattle.fuse_commands.specs.Endings.{line_of, session_ending, status_of, store_ending};
 ghost use Rattle.fuse_commands.specs.Endings.{stream_ending};
 
+use crate::cause::Cause;
 use fuse_keeper::StoreFault;
 use fuse_request::FrameFault;
 use fuse_session::Ended;
@@ -30,7 +31,7 @@ pub enum Ending {
     /// The command line of `serve` has neither `--fresh` nor `--resume`, or both.
     Modes,
     /// A statement failed, or the file of the database can't be opened.
-    Sql,
+    Sql(Cause),
     /// The database is not a store.
     NotAStore,
     /// The store has an unknown version.
@@ -62,7 +63,7 @@ impl Ending {
     {
         match fault {
             StoreFault::Memory => Ending::Memory,
-            StoreFault::Sql(_) => Ending::Sql,
+            StoreFault::Sql(error) => Ending::Sql(Cause::of(error)),
             StoreFault::NotAStore => Ending::NotAStore,
             StoreFault::Version(version) => Ending::Version(version),
             StoreFault::Damaged => Ending::Damaged,
@@ -116,7 +117,7 @@ impl Ending {
             | Ending::Malformed
             | Ending::ScriptLine { .. } => 1,
             Ending::Usage | Ending::Modes => 2,
-            Ending::Sql
+            Ending::Sql(_)
             | Ending::NotAStore
             | Ending::Version(_)
             | Ending::Damaged
@@ -186,7 +187,7 @@ impl fmt::Display for FaultLine {
             Ending::ZeroUnique { at } => write!(f, "stream: ZeroUnique at {at}"),
             Ending::ScriptLine { line } => write!(f, "script: line {line}"),
             Ending::Modes => f.write_str("usage: one of --fresh and --resume"),
-            Ending::Sql => f.write_str("store: Sql"),
+            Ending::Sql(_) => f.write_str("store: Sql"),
             Ending::NotAStore => f.write_str("store: NotAStore"),
             Ending::Version(version) => write!(f, "store: Version({version})"),
             Ending::Damaged => f.write_str("store: Damaged"),

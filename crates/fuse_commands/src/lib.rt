@@ -3,8 +3,11 @@
 #![tactic(auto)]
 
 mod arguments;
+mod asked_store;
+mod cause;
 mod check;
 mod count_line;
+mod decode;
 mod dump;
 mod ending;
 mod input;
@@ -16,9 +19,12 @@ mod script;
 mod serve;
 mod simulate;
 
-pub use arguments::{Run, STANDARD_INPUT, Work, parse, unreadable};
+pub use arguments::{Run, STANDARD_INPUT, Work, impossible_store, parse, unreadable};
+pub use asked_store::AskedStore;
+pub use cause::Cause;
 pub use check::run_check;
 pub use count_line::CountLine;
+pub use decode::run_decode;
 pub use dump::run_dump;
 pub use ending::{Ending, FaultLine};
 pub use progress::{ProgressLine, ProgressReader};

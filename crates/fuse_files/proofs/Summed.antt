@@ -58,7 +58,7 @@ of_good_state p s rows records held is = (held.holding.tree, record { tree = hel
 
 pub nothing_summed : (z : Stored) (now : Option (List ℕ)) (e : Ending) → SaysNothing e → Sums z now now e
 nothing_summed z now ending.Memory so = (tt, refl)
-nothing_summed z now ending.Sql so = (tt, refl)
+nothing_summed z now (ending.Sql _) so = (tt, refl)
 nothing_summed z now _ so = absurd so
 
 pub not_summed : (s : State) (now : Option (List ℕ)) (f : StoreFault) (e : Ending) → e ≡ store_ending f → IsTabled s.now → IsPlain f

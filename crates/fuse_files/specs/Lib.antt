@@ -1,3 +1,5 @@
+pub mod ListReplays
+pub mod StoreKinds
 pub mod StoreLives
 pub mod StoreReplays
 pub mod StoreRuns

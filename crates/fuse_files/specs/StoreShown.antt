@@ -37,7 +37,7 @@ rows_in z = rowed (opened_for z).tree
 -- the ending says nothing of the store: out of memory, or a fault of SQL
 abbrev pub SaysNothing : Ending → Type 0
 SaysNothing ending.Memory = ⊤
-SaysNothing ending.Sql = ⊤
+SaysNothing (ending.Sql _) = ⊤
 SaysNothing _ = ⊥
 
 -- the ending of what was shown
@@ -69,6 +69,7 @@ pub record SumsUp (x : Rows) (r : Records) (n : ℕ) (it : Summary) : Type 0 whe
   pub records : CountsRecords r it.counts.records
   pub lots : it.counts.lots ≡ n
   pub bytes : it.bytes ≡ sum_by (λ f. f.row.size) x.nodes
+  pub room : it.room ≡ x.counters.room
   pub agreed : it.agreed ≡ x.settings
 
 -- its summary is written
@@ -76,7 +77,7 @@ pub record IsSummed (z : Stored) (old new : Option (List ℕ)) : Type 0 where
   pub summary : Summary
   pub version : summary.version ≡ version_for z
   pub so : SumsUp (rows_in z) (records_of (opened_for z).kept) (length (opened_for z).lots) summary
-  pub written : Appends old new (store_text summary.version summary.counts summary.bytes summary.agreed)
+  pub written : Appends old new (store_text summary.version summary.counts summary.bytes summary.room summary.agreed)
 
 abbrev pub Sums : Stored → Option (List ℕ) → Option (List ℕ) → Ending → Type 0
 Sums z old new ending.Done = IsSummed z old new
@@ -93,7 +94,7 @@ Shows (show.File path) z old new e = Prints path.now z old new e
 -- what the ending says of a database is so; only of a store of one of the two versions something is shown
 abbrev pub SaysSo : Database → Ending → Type 0
 SaysSo d ending.Memory = ⊤
-SaysSo d ending.Sql = ⊤
+SaysSo d (ending.Sql _) = ⊤
 SaysSo d ending.NotAStore = Says d fault.NotAStore
 SaysSo d (ending.Version n) = Says d (fault.Version n)
 SaysSo d ending.Damaged = Says d fault.Damaged

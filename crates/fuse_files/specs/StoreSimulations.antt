@@ -5,6 +5,9 @@ use Rattle.sqlite_disk.specs.declared.Disk.{Ghosts}
 use Rattle.sqlite_store.specs.declared.store.FileStore.{FileStore}
 use Rattle.sqlite.specs.Files.{over_files}
 use Rattle.fuse_init.specs.declared.profile.Profile.{Profile}
+use Rattle.fuse_init.specs.declared.profile.Profile.TheVariants.{Plain, Everyday}
+use Rattle.fuse_init.specs.declared.profile.PlainProfile.{PlainProfile}
+use Rattle.fuse_init.specs.declared.profile.EverydayProfile.{EverydayProfile}
 use Rattle.fuse_keeper.specs.declared.fault.StoreFault.{StoreFault}
 use Rattle.fuse_keeper.specs.KeeperState.{StandsFor, IsFirm}
 use Rattle.fuse_keeper.specs.Model.{Model}
@@ -41,6 +44,11 @@ pub record StoreSimulated {D : Type 0} (P : Type 0) (p : Profile) (capacity : �
   pub stands : (crash_told p over_files keeper).is_honest → StandsFor (crash_told p over_files keeper) (new_state p capacity) [] []
   pub firm : (crash_told p over_files keeper).is_honest → IsFirm (crash_told p over_files keeper)
   pub ran : SimulatesOver (crashing p crashed) keeper streams ending
+
+-- so it was under this profile
+abbrev pub IsSimulated : {D : Type 0} → Profile → ℕ → Ghosts D → (D → D → Type 0) → Streams → Ending → Type 0
+IsSimulated Plain capacity g crashed streams ending = StoreSimulated PlainProfile Plain capacity g crashed streams ending
+IsSimulated Everyday capacity g crashed streams ending = StoreSimulated EverydayProfile Everyday capacity g crashed streams ending
 
 -- the disks always return what was written, as those in memory do
 abbrev pub AreSure : {D : Type 0} → Ghosts D → Type 0

@@ -2,6 +2,7 @@
 //! files, one after another, are lives of one mount. Views of a store, from the bytes of its files.
 #![tactic(auto)]
 
+mod kinds;
 mod lives;
 mod replaying;
 mod serving;
@@ -9,8 +10,9 @@ mod showing;
 mod simulating;
 mod summing;
 
+pub use kinds::kind_asked;
 pub use lives::{files_live, runs_are_file_lives};
-pub use replaying::replay_store;
+pub use replaying::{replay_in_memory, replay_store};
 pub use serving::{StoreRun, serve_store};
 pub use showing::{Show, StoreBytes, show_store};
 pub use simulating::simulate_store;

@@ -1,18 +1,23 @@
 // A replay over the files of a store.
-ghost use Rattle.std.specs.Prelude.{◌≡◌, ◌≢◌, ◌⊎◌, false, codes};
+ghost use Rattle.std.specs.Prelude.{◌≡◌, ◌≢◌, ◌<◌, ◌^◌, ◌⊎◌, [], false, codes, IfOk};
 ghost use Rattle.sqlite_wal.specs.Files.{image_at};
 ghost use Rattle.sqlite.specs.Files.{over_files};
 ghost use Rattle.fuse_store.specs.TableKeeper.{keeper_told};
 ghost use Rattle.fuse_store_files.specs.Starting.{path_of};
 ghost use Rattle.fuse_commands.specs.Endings.{status_of};
+ghost use Rattle.fuse_keeper.specs.KeeperState.{StandsFor};
 ghost use Rattle.fuse_files.specs.StoreReplays.{KeeperReplayed, IsReplayed, NotReplayed};
+ghost use Rattle.fuse_files.specs.ListReplays.{lists_told, ListsReplayed, IsReplayedAnew};
+ghost use Rattle.fuse_files.specs.ListReplays.{NotReplayedAnew};
+ghost use Rattle.fuse_files.specs.StoreSimulations.{new_state};
 
 use crate::serving::{ending_of, left_of};
 use fuse_commands::{Ending, START, run_replay};
-use fuse_init::Profiled;
-use fuse_store::{NewStore, StoreKeeper, StoreKind, TableKeeper};
+use fuse_init::{EverydayProfile, PlainProfile, Profile, Profiled};
+use fuse_store::{NewStore, PlainKeeper, PlainTree, StoreKeeper, StoreKind, TableKeeper};
 use fuse_store_files::{Opening, StoreFiles, close_store, open_store};
-use fuse_wire::Moment;
+use fuse_tree::new_store_is_tree;
+use fuse_wire::{Memory, Moment};
 use sqlite::{FileFrom, FileStore, Leftover, Start};
 use sqlite_disk::Disk;
 use std::alloc::Global;
@@ -72,5 +77,75 @@ pub fn replay_store<S: Start, R: Read + Drop, W: Write>(
         Ok(StoreKeeper::Plain(keeper)) => replay_keeper(alloc, keeper, reader, writer, moment),
         Ok(StoreKeeper::Everyday(keeper)) => replay_keeper(alloc, keeper, reader, writer, moment),
         Err((fault, left)) => (ending_of(fault), left),
+    }
+}
+
+// A keeper of a new store in memory.
+fn new_lists<P: Profiled>(alloc: Global, capacity: u64) -> Result<PlainKeeper<PlainTree<P>>, Memory>
+    requires low { capacity < 2 ^ 51 }
+    ensures stands { IfOk result (λ k. StandsFor (lists_told P.PROFILE k)
+        (new_state P.PROFILE capacity) [] []) }
+    ensures going { IfOk result (λ k. (lists_told P.PROFILE k).has_failed ≡ false) }
+{
+    new_store_is_tree();
+    let tree = PlainTree::<P>::sized(alloc, START, capacity)?;
+    Ok(PlainKeeper::over(alloc, tree))
+}
+
+// Serves the stream of a reader over a new store of this profile in memory.
+fn replay_lists<P: Profiled, R: Read + Drop, W: Write>(
+    alloc: Global,
+    capacity: u64,
+    reader: R,
+    writer: &mut W,
+    moment: Moment,
+) -> Ending
+    requires low { capacity < 2 ^ 51 }
+    ensures ran { ListsReplayed P P.PROFILE capacity moment (record {
+      input = R.remaining reader;
+      written = W.contents writer.old;
+      written' = W.contents writer.new;
+    }) result
+        ⊎ NotReplayedAnew (record {
+          input = R.remaining reader;
+          written = W.contents writer.old;
+          written' = W.contents writer.new;
+        }) result }
+    ensures usage { status_of result ≢ 2 }
+{
+    match new_lists::<P>(alloc, capacity) {
+        Ok(mut keeper) => run_replay(alloc, &mut keeper, reader, writer, moment),
+        Err(_) => Ending::Memory,
+    }
+}
+
+/// Serves the stream of a reader over a new store of this kind in memory, with one moment for all
+/// requests, and prints the answers.
+pub fn replay_in_memory<R: Read + Drop, W: Write>(
+    alloc: Global,
+    kind: StoreKind,
+    reader: R,
+    writer: &mut W,
+    moment: Moment,
+) -> Ending
+    ensures ran { IsReplayedAnew kind.profile kind.capacity moment (record {
+      input = R.remaining reader;
+      written = W.contents writer.old;
+      written' = W.contents writer.new;
+    }) result
+        ⊎ NotReplayedAnew (record {
+          input = R.remaining reader;
+          written = W.contents writer.old;
+          written' = W.contents writer.new;
+        }) result }
+    ensures usage { status_of result ≢ 2 }
+{
+    match kind.profile {
+        Profile::Plain => {
+            replay_lists::<PlainProfile, R, W>(alloc, kind.capacity, reader, writer, moment)
+        }
+        Profile::Everyday => {
+            replay_lists::<EverydayProfile, R, W>(alloc, kind.capacity, reader, writer, moment)
+        }
     }
 }

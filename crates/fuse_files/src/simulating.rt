@@ -8,13 +8,13 @@ ghost use Rattle.fuse_store_files.specs.Restarting.{crash_told};
 ghost use Rattle.fuse_commands.specs.Endings.{status_of};
 ghost use Rattle.fuse_commands.specs.Simulating.{driven, SimulatedFrom};
 ghost use Rattle.fuse_files.specs.StoreSimulations.{new_state, SimulatesOver, StoreSimulated};
-ghost use Rattle.fuse_files.specs.StoreSimulations.{AreSure, NotSimulated};
+ghost use Rattle.fuse_files.specs.StoreSimulations.{AreSure, IsSimulated, NotSimulated};
 
 use crate::serving::ending_of;
 use fuse_commands::{Ending, START, run_simulate};
-use fuse_init::Profiled;
+use fuse_init::{EverydayProfile, PlainProfile, Profile, Profiled};
 use fuse_keeper::{Restart, StoreFault};
-use fuse_store::{TableKeeper, opening_fault};
+use fuse_store::{StoreKind, TableKeeper, opening_fault};
 use fuse_store_files::{CrashKeeper, Crashing};
 use sqlite::{Connection, FileStore, Files, Options};
 use std::alloc::Global;
@@ -70,9 +70,8 @@ fn simulate_over<K: Restart, R: Read + Drop, W: Write>(
     run_simulate(alloc, &mut keeper, reader, writer)
 }
 
-/// Runs a script over a new store in these files, and prints the outcomes. Both files crash wherever
-/// the server dies: what was not synced is lost, and what is left is opened.
-pub fn simulate_store<P: Profiled, D: Crashing + Drop, R: Read + Drop, W: Write>(
+// Runs a script over a new store of this profile in these files.
+fn simulate_under<P: Profiled, D: Crashing + Drop, R: Read + Drop, W: Write>(
     alloc: Global,
     files: Files<D>,
     capacity: u64,
@@ -92,7 +91,6 @@ pub fn simulate_store<P: Profiled, D: Crashing + Drop, R: Read + Drop, W: Write>
           written = W.contents writer.old;
           written' = W.contents writer.new;
         }) result }
-    // Where the disks always return what was written, the output is that of the events.
     ensures simulated { AreSure D.Disk → IfSome (R.remaining reader) (λ script.
         status_of result ≤ 1 → SimulatedFrom (tree_of P.PROFILE) (new_state P.PROFILE capacity)
         (Appends (W.contents writer.old) (W.contents writer.new)) script result) }
@@ -103,5 +101,45 @@ pub fn simulate_store<P: Profiled, D: Crashing + Drop, R: Read + Drop, W: Write>
     match new_keeper::<P, D>(alloc, files, capacity) {
         Ok(keeper) => simulate_over(alloc, keeper, reader, writer),
         Err(fault) => ending_of(fault),
+    }
+}
+
+/// Runs a script over a new store of this kind in these files, and prints the outcomes. Both files
+/// crash wherever the server dies: what was not synced is lost, and what is left is opened.
+pub fn simulate_store<D: Crashing + Drop, R: Read + Drop, W: Write>(
+    alloc: Global,
+    files: Files<D>,
+    kind: StoreKind,
+    reader: R,
+    writer: &mut W,
+) -> Ending
+    requires log { IsTrue (D.Disk.is_usable files.log) }
+    requires db { IsTrue (D.Disk.is_usable files.db) }
+    ensures ran { IsSimulated kind.profile kind.capacity D.Disk D.Crashing.crashed (record {
+      input = R.remaining reader;
+      written = W.contents writer.old;
+      written' = W.contents writer.new;
+    }) result
+        ⊎ NotSimulated (record {
+          input = R.remaining reader;
+          written = W.contents writer.old;
+          written' = W.contents writer.new;
+        }) result }
+    // Where the disks always return what was written, the output is that of the events.
+    ensures simulated { AreSure D.Disk → IfSome (R.remaining reader) (λ script.
+        status_of result ≤ 1
+        → SimulatedFrom (tree_of kind.profile) (new_state kind.profile kind.capacity)
+        (Appends (W.contents writer.old) (W.contents writer.new)) script result) }
+    ensures silent { 1 ≤ status_of result → status_of result ≤ 3
+        → W.contents writer.new ≡ W.contents writer.old }
+    ensures usage { status_of result ≢ 2 }
+{
+    match kind.profile {
+        Profile::Plain => {
+            simulate_under::<PlainProfile, D, R, W>(alloc, files, kind.capacity, reader, writer)
+        }
+        Profile::Everyday => {
+            simulate_under::<EverydayProfile, D, R, W>(alloc, files, kind.capacity, reader, writer)
+        }
     }
 }

@@ -56,11 +56,16 @@ fn read_summary<P: Profiled, S: Alter + Drop>(
         Ok(agreed) => agreed,
         Err(fault) => return Err(fault),
     };
-    match keeper.content_size() {
-        Ok(bytes) => Ok(Summary {
+    let bytes = match keeper.content_size() {
+        Ok(bytes) => bytes,
+        Err(fault) => return Err(fault),
+    };
+    match keeper.room() {
+        Ok(room) => Ok(Summary {
             version,
             counts,
             bytes,
+            room,
             agreed,
         }),
         Err(fault) => Err(fault),

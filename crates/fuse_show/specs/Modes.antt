@@ -1,6 +1,6 @@
 -- The type and the permissions of a node as ten letters (POSIX: ls).
 use Rattle.std.specs.Prelude.{◌/◌, ◌%◌, ◌==◌, ◌++◌, ℕ, Bool, if◌then◌else◌, List, codes}
-use Rattle.fuse_tree.specs.Modes.{s_ifdir, s_ifchr, s_ifblk, s_ififo, s_ifsock}
+use Rattle.fuse_tree.specs.Modes.{s_ifdir, s_ifchr, s_ifblk, s_ififo, s_ifsock, s_iflnk}
 use Rattle.fuse_tree.specs.State.{type_bits}
 
 -- the letter of the file type; a dash for a regular file
@@ -11,6 +11,7 @@ kind_text mode =
     else if type_bits mode == s_ifblk then codes "b"
     else if type_bits mode == s_ififo then codes "p"
     else if type_bits mode == s_ifsock then codes "s"
+    else if type_bits mode == s_iflnk then codes "l"
     else codes "-"
 
 -- the bit of this value is set

@@ -4,7 +4,7 @@ ghost use Rattle.fuse_show.specs.Modes.{has_bit, kind_text, run_text};
 ghost use Rattle.fuse_show.specs.inner.Writing.{class_text};
 ghost use Rattle.fuse_show.specs.Modes.{owner_text, group_text, others_text};
 
-use fuse_tree::{S_IFBLK, S_IFCHR, S_IFDIR, S_IFIFO, S_IFREG, S_IFSOCK, TYPE_UNIT, TYPES};
+use fuse_tree::{S_IFBLK, S_IFCHR, S_IFDIR, S_IFIFO, S_IFLNK, S_IFREG, S_IFSOCK, TYPE_UNIT, TYPES};
 use std::fmt;
 
 /// Whether a mode is of a directory.
@@ -36,6 +36,8 @@ fn kind_of(mode: u32) -> &'static str
         "p"
     } else if kind == S_IFSOCK {
         "s"
+    } else if kind == S_IFLNK {
+        "l"
     } else {
         "-"
     }

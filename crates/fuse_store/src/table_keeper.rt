@@ -14,9 +14,9 @@ use fuse_keeper::{Done, Keeper, Restart, StoreCounts, StoreFault};
 use fuse_request::Request;
 use fuse_store_tree::{
     TableLook, answer_at_rest, calls_perform, counts_at_rest, lots_are_read, one_holding, perform,
-    settings_at_rest, size_at_rest,
+    room_at_rest, settings_at_rest, size_at_rest,
 };
-use fuse_tree::{rows_tell_state, serves_further};
+use fuse_tree::{Room, rows_tell_state, serves_further};
 use fuse_wire::{Id, Moment};
 use sqlite::{Alter, Connection};
 use std::alloc::Global;
@@ -198,6 +198,27 @@ impl<P: Profiled, S: Alter> TableKeeper<P, S> {
         lots_are_read();
         match size_at_rest(&mut self.look.conn) {
             Ok(size) => Ok(size),
+            Err(fault) => {
+                self.failed = true;
+                Err(fault)
+            }
+        }
+    }
+
+    /// The room of an everyday store, none of a plain one.
+    pub fn room(&mut self) -> Result<Option<Room>, StoreFault>
+        ensures looked { Looked (keeper_told P.PROFILE S.Store self.old) (keeper_told P.PROFILE S.Store self.new)
+            result }
+        ensures ok { IfOk result (λ room. Reports (keeper_told P.PROFILE S.Store self.old)
+            (keeper_told P.PROFILE S.Store self.new)
+            (λ rows records. room ≡ rows.counters.room)) }
+        ensures fault { FaultsOutside S.Store self.old self.new result }
+        ensures plain { IfErr result IsPlain }
+    {
+        one_holding();
+        lots_are_read();
+        match room_at_rest(&mut self.look.conn) {
+            Ok(room) => Ok(room),
             Err(fault) => {
                 self.failed = true;
                 Err(fault)

@@ -1,5 +1,5 @@
 -- A plan over the rows of a state agrees with what is done in that state.
-use Rattle.std.proofs.Common.{◌≡◌, ℕ, true, not, List, Option, Some, None, refl, sym, ap, subst}
+use Rattle.std.proofs.Common.{◌≡◌, ℕ, Bool, true, cond, not, List, [], Option, Some, None, refl, sym, ap, subst, ◌∙◌}
 use Rattle.std.specs.Prelude.{Result, Ok, Err, IfOk, IfErr, is_some}
 use Rattle.std.specs.Option.{option_map}
 use Rattle.fuse_wire.specs.Errnos.{enoent, enotdir, enosys, eproto, estale}
@@ -22,12 +22,12 @@ use Rattle.fuse_tree.specs.declared.rows.NodeRow.{NodeRow}
 use Rattle.fuse_tree.specs.declared.rows.Planned.{Planned}
 use Rattle.fuse_tree.specs.State.{State, Node, Shape, Tree, used_of, profile_of, is_dir, node_at, is_named, name_fault}
 use Rattle.fuse_tree.specs.Keeping.{agreement_of, keeps}
-use Rattle.fuse_tree.specs.Rows.{agreement_at, row_of, rowed, rows_of_state, row_at, entry_at}
+use Rattle.fuse_tree.specs.Rows.{Rows, agreement_at, row_of, rowed, rows_of_state, row_at, entry_at}
 use Rattle.fuse_tree.specs.Init.{init}
 use Rattle.fuse_tree.specs.Do.{lookup_absent, lookup_child, lookup_entry, lookup, done, do_at, do_act, names_node, do_agreed, do_offered, offer_of}
 use Rattle.fuse_tree.specs.Plan.{Meets, TreeKept, look_fault, AnswersAreRead}
 use Rattle.fuse_tree.specs.Renaming.{asking}
-use Rattle.fuse_tree.specs.inner.Reading.{Reports, child_of}
+use Rattle.fuse_tree.specs.inner.Reading.{Reports, refused, told, child_of}
 use Rattle.fuse_tree.specs.inner.PlanInit.{plan_init}
 use Rattle.fuse_tree.specs.inner.Planning.{plan_absent, plan_lookup, plan_of, plan_offered, plan_agreed, plan_at, plan_act, plan_child}
 use Rattle.fuse_tree.specs.State.{NodesAreKept}
@@ -36,6 +36,7 @@ use Rattle.fuse_tree.proofs.MakingAgrees.{mkdir_agrees, mknod_agrees}
 use Rattle.fuse_tree.proofs.SettingAgrees.{setattr_agrees}
 use Rattle.fuse_tree.proofs.WritingAgrees.{write_agrees, read_agrees}
 use Rattle.fuse_tree.proofs.InitAgrees.{init_agrees}
+use Rattle.fuse_tree.proofs.FurtherAgrees.{further_agrees}
 use Rattle.fuse_tree.proofs.ListingAgrees.{read_dir_agrees}
 use Rattle.fuse_tree.proofs.OpeningAgrees.{open_agrees, open_dir_agrees, release_agrees, release_dir_agrees}
 use Rattle.fuse_tree.proofs.RemovingAgrees.{unlink_agrees, rmdir_agrees}
@@ -86,6 +87,7 @@ act_agrees s header (acts.Release x) now d tree kept e = release_agrees s x.fh d
 act_agrees s header (acts.ReleaseDir x) now d tree kept e = release_dir_agrees s x.fh d tree kept e
 act_agrees s header (acts.Rename new_dir old_name new_name) now d tree kept e = renaming_agrees s (asking new_dir 0 old_name new_name now) d tree kept e
 act_agrees s header (acts.Rename2 new_dir flags old_name new_name) now d tree kept e = renaming_agrees s (asking new_dir flags old_name new_name now) d tree kept e
+act_agrees s header (acts.Unsupported opcode body) now d tree kept e = further_agrees s header opcode body now d tree e
 act_agrees s header _ now d tree kept e = refused_agrees s tree enosys
 
 at_agrees : (s : State) (request : Asked) (now : Moment) (o : Option Node) → Shape s → NodesAreKept s → node_at s request.header.nodeid ≡ o
@@ -169,3 +171,15 @@ looks_at_node _ h = refl
 pub offers_nothing : (op : Op) → ((offer : InitIn) → ¬ (op ≡ ops.Init offer)) → offer_of (act op) ≡ None
 offers_nothing (ops.Init offer) h = absurd (h offer refl)
 offers_nothing _ h = refl
+
+-- where settings are agreed on, and the request is of a node that is there
+pub planned_for : (request : Asked) (now : Moment) (rows : Rows) (a : Agreement) (row : NodeRow) → offer_of request.act ≡ None
+    → names_node request.act ≡ true → a ≡ agreement_at rows → is_some a.settings ≡ true → Some row ≡ row_at rows request.header.nodeid
+    → plan_of request now rows ≡ plan_act a request.header request.act now row rows
+planned_for request now rows a row offer names agreed given at =
+    let settings : is_some rows.settings ≡ true = ap (λ (g : Agreement). is_some g.settings) (sym agreed) ∙ given in
+    ap (λ (o : Option InitIn). plan_offered request now o rows) offer
+    ∙ ap (λ (b : Bool). cond b (plan_agreed (agreement_at rows) request now rows) (refused eproto)) settings
+    ∙ ap (λ (b : Bool). cond b (plan_at (agreement_at rows) request now (row_at rows request.header.nodeid) rows) (told [])) names
+    ∙ ap (λ (o : Option NodeRow). plan_at (agreement_at rows) request now o rows) (sym at)
+    ∙ ap (λ (g : Agreement). plan_act g request.header request.act now row rows) (sym agreed)

@@ -30,11 +30,9 @@ used_mapped f (n ∷ ns) lasts =
     let here : blocks_of (f n) ≡ blocks_of n = ap blocks_for (lasts n) in
     omega (arith, here, used_mapped f ns lasts, sum_by-cons blocks_of (f n) (map f ns), sum_by-cons blocks_of n ns)
 
--- a node without content takes no block
-pub used_appended : (ns : List Node) (n : Node) → n.content ≡ [] → sum_by blocks_of (ns ++ n ∷ []) ≡ sum_by blocks_of ns
-used_appended ns n none =
-    let last : blocks_of n ≡ 0 = ap (λ (content : List ℕ). blocks_for (length content)) none in
-    omega (arith, last, sum_by-append blocks_of ns (n ∷ []), sum_by-cons blocks_of n [])
+-- a node more
+pub used_appended : (ns : List Node) (n : Node) → sum_by blocks_of (ns ++ n ∷ []) ≡ sum_by blocks_of ns + blocks_of n
+used_appended ns n = omega (arith, sum_by-append blocks_of ns (n ∷ []), sum_by-cons blocks_of n [])
 
 -- of the nodes that pass a test, and of the others
 pub used_without : (test : Node → Bool) (ns : List Node)

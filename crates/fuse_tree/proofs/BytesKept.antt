@@ -1,7 +1,7 @@
 -- Requests that bring bytes leave a state of bytes one.
-use Rattle.std.proofs.Common.{◌<◌, ◌+◌, ◌-◌, ◌==◌, ◌&&◌, ◌||◌, ℕ, zero, suc, Bool, true, false, cond, eqb, not, List, [], ◌∷◌, ◌++◌, length, map, Option, Some}
+use Rattle.std.proofs.Common.{◌<◌, ◌≤◌, ◌+◌, ◌-◌, ◌==◌, ◌&&◌, ◌||◌, ℕ, zero, suc, Bool, true, false, cond, eqb, not, List, [], ◌∷◌, ◌++◌, length, map, Option, Some}
 use Rattle.std.proofs.Common.{None, is_some, max, arith}
-use Rattle.std.specs.Prelude.{take, drop, replicate, nat_le, nat_lt}
+use Rattle.std.specs.Prelude.{take, replicate, nat_le, nat_lt}
 use Rattle.std.specs.List.{AllByRecursion}
 use Rattle.fuse_wire.specs.declared.access_mode.AccessMode.{AccessMode}
 use Rattle.fuse_wire.specs.declared.access_mode.AccessMode.TheVariants.{ReadOnly}
@@ -22,7 +22,7 @@ use Rattle.fuse_init.specs.declared.negotiation.Negotiated.TheVariants.{Agreed, 
 use Rattle.fuse_tree.specs.Bounds.{number_end, read_limit}
 use Rattle.fuse_tree.specs.declared.new_node.NewNode.{NewNode}
 use Rattle.fuse_tree.specs.declared.rows.EntryRow.{EntryRow}
-use Rattle.fuse_tree.specs.State.{State, terms_of, profile_of, Node, is_dir, is_file, type_bits, is_named, is_kept, name_fault, node_at}
+use Rattle.fuse_tree.specs.State.{State, terms_of, profile_of, Node, is_dir, is_link, is_file, type_bits, is_named, is_kept, name_fault, node_at}
 use Rattle.fuse_tree.specs.Removal.{swept, tidied}
 use Rattle.fuse_tree.specs.Rows.{entry_at, sized, written}
 use Rattle.fuse_tree.specs.Handles.{access_at, is_open}
@@ -33,15 +33,22 @@ use Rattle.fuse_tree.specs.Setting.{has, set_fault, set_node, with_set, setattr}
 use Rattle.fuse_tree.specs.Writing.{wrote, with_bytes, may_write, may_read, write, read}
 use Rattle.fuse_tree.specs.Making.{is_full, begun, new_node, new_entry, with_node, make, dir_mode, mkdir, may_make, node_mode, node_rdev, mknod}
 use Rattle.fuse_tree.specs.Init.{init}
-use Rattle.fuse_tree.specs.Listing.{first_fits, list_prefix, entries_following, read_dir}
+use Rattle.fuse_answer.specs.PlusEntries.{plus_len}
+use Rattle.fuse_tree.specs.PlusListing.{plus_following, read_dir_plus}
+use Rattle.fuse_tree.specs.Listing.{first_fits, first_fits_by, list_prefix, entries_following, read_dir}
 use Rattle.fuse_tree.specs.Opening.{open_fault, opened, open_node, open_for, open_file, open_dir, closed, close, not_for_dirs, for_dirs_alone}
 use Rattle.fuse_tree.specs.Removing.{marked, mark, without, entry_gone, has_entries, unlink_child, unlink_entry, unlink_named, unlink, rmdir_child, rmdir_entry}
 use Rattle.fuse_tree.specs.Removing.{rmdir_named, rmdir}
 use Rattle.fuse_tree.specs.Renaming.{Renaming, asking, is_exchange, is_no_replace, holds, is_same, asked_fault, place_fault, placed, replaced, both_touched}
 use Rattle.fuse_tree.specs.Renaming.{renamed, exchanged, rename_with_room, rename_entry, exchange_entry, rename_by, rename_from, rename_between, rename}
 use Rattle.fuse_tree.specs.Keeping.{agreement_of, keeps}
+use Rattle.fuse_request.specs.FurtherBodies.{Content, Readlink, Statfs, Symlink, Create, ReadDirPlus, further_fault, content_at}
+use Rattle.fuse_tree.specs.Further.{do_further, further}
+use Rattle.fuse_tree.specs.Symlinking.{link_mode, target_fault, with_target, with_link, symlink}
+use Rattle.fuse_tree.specs.Creating.{file_mode, created, create_for, create}
 use Rattle.fuse_tree.specs.Do.{lookup_absent, lookup_child, lookup_entry, lookup_named, lookup, do_act, do_at, names_node, done, do_offered, offer_of}
 use Rattle.fuse_tree.specs.Bytes.{AreBytes, AreNameBytes, HoldsBytes, BringsBytes, BytesKept}
+use Rattle.fuse_tree.proofs.Contents.{all_dropped, BringsNames, names_brought}
 use Rattle.fuse_tree.proofs.Lists.{all_more, all_grown, all_mapped, all_kept}
 
 -- ---- lists
@@ -50,11 +57,6 @@ all_taken : (P : ℕ → Type 0) (n : ℕ) (bs : List ℕ) → AllByRecursion P 
 all_taken P zero bs all = tt
 all_taken P (suc n) [] all = tt
 all_taken P (suc n) (b ∷ bs) all = (all.0, all_taken P n bs all.1)
-
-all_dropped : (P : ℕ → Type 0) (n : ℕ) (bs : List ℕ) → AllByRecursion P bs → AllByRecursion P (drop n bs)
-all_dropped P zero bs all = all
-all_dropped P (suc n) [] all = tt
-all_dropped P (suc n) (b ∷ bs) all = all_dropped P n bs all.1
 
 all_joined : (P : ℕ → Type 0) (bs cs : List ℕ) → AllByRecursion P bs → AllByRecursion P cs → AllByRecursion P (bs ++ cs)
 all_joined P [] cs all later = later
@@ -102,11 +104,17 @@ changed_bytes number change s so h = record {
     one n true p = so n p
     one n false p = p
 
-node_bytes : (s : State) (fresh : NewNode) (dir : ℕ) (name : List ℕ) → AreNameBytes name → HoldsBytes s → HoldsBytes (with_node s fresh dir name)
-node_bytes s fresh dir name new h = record {
-  contents = all_grown (λ n. AreBytes n.content) (map (touched dir fresh.made) s.nodes) (new_node s fresh) (touch_bytes dir fresh.made s h).contents tt;
+link_bytes : (s : State) (fresh : NewNode) (content : List ℕ) (dir : ℕ) (name : List ℕ) → AreBytes content → AreNameBytes name → HoldsBytes s
+    → HoldsBytes (with_link s fresh content dir name)
+link_bytes s fresh content dir name bytes new h = record {
+  contents =
+      all_grown (λ n. AreBytes n.content) (map (touched dir fresh.made) s.nodes) (with_target content (new_node s fresh))
+      (touch_bytes dir fresh.made s h).contents bytes;
   names = all_grown (λ e. AreNameBytes e.name) s.entries (new_entry s dir name) h.names new;
 }
+
+node_bytes : (s : State) (fresh : NewNode) (dir : ℕ) (name : List ℕ) → AreNameBytes name → HoldsBytes s → HoldsBytes (with_node s fresh dir name)
+node_bytes s fresh dir name = link_bytes s fresh [] dir name tt
 
 -- ---- what is done
 
@@ -317,6 +325,57 @@ module _ (s : State) (h : HoldsBytes s) where
     rename_keeps : (n : Node) → Keeps (rename s r n)
     rename_keeps n = between_keeps n (node_at s r.new_dir)
 
+  symlink_keeps : (header : InHeader) (name target : List ℕ) (now : Moment) (n : Node) → AreNameBytes name → AreBytes target
+      → Keeps (symlink s header name target now n)
+  symlink_keeps header name target now n new bytes =
+      let fresh : NewNode = begun (terms_of s) n.mode n.gid header link_mode 0 now in
+      chosen (not (is_dir n.mode)) _ _ (stays s _ h)
+      (unless s (name_fault name) _ h
+      (unless s (target_fault target) _ h
+      (chosen (not (is_named s n.number)) _ _ (stays s _ h)
+      (chosen (is_some (entry_at s.entries n.number name)) _ _ (stays s _ h)
+      (chosen (is_full (terms_of s).node_limit (length s.nodes) s.next_node s.next_cookie) _ _ (stays s _ h)
+      (chosen (not (has_room (room_of s) 0 (length target))) _ _ (stays s _ h)
+      (leads (with_link s fresh target n.number name) _ (link_bytes s fresh target n.number name bytes new h))))))))
+
+  create_for_keeps : (fresh : NewNode) (dir : ℕ) (name : List ℕ) (o : Option AccessMode) → AreNameBytes name → Keeps (create_for s fresh dir name o)
+  create_for_keeps fresh dir name None new = stays s _ h
+  create_for_keeps fresh dir name (Some access) new =
+      let made = node_bytes s fresh dir name new h in
+      unless s (open_fault (length s.handles) s.next_fh) _ h (leads (created s fresh dir name access) _ (record { contents = made.contents; names = made.names }))
+
+  create_keeps : (header : InHeader) (flags mode : ℕ) (name : List ℕ) (now : Moment) (n : Node) → AreNameBytes name
+      → Keeps (create s header flags mode name now n)
+  create_keeps header flags mode name now n new =
+      chosen (not (is_dir n.mode)) _ _ (stays s _ h)
+      (unless s (name_fault name) _ h
+      (chosen (not (is_named s n.number)) _ _ (stays s _ h)
+      (chosen (is_some (entry_at s.entries n.number name)) _ _ (stays s _ h)
+      (chosen (is_full (terms_of s).node_limit (length s.nodes) s.next_node s.next_cookie) _ _ (stays s _ h)
+      (create_for_keeps (begun (terms_of s) n.mode n.gid header (file_mode mode) 0 now) n.number name (access_of flags) new)))))
+
+  read_dir_plus_keeps : (asked : ReadIn) (n : Node) → Keeps (read_dir_plus s asked n)
+  read_dir_plus_keeps asked n =
+      chosen (not (is_open s.handles asked.fh n.number)) _ _ (stays s _ h)
+      (chosen (not (is_dir n.mode)) _ _ (stays s _ h)
+      (chosen (nat_lt read_limit asked.size) _ _ (stays s _ h)
+      (chosen (not (is_named s n.number)) _ _ (stays s _ h)
+      (chosen (not (first_fits_by plus_len (plus_following s n.number asked.offset) asked.size)) _ _ (stays s _ h) (leads s _ h)))))
+
+  content_keeps : (header : InHeader) (o : Option Content) (now : Moment) (n : Node) → BringsNames o → Keeps (do_further s header o now n)
+  content_keeps header (Some Readlink) now n new = chosen (not (is_link n.mode)) _ _ (stays s _ h) (leads s _ h)
+  content_keeps header (Some Statfs) now n new = leads s _ h
+  content_keeps header (Some (Symlink name target)) now n new =
+      symlink_keeps header name target now n new.0 (all_more (λ b. (1 ≤ b) × (b < 256)) (λ b. b < 256) target (λ b is. is.1) new.1)
+  content_keeps header (Some (Create flags mode umask open_flags name)) now n new = create_keeps header flags mode name now n new
+  content_keeps header (Some (ReadDirPlus x)) now n new = read_dir_plus_keeps x n
+  content_keeps header _ now n new = stays s _ h
+
+  further_keeps : (header : InHeader) (opcode : ℕ) (body : List ℕ) (now : Moment) (n : Node) → AreBytes body → Keeps (further s header opcode body now n)
+  further_keeps header opcode body now n bytes =
+      chosen (not ((terms_of s).further opcode)) _ _ (stays s _ h)
+      (chosen (is_some (further_fault opcode body)) _ _ (stays s _ h) (content_keeps header (content_at opcode body) now n (names_brought opcode body bytes)))
+
   act_keeps : (header : InHeader) (act : Act) (now : Moment) (n : Node) → BringsBytes act → Keeps (do_act s header act now n)
   act_keeps header (acts.Lookup name) now n new = lookup_keeps name n
   act_keeps header (acts.Getattr flags fh) now n new = leads s _ h
@@ -334,6 +393,7 @@ module _ (s : State) (h : HoldsBytes s) where
   act_keeps header (acts.ReleaseDir x) now n new = close_keeps x.fh (for_dirs_alone n.mode) n
   act_keeps header (acts.Rename new_dir old_name new_name) now n new = rename_keeps (asking new_dir 0 old_name new_name now) new.0 new.1 n
   act_keeps header (acts.Rename2 new_dir flags old_name new_name) now n new = rename_keeps (asking new_dir flags old_name new_name now) new.0 new.1 n
+  act_keeps header (acts.Unsupported opcode body) now n new = further_keeps header opcode body now n new
   act_keeps header _ now n new = stays s _ h
 
   at_keeps : (request : Asked) (now : Moment) (o : Option Node) → BringsBytes request.act → Keeps (do_at s request now o)

@@ -58,6 +58,7 @@ use Rattle.fuse_tree.specs.inner.PlanRenaming.{plan_rename_between, plan_rename}
 use Rattle.fuse_tree.specs.Renaming.{Renaming, is_exchange, is_no_replace, asking, asked_fault}
 use Rattle.fuse_tree.specs.inner.Reading.{child_at}
 use Rattle.fuse_tree.proofs.Lists.{cond_found}
+use Rattle.fuse_tree.proofs.FurtherColumns.{further_fits}
 use Rattle.fuse_tree.proofs.SizesFit.{isnt_not, setattr_fits, write_fits}
 use Rattle.fuse_tree.proofs.SmallRows.{SmallCounters, Small, small}
 use Rattle.fuse_tree.proofs.SmallRows.{found_small, FitsLink, FitsFound, link_small, open_small, Fit, nothing, past}
@@ -450,6 +451,7 @@ act_fits g header (acts.ReleaseDir x) now row rows all fits = close_fits x.fh (f
 act_fits g header (acts.Rename new_dir old_name new_name) now row rows all fits = rename_fits (asking new_dir 0 old_name new_name now) row rows all fits
 act_fits g header (acts.Rename2 new_dir flags old_name new_name) now row rows all fits =
     rename_fits (asking new_dir flags old_name new_name now) row rows all fits
+act_fits g header (acts.Unsupported opcode body) now row rows all fits = further_fits g header opcode body now row rows all fits
 act_fits g header _ now row rows all fits = nothing _ refl
 
 at_fits : (g : Agreement) (request : Asked) (now : Moment) (o : Option NodeRow) (rows : Rows) → Small rows → row_at rows request.header.nodeid ≡ o

@@ -14,39 +14,79 @@ use Rattle.fuse_tree.specs.declared.rows.NodeRow.{NodeRow}
 use Rattle.fuse_tree.specs.Modes.{s_ifdir}
 use Rattle.fuse_tree.specs.State.{type_of}
 use Rattle.fuse_tree.specs.Rows.{Rows}
-use Rattle.fuse_tree.specs.Listing.{most}
+use Rattle.fuse_tree.specs.Listing.{most_by}
+use Rattle.fuse_answer.specs.PlusEntries.{PlusEntry, plus_len}
 use Rattle.fuse_tree.specs.inner.Reading.{refused, told}
-use Rattle.fuse_tree.specs.inner.PlanListing.{row_above, row_entry, row_len, dots_after, plan_prefix, IsCut}
+use Rattle.fuse_tree.specs.inner.PlanListing.{row_above, row_entry, row_len, row_len_with, dots_after, plan_prefix, IsCut}
+use Rattle.fuse_tree.specs.inner.PlanPlus.{plus_dot, row_plus, plan_plus_prefix}
 use Rattle.fuse_tree.proofs.Prefixes.{longest, prefix_upto, first_cut}
 
 -- ---- one entry after the other
 
-one_len : (e : EntryRow) → sum_by row_len (e ∷ []) ≡ row_len e
-one_len e = let s = sum_by-cons row_len e [] in omega (arith, s)
+-- each takes so many bytes more
+module _ (extra : ℕ) where
+  abbrev size_of : EntryRow → ℕ
+  size_of e = row_len_with extra e
 
-pub sum_more : (es : List EntryRow) (i : ℕ) (e : EntryRow) → i < length es → get_or es i e ≡ e
-    → sum_by row_len (take (i + 1) es) ≡ sum_by row_len (take i es) + row_len e
-sum_more es i e within is =
-    ap (sum_by row_len) (take_more es i e within ∙ ap (λ (x : EntryRow). take i es ++ x ∷ []) is)
-    ∙ sum_by-append row_len (take i es) (e ∷ []) ∙ ap (λ (n : ℕ). sum_by row_len (take i es) + n) (one_len e)
+  one_len : (e : EntryRow) → sum_by size_of (e ∷ []) ≡ size_of e
+  one_len e = let s = sum_by-cons size_of e [] in omega (arith, s)
 
-sum_grows : (es : List EntryRow) (n m : ℕ) → n ≤ m → sum_by row_len (take n es) ≤ sum_by row_len (take m es)
-sum_grows es zero m le = omega arith
-sum_grows es (suc n) zero le = absurd (omega (arith, le))
-sum_grows [] (suc n) (suc m) le = omega arith
-sum_grows (e ∷ es) (suc n) (suc m) le =
-    let rest = sum_grows es n m (omega (arith, le)) in omega (arith, rest, sum_by-cons row_len e (take n es), sum_by-cons row_len e (take m es))
+  pub sum_more : (es : List EntryRow) (i : ℕ) (e : EntryRow) → i < length es → get_or es i e ≡ e
+      → sum_by size_of (take (i + 1) es) ≡ sum_by size_of (take i es) + size_of e
+  sum_more es i e within is =
+      ap (sum_by size_of) (take_more es i e within ∙ ap (λ (x : EntryRow). take i es ++ x ∷ []) is)
+      ∙ sum_by-append size_of (take i es) (e ∷ []) ∙ ap (λ (n : ℕ). sum_by size_of (take i es) + n) (one_len e)
 
-sum_told : (rows : Rows) (es : List EntryRow) → sum_by packed_len (map (row_entry rows) es) ≡ sum_by row_len es
-sum_told rows [] = refl
-sum_told rows (e ∷ es) =
-    sum_by-cons packed_len (row_entry rows e) (map (row_entry rows) es) ∙ ap (λ (n : ℕ). row_len e + n) (sum_told rows es) ∙ sym (sum_by-cons row_len e es)
+  sum_grows : (es : List EntryRow) (n m : ℕ) → n ≤ m → sum_by size_of (take n es) ≤ sum_by size_of (take m es)
+  sum_grows es zero m le = omega arith
+  sum_grows es (suc n) zero le = absurd (omega (arith, le))
+  sum_grows [] (suc n) (suc m) le = omega arith
+  sum_grows (e ∷ es) (suc n) (suc m) le =
+      let rest = sum_grows es n m (omega (arith, le)) in omega (arith, rest, sum_by-cons size_of e (take n es), sum_by-cons size_of e (take m es))
+
+  -- ---- the cut, in a list of elements made of the rows
+
+  module _ {A : Type 0} (len : A → ℕ) (make : EntryRow → A) (same : (e : EntryRow) → len (make e) ≡ size_of e) where
+    sum_made : (es : List EntryRow) → sum_by len (map make es) ≡ sum_by size_of es
+    sum_made [] = refl
+    sum_made (e ∷ es) = omega (arith, sum_by-cons len (make e) (map make es), same e, sum_made es, sum_by-cons size_of e es)
+
+    most_cut : (first : List A) (es : List EntryRow) (size left n : ℕ) → size ≤ sum_by len first + left → IsCut extra es left n
+        → most_by len (first ++ map make es) size (length (first ++ map make es)) ≤ length first + n
+    most_cut first es size left n room cut = step (nat_le m (length first + n)) refl
+      where
+        all : List A
+        all = first ++ map make es
+
+        m : ℕ
+        m = most_by len all size (length all)
+
+        step : (b : Bool) → nat_le m (length first + n) ≡ b → m ≤ length first + n
+        step true is = leb-true m (length first + n) is
+        step false is =
+            let past : length first + n < m = leb-false m (length first + n) is in
+            let j : ℕ = m - length first in
+            let sums : sum_by len (take m all) ≡ sum_by len first + sum_by size_of (take j es) =
+            ap (λ (k : ℕ). sum_by len (take k all)) (let e : m ≡ length first + j = omega (arith, past) in e)
+            ∙ ap (sum_by len) (take-append-add first (map make es) j ∙ ap (λ (xs : List A). first ++ xs) (take-map make j es))
+            ∙ sum_by-append len first (map make (take j es)) ∙ ap (λ (k : ℕ). sum_by len first + k) (sum_made (take j es)) in
+            let prefix = longest len all size in
+            let count : length all ≡ length first + length es =
+            length-append first (map make es) ∙ ap (λ (k : ℕ). length first + k) (length-map es make) in
+            let over = cut.past (omega (arith, past, prefix.within, count)) in
+            let grows = sum_grows es (n + 1) j (omega (arith, past)) in
+            absurd (omega (arith, sums, over, grows, prefix.fits, room))
+
+cut_is : {A : Type 0} (make : EntryRow → A) (first : List A) (es : List EntryRow) (n : ℕ)
+    → first ++ map make (take n es) ≡ take (length first + n) (first ++ map make es)
+cut_is {A} make first es n = ap (λ (xs : List A). first ++ xs) (sym (take-map make n es)) ∙ sym (take-append-add first (map make es) n)
 
 -- ---- the dots
 
 pub record DotsFit (es : List Entry) : Type 0 where
   pub few : length es ≤ 2
   pub sum : sum_by packed_len es ≡ 32 * length es
+  pub long_sum : sum_by plus_len (map plus_dot es) ≡ 160 * length es
 
 abbrev dot : ℕ → ℕ → List ℕ → Entry
 dot ino off name = record { ino = ino; off = off; kind = type_of s_ifdir; name = name }
@@ -57,60 +97,47 @@ dots_fit offset row = step (nat_lt offset 1) (nat_lt offset 2)
     step : (a b : Bool)
         → DotsFit (cond a (dot row.node 1 (codes ".") ∷ cond b (dot (row_above row) 2 (codes "..") ∷ []) [])
         (cond b (dot (row_above row) 2 (codes "..") ∷ []) []))
-    step true true = record { few = omega arith; sum = refl }
-    step true false = record { few = omega arith; sum = refl }
-    step false true = record { few = omega arith; sum = refl }
-    step false false = record { few = omega arith; sum = refl }
+    step true true = record { few = omega arith; sum = refl; long_sum = refl }
+    step true false = record { few = omega arith; sum = refl; long_sum = refl }
+    step false true = record { few = omega arith; sum = refl; long_sum = refl }
+    step false false = record { few = omega arith; sum = refl; long_sum = refl }
 
--- ---- the cut
-
-most_cut : (rows : Rows) (first : List Entry) (es : List EntryRow) (size left n : ℕ) → size ≤ sum_by packed_len first + left → IsCut es left n
-    → most (first ++ map (row_entry rows) es) size (length (first ++ map (row_entry rows) es)) ≤ length first + n
-most_cut rows first es size left n room cut = step (nat_le m (length first + n)) refl
-  where
-    all : List Entry
-    all = first ++ map (row_entry rows) es
-
-    m : ℕ
-    m = most all size (length all)
-
-    step : (b : Bool) → nat_le m (length first + n) ≡ b → m ≤ length first + n
-    step true is = leb-true m (length first + n) is
-    step false is =
-        let past : length first + n < m = leb-false m (length first + n) is in
-        let j : ℕ = m - length first in
-        let sums : sum_by packed_len (take m all) ≡ sum_by packed_len first + sum_by row_len (take j es) =
-        ap (λ (k : ℕ). sum_by packed_len (take k all)) (let e : m ≡ length first + j = omega (arith, past) in e)
-        ∙ ap (sum_by packed_len) (take-append-add first (map (row_entry rows) es) j ∙ ap (λ (xs : List Entry). first ++ xs) (take-map (row_entry rows) j es))
-        ∙ sum_by-append packed_len first (map (row_entry rows) (take j es))
-        ∙ ap (λ (k : ℕ). sum_by packed_len first + k) (sum_told rows (take j es)) in
-        let prefix = longest all size in
-        let count : length all ≡ length first + length es =
-        length-append first (map (row_entry rows) es) ∙ ap (λ (k : ℕ). length first + k) (length-map es (row_entry rows)) in
-        let over = cut.past (omega (arith, past, prefix.within, count)) in
-        let grows = sum_grows es (n + 1) j (omega (arith, past)) in
-        absurd (omega (arith, sums, over, grows, prefix.fits, room))
-
-cut_is : (rows : Rows) (first : List Entry) (es : List EntryRow) (n : ℕ)
-    → first ++ map (row_entry rows) (take n es) ≡ take (length first + n) (first ++ map (row_entry rows) es)
-cut_is rows first es n = ap (λ (xs : List Entry). first ++ xs) (sym (take-map (row_entry rows) n es)) ∙ sym (take-append-add first (map (row_entry rows) es) n)
+-- ---- entries that are left out
 
 -- where an entry is listed, the rest may be left out
 pub same_told : (rows : Rows) (first : List Entry) (es : List EntryRow) (size left n : ℕ) → size ≤ sum_by packed_len first + left → 0 < length first + n
-    → IsCut es left n
+    → IsCut 0 es left n
     → plan_prefix (first ++ map (row_entry rows) (take n es)) size ≡ plan_prefix (first ++ map (row_entry rows) es) size
 same_told rows first es size left n room some cut =
     let all : List Entry = first ++ map (row_entry rows) es in
     rw (
-      cut_is rows first es n,
-      first_cut all size (length first + n) some,
-      prefix_upto all size (length first + n) (most_cut rows first es size left n room cut),
+      cut_is (row_entry rows) first es n,
+      first_cut packed_len all size (length first + n) some,
+      prefix_upto packed_len all size (length first + n) (most_cut 0 packed_len (row_entry rows) (λ e. omega arith) first es size left n room cut),
+    ) refl
+
+pub same_plus : (valid : ℕ) (rows : Rows) (first : List PlusEntry) (es : List EntryRow) (size left n : ℕ) → size ≤ sum_by plus_len first + left
+    → 0 < length first + n → IsCut 128 es left n
+    → plan_plus_prefix (first ++ map (row_plus valid rows) (take n es)) size ≡ plan_plus_prefix (first ++ map (row_plus valid rows) es) size
+same_plus valid rows first es size left n room some cut =
+    let all : List PlusEntry = first ++ map (row_plus valid rows) es in
+    rw (
+      cut_is (row_plus valid rows) first es n,
+      first_cut plus_len all size (length first + n) some,
+      prefix_upto plus_len all size (length first + n) (most_cut 128 plus_len (row_plus valid rows) (λ e. refl) first es size left n room cut),
     ) refl
 
 -- where nothing is
-pub none_told : (rows : Rows) (es : List EntryRow) (size : ℕ) → IsCut es size 0
+pub none_told : (rows : Rows) (es : List EntryRow) (size : ℕ) → IsCut 0 es size 0
     → cond (nat_eq (length es) 0) (told []) (refused einval) ≡ plan_prefix (map (row_entry rows) es) size
 none_told rows [] size cut = refl
 none_told rows (e ∷ es) size cut =
-    let past : size < row_len e = let over = cut.past (omega arith) in omega (arith, over, one_len e) in
+    let past : size < row_len e = let over = cut.past (omega arith) in omega (arith, over, one_len 0 e) in
     rw (ne_eqb (length (e ∷ es)) 0 (λ same. absurd (omega (arith, same))), lt-leb (row_len e) size past) refl
+
+pub none_plus : (valid : ℕ) (rows : Rows) (es : List EntryRow) (size : ℕ) → IsCut 128 es size 0
+    → cond (nat_eq (length es) 0) (told []) (refused einval) ≡ plan_plus_prefix (map (row_plus valid rows) es) size
+none_plus valid rows [] size cut = refl
+none_plus valid rows (e ∷ es) size cut =
+    let past : size < row_len_with 128 e = let over = cut.past (omega arith) in omega (arith, over, one_len 128 e) in
+    rw (ne_eqb (length (e ∷ es)) 0 (λ same. absurd (omega (arith, same))), lt-leb (row_len_with 128 e) size past) refl

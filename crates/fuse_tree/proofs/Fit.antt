@@ -7,7 +7,7 @@ use Rattle.std.proofs.lemmas.List.{append-nil}
 use Rattle.fuse_wire.specs.declared.errno.Errno.{Errno}
 use Rattle.fuse_wire.specs.Errnos.{einval, enametoolong}
 use Rattle.fuse_wire.specs.Bounds.{max_error_number}
-use Rattle.fuse_answer.specs.Replies.{Kind, Data, Nothing, of_data, of_nothing, IsBody, IsOfKind}
+use Rattle.fuse_answer.specs.Replies.{Kind, Data, Nothing, Unknown, of_data, of_nothing, of_unknown, IsBody, IsOfKind}
 use Rattle.fuse_answer.specs.Said.{FitsAnswer}
 use Rattle.fuse_tree.specs.State.{State, is_odd_name, name_fault}
 use Rattle.fuse_tree.specs.Done.{Done, refuse, refuse_for, answer}
@@ -73,3 +73,7 @@ no_body = (of_nothing, record { of_kind = refl; laid = refl; proper = tt })
 
 pub data_body : (b : List ℕ) → IsBody Data b
 data_body b = (of_data b, record { of_kind = refl; laid = ([], sym (append-nil b), refl); proper = tt })
+
+-- any bytes are a body of no kind that is known
+pub any_body : (b : List ℕ) → IsBody Unknown b
+any_body b = (of_unknown b, record { of_kind = refl; laid = ([], sym (append-nil b), refl); proper = tt })

@@ -21,6 +21,7 @@ use Rattle.fuse_tree.proofs.MakingFits.{mkdir_fits, mknod_fits, mkdir_reads, mkn
 use Rattle.fuse_tree.proofs.SettingFits.{setattr_fits, setattr_reads}
 use Rattle.fuse_tree.proofs.WritingFits.{write_fits, read_fits, write_reads, read_reads}
 use Rattle.fuse_tree.proofs.OpeningFits.{open_fits, open_dir_fits, release_fits, release_dir_fits, open_reads, open_dir_reads, release_reads, release_dir_reads}
+use Rattle.fuse_tree.proofs.FurtherFits.{further_fits, further_reads}
 use Rattle.fuse_tree.proofs.InitFits.{init_fits, init_reads}
 use Rattle.fuse_tree.specs.Plan.{AnswersAreRead}
 use Rattle.fuse_tree.proofs.RemovingFits.{unlink_fits, rmdir_fits, unlink_reads, rmdir_reads}
@@ -90,6 +91,7 @@ act_fits sizes s header (acts.Release x) now n = release_fits s x.fh n
 act_fits sizes s header (acts.ReleaseDir x) now n = release_dir_fits s x.fh n
 act_fits sizes s header (acts.Rename new_dir old_name new_name) now n = rename_fits s (asking new_dir 0 old_name new_name now) n
 act_fits sizes s header (acts.Rename2 new_dir flags old_name new_name) now n = rename_fits s (asking new_dir flags old_name new_name now) n
+act_fits sizes s header (acts.Unsupported opcode body) now n = further_fits sizes s header opcode body now n
 act_fits sizes s header _ now n = refused s _
 
 at_fits : RecordSizes → (s : State) (request : Asked) (now : Moment) (n : Option Node) → Fits (do_at s request now n)
@@ -128,6 +130,7 @@ act_reads back s header (acts.Release x) now n tree = release_reads s x.fh n
 act_reads back s header (acts.ReleaseDir x) now n tree = release_dir_reads s x.fh n
 act_reads back s header (acts.Rename new_dir old_name new_name) now n tree = rename_reads s (asking new_dir 0 old_name new_name now) n
 act_reads back s header (acts.Rename2 new_dir flags old_name new_name) now n tree = rename_reads s (asking new_dir flags old_name new_name now) n
+act_reads back s header (acts.Unsupported opcode body) now n tree = further_reads s header opcode body now n
 act_reads back s header _ now n tree = refused_reads s _ refl
 
 at_reads : ReadBack → (s : State) (request : Asked) (now : Moment) (n : Option Node) → Shape s → Reads (kind_of (opcode_of request.act)) (do_at s request now n)

@@ -31,7 +31,7 @@ use Rattle.fuse_tree.specs.declared.rows.Planned.{Planned}
 use Rattle.fuse_init.specs.declared.profile.Profile.{Profile}
 use Rattle.fuse_tree.specs.declared.rows.Change.TheVariants.{NodeGone, Counters as CountersPut}
 use Rattle.fuse_tree.specs.inner.PlanRemoval.{goes_unnamed, goes_closed, counters_less, removal, with_removal}
-use Rattle.fuse_tree.specs.State.{profile_for, is_dir, type_bits, is_file, name_fault}
+use Rattle.fuse_tree.specs.State.{profile_for, is_dir, is_link, type_bits, is_file, name_fault}
 use Rattle.fuse_tree.specs.Rows.{Rows, terms_at, agreement_at, row_at, entry_at, row_is_named}
 use Rattle.fuse_tree.specs.Handles.{access_at, is_open}
 use Rattle.fuse_tree.specs.Keeping.{keeps, valid_of}
@@ -40,9 +40,17 @@ use Rattle.fuse_tree.specs.Making.{is_full, begun, dir_mode, may_make, node_mode
 use Rattle.fuse_tree.specs.Setting.{has, set_fault}
 use Rattle.fuse_tree.specs.Writing.{may_write, may_read}
 use Rattle.fuse_tree.specs.Removing.{has_entries}
-use Rattle.fuse_tree.specs.Listing.{first_fits}
+use Rattle.fuse_answer.specs.PlusEntries.{plus_len}
+use Rattle.fuse_tree.specs.Listing.{first_fits, first_fits_by}
+use Rattle.fuse_tree.specs.inner.PlanPlus.{plus_after, plan_read_dir_plus}
 use Rattle.fuse_tree.specs.Opening.{open_fault, not_for_dirs, for_dirs_alone}
 use Rattle.fuse_tree.specs.Plan.{makes_entry, takes_entry, GoneFirst}
+use Rattle.fuse_request.specs.FurtherBodies.{Content, Readlink, Statfs, Symlink, Create, ReadDirPlus, further_fault, content_at}
+use Rattle.fuse_tree.specs.Symlinking.{target_fault}
+use Rattle.fuse_tree.specs.Creating.{file_mode}
+use Rattle.fuse_tree.specs.inner.PlanSymlinking.{plan_symlink}
+use Rattle.fuse_tree.specs.inner.PlanCreating.{plan_create_for, plan_create}
+use Rattle.fuse_tree.specs.inner.PlanFurther.{plan_content, plan_further}
 use Rattle.fuse_tree.specs.inner.Planning.{plan_child, plan_lookup, plan_act, plan_at, plan_offered, plan_of}
 use Rattle.fuse_tree.specs.inner.PlanInit.{plan_init}
 use Rattle.fuse_tree.specs.inner.PlanMaking.{plan_make, plan_mkdir, plan_mknod}
@@ -289,6 +297,57 @@ between_orders r from (Some to) rows =
 rename_orders : (r : Renaming) (from : NodeRow) (rows : Rows) → Orders (plan_rename r from rows)
 rename_orders r from rows = between_orders r from (new_dir_at r.new_dir from rows) rows
 
+-- ---- the further opcodes
+
+symlink_orders : (g : Agreement) (header : InHeader) (name target : List ℕ) (now : Moment) (row : NodeRow) (rows : Rows)
+    → Orders (plan_symlink g header name target now row rows)
+symlink_orders g header name target now row rows =
+    chosen (not (is_dir row.mode)) _ _ (by_test _ refl)
+    (unless (name_fault name) _
+    (unless (target_fault target) _
+    (chosen (not (row_is_named row)) _ _ (by_test _ refl)
+    (chosen (is_some (entry_at rows.entries row.node name)) _ _ (by_test _ refl)
+    (chosen (is_full (terms_at rows).node_limit rows.counters.nodes rows.counters.next_node rows.counters.next_cookie) _ _ (by_test _ refl)
+    (chosen (not (has_room rows.counters.room 0 (length target))) _ _ (by_test _ refl) (by_test _ refl)))))))
+
+create_for_orders : (g : Agreement) (fresh : NewNode) (name : List ℕ) (o : Option AccessMode) (row : NodeRow) (rows : Rows)
+    → Orders (plan_create_for g fresh name o row rows)
+create_for_orders g fresh name None row rows = by_test _ refl
+create_for_orders g fresh name (Some access) row rows = unless (open_fault rows.counters.handles rows.counters.next_fh) _ (by_test _ refl)
+
+create_orders : (g : Agreement) (header : InHeader) (flags mode : ℕ) (name : List ℕ) (now : Moment) (row : NodeRow) (rows : Rows)
+    → Orders (plan_create g header flags mode name now row rows)
+create_orders g header flags mode name now row rows =
+    chosen (not (is_dir row.mode)) _ _ (by_test _ refl)
+    (unless (name_fault name) _
+    (chosen (not (row_is_named row)) _ _ (by_test _ refl)
+    (chosen (is_some (entry_at rows.entries row.node name)) _ _ (by_test _ refl)
+    (chosen (is_full (terms_at rows).node_limit rows.counters.nodes rows.counters.next_node rows.counters.next_cookie) _ _ (by_test _ refl)
+    (create_for_orders g (begun (terms g.profile) row.mode row.gid header (file_mode mode) 0 now) name (access_of flags) row rows)))))
+
+read_dir_plus_orders : (valid : ℕ) (asked : ReadIn) (row : NodeRow) (rows : Rows) → Orders (plan_read_dir_plus valid asked row rows)
+read_dir_plus_orders valid asked row rows =
+    chosen (not (is_open rows.handles asked.fh row.node)) _ _ (by_test _ refl)
+    (chosen (not (is_dir row.mode)) _ _ (by_test _ refl)
+    (chosen (nat_lt read_limit asked.size) _ _ (by_test _ refl)
+    (chosen (not (row_is_named row)) _ _ (by_test _ refl)
+    (chosen (not (first_fits_by plus_len (plus_after valid asked.offset asked.size row rows) asked.size)) _ _ (by_test _ refl) (by_test _ refl)))))
+
+content_orders : (g : Agreement) (header : InHeader) (o : Option Content) (now : Moment) (row : NodeRow) (rows : Rows)
+    → Orders (plan_content g header o now row rows)
+content_orders g header (Some Readlink) now row rows = chosen (not (is_link row.mode)) _ _ (by_test _ refl) (by_test _ refl)
+content_orders g header (Some Statfs) now row rows = by_test _ refl
+content_orders g header (Some (Symlink name target)) now row rows = symlink_orders g header name target now row rows
+content_orders g header (Some (Create flags mode umask open_flags name)) now row rows = create_orders g header flags mode name now row rows
+content_orders g header (Some (ReadDirPlus x)) now row rows = read_dir_plus_orders (valid_of g) x row rows
+content_orders g header _ now row rows = by_test _ refl
+
+further_orders : (g : Agreement) (header : InHeader) (opcode : ℕ) (body : List ℕ) (now : Moment) (row : NodeRow) (rows : Rows)
+    → Orders (plan_further g header opcode body now row rows)
+further_orders g header opcode body now row rows =
+    chosen (not ((terms g.profile).further opcode)) _ _ (by_test _ refl)
+    (chosen (is_some (further_fault opcode body)) _ _ (by_test _ refl) (content_orders g header (content_at opcode body) now row rows))
+
 -- ---- all requests
 
 act_orders : (g : Agreement) (header : InHeader) (a : Act) (now : Moment) (row : NodeRow) (rows : Rows) → Orders (plan_act g header a now row rows)
@@ -308,6 +367,7 @@ act_orders g header (acts.Release x) now row rows = close_orders x.fh (not_for_d
 act_orders g header (acts.ReleaseDir x) now row rows = close_orders x.fh (for_dirs_alone row.mode) row rows
 act_orders g header (acts.Rename new_dir old_name new_name) now row rows = rename_orders (asking new_dir 0 old_name new_name now) row rows
 act_orders g header (acts.Rename2 new_dir flags old_name new_name) now row rows = rename_orders (asking new_dir flags old_name new_name now) row rows
+act_orders g header (acts.Unsupported opcode body) now row rows = further_orders g header opcode body now row rows
 act_orders g header _ now row rows = by_test _ refl
 
 at_orders : (g : Agreement) (request : Asked) (now : Moment) (o : Option NodeRow) (rows : Rows) → Orders (plan_at g request now o rows)

@@ -13,6 +13,7 @@ use Rattle.fuse_tree.specs.Done.{touched, touch}
 use Rattle.fuse_tree.specs.Changing.{changed_at, with_changed}
 use Rattle.fuse_tree.specs.declared.new_node.NewNode.{NewNode}
 use Rattle.fuse_tree.specs.Making.{new_node, new_entry, grow, with_node}
+use Rattle.fuse_tree.specs.Symlinking.{with_target, with_link}
 use Rattle.fuse_tree.specs.Opening.{new_handle, opened, closed}
 use Rattle.fuse_tree.specs.Removing.{marked, mark, without, entry_gone}
 use Rattle.fuse_tree.specs.Renaming.{Renaming, placed, renamed, exchanged}
@@ -185,8 +186,12 @@ node_given s k d tree at =
     let is : d.number ≡ k = eqb-true d.number k p.1 in
     omega arith
 
-pub kept_make : (s : State) (fresh : NewNode) (dir : ℕ) (name : List ℕ) → Shape s → dir ≢ 0 → NodesAreKept s → NodesAreKept (with_node s fresh dir name)
-kept_make s fresh dir name tree given =
-    kept_by s (with_node s fresh dir name) refl (λ all.
-    kept_made (touch dir fresh.made s) (new_node s fresh) (new_entry s dir name) (dirs_given s tree) given refl (children_below s tree)
+pub kept_link : (s : State) (fresh : NewNode) (content : List ℕ) (dir : ℕ) (name : List ℕ) → Shape s → dir ≢ 0 → NodesAreKept s
+    → NodesAreKept (with_link s fresh content dir name)
+kept_link s fresh content dir name tree given =
+    kept_by s (with_link s fresh content dir name) refl (λ all.
+    kept_made (touch dir fresh.made s) (with_target content (new_node s fresh)) (new_entry s dir name) (dirs_given s tree) given refl (children_below s tree)
     (kept_touched (λ k. false) s dir fresh.made all))
+
+pub kept_make : (s : State) (fresh : NewNode) (dir : ℕ) (name : List ℕ) → Shape s → dir ≢ 0 → NodesAreKept s → NodesAreKept (with_node s fresh dir name)
+kept_make s fresh dir name = kept_link s fresh [] dir name

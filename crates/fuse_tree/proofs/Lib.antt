@@ -11,6 +11,15 @@ pub mod Exchanges
 mod Fit
 pub mod Fitting
 mod Prefixes
+mod Carried
+mod Contents
+mod CreatingAgrees
+mod FurtherAgrees
+mod FurtherColumns
+mod FurtherFits
+mod PlusAgrees
+mod PlusFits
+mod SymlinkAgrees
 mod GoneFirst
 pub mod GoneRows
 pub mod Heights
@@ -20,6 +29,7 @@ pub mod Sweeping
 pub mod RemovalAgrees
 mod InitAgrees
 mod InitFits
+mod Joined
 mod Lengths
 mod Listing
 mod ListingAgrees

@@ -7,10 +7,10 @@ use Rattle.std.specs.Option.{option_map}
 use Rattle.std.proofs.Math.Seq.{take-append-add}
 use Rattle.std.proofs.lemmas.List.{take-map}
 use Rattle.std.proofs.lemmas.List.Elements.{filter-append}
-use Rattle.fuse_answer.specs.Entries.{Entry, IsNamed}
+use Rattle.fuse_answer.specs.Entries.{Entry, IsNamed, packed_len}
 use Rattle.fuse_tree.specs.declared.rows.EntryRow.{EntryRow}
 use Rattle.fuse_tree.specs.State.{State, Node, Shape, Apart, IsEntry, AreApart, node_at}
-use Rattle.fuse_tree.specs.Rows.{rows_of_state, row_of, is_after}
+use Rattle.fuse_tree.specs.Rows.{rows_of_state, row_of, is_after, entries_after}
 use Rattle.fuse_tree.specs.Listing.{dots, above_or_root, kind_of, told_entry, entries_in, is_following, entries_following, longest_prefix, first_fits}
 use Rattle.fuse_tree.specs.Listing.{ListingIsLongest}
 use Rattle.fuse_tree.specs.inner.PlanListing.{row_kind, row_entry, enough, dots_after, rows_after}
@@ -61,14 +61,15 @@ same_entries s [] = refl
 same_entries s (e ∷ es) = rw (same_entry s e, same_entries s es) refl
 
 -- the rows have a prefix of the entries after the offset
-pub rows_cut : (s : State) (d : Node) (offset size : ℕ)
-    → rows_after offset size (row_of s d) (rows_of_state s) ≡ take (length (dots_after offset (row_of s d)) + enough size) (entries_following s d.number offset)
-rows_cut s d offset size =
+pub rows_cut : (s : State) (d : Node) (offset limit : ℕ)
+    → dots_after offset (row_of s d) ++ map (row_entry (rows_of_state s)) (entries_after (rows_of_state s) d.number offset limit) ≡ take
+    (length (dots_after offset (row_of s d)) + limit) (entries_following s d.number offset)
+rows_cut s d offset limit =
     let first : List Entry = dots_after offset (row_of s d) in
     let after : List EntryRow = filter (is_after d.number offset) s.entries in
-    ap (λ (xs : List Entry). first ++ xs) (same_entries s (take (enough size) after) ∙ sym (take-map (told_entry s) (enough size) after))
-    ∙ sym (take-append-add first (map (told_entry s) after) (enough size))
-    ∙ ap (take (length first + enough size)) (sym (all_after s d.number offset))
+    ap (λ (xs : List Entry). first ++ xs) (same_entries s (take limit after) ∙ sym (take-map (told_entry s) limit after))
+    ∙ sym (take-append-add first (map (told_entry s) after) limit)
+    ∙ ap (take (length first + limit)) (sym (all_after s d.number offset))
 
 -- ---- their names
 
@@ -93,14 +94,14 @@ past size n = omega arith
 pub same_prefix : (s : State) (d : Node) (offset size : ℕ) → Shape s
     → longest_prefix (rows_after offset size (row_of s d) (rows_of_state s)) size ≡ longest_prefix (entries_following s d.number offset) size
 same_prefix s d offset size tree =
-    ap (λ (es : List Entry). longest_prefix es size) (rows_cut s d offset size)
+    ap (λ (es : List Entry). longest_prefix es size) (rows_cut s d offset (enough size))
     ∙ prefix_cut (entries_following s d.number offset) size _ (all_named s d.number offset tree) (past size (length (dots_after offset (row_of s d))))
 
 pub same_first : (s : State) (d : Node) (offset size : ℕ)
     → first_fits (rows_after offset size (row_of s d) (rows_of_state s)) size ≡ first_fits (entries_following s d.number offset) size
 same_first s d offset size =
-    ap (λ (es : List Entry). first_fits es size) (rows_cut s d offset size)
-    ∙ first_cut (entries_following s d.number offset) size _ (omega arith)
+    ap (λ (es : List Entry). first_fits es size) (rows_cut s d offset (enough size))
+    ∙ first_cut packed_len (entries_following s d.number offset) size _ (omega arith)
 
 -- ---- the law
 
@@ -128,5 +129,5 @@ listing_is_longest s dir offset size tree =
         (omega arith, all_above s 1 here (omega arith) cookies),
         (all_above s 2 here (omega arith) cookies, apart_told s here (apart_filtered AreApart (λ e. e.dir == dir) s.entries tree.shape.entries_apart)),
       );
-      longest = longest (entries_following s dir offset) size;
+      longest = longest packed_len (entries_following s dir offset) size;
     }

@@ -3,7 +3,7 @@ use Rattle.std.proofs.Common.{◌≤◌, ℕ, not, nat_lt, List, refl, arith}
 use Rattle.std.specs.List.{AllByRecursion}
 use Rattle.std.proofs.lemmas.Bool.{ltb-false}
 use Rattle.fuse_request.specs.declared.request.ReadIn.{ReadIn}
-use Rattle.fuse_answer.specs.Entries.{Entry, IsNamed}
+use Rattle.fuse_answer.specs.Entries.{Entry, IsNamed, packed_len}
 use Rattle.fuse_answer.specs.Laws.{ReadBack, RecordSizes}
 use Rattle.fuse_answer.specs.Replies.{Directory}
 use Rattle.fuse_tree.specs.Bounds.{read_limit}
@@ -18,7 +18,7 @@ use Rattle.fuse_tree.proofs.Shown.{all_taken}
 list_fits : RecordSizes → (s : State) (es : List Entry) (size : ℕ) → size ≤ 1048576 → Fits (list_prefix s es size)
 list_fits sizes s es size few =
     chosen (not (first_fits es size)) _ _ (refused s _)
-    (answered s _ (omega (arith, few, sizes.5 (longest_prefix es size), (longest es size).fits)))
+    (answered s _ (omega (arith, few, sizes.5 (longest_prefix es size), (longest packed_len es size).fits)))
 
 pub read_dir_fits : RecordSizes → (s : State) (asked : ReadIn) (n : Node) → Fits (read_dir s asked n)
 read_dir_fits sizes s asked n =

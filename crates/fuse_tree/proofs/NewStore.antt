@@ -12,7 +12,7 @@ root_is t now = record {
   from_one = omega arith;
   below = omega arith;
   mode = record { typed = refl; no_more = omega arith; no_device = λ _. refl };
-  content = λ _. refl;
+  content = record { others = λ _. refl; target = λ is. absurd cc; links = λ is. absurd cc };
   size = omega arith;
 }
 

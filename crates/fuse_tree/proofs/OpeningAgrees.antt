@@ -77,7 +77,7 @@ of_node fh node (h ∷ hs) rise is = step (of_node fh node hs rise.1) (eqb h.fh 
     step later false at there = (λ same. absurd (eqb-false h.fh fh at same), later there)
 
 closed_agrees : (s : State) (fh : ℕ) (d : Node) → Shape s → NodesAreKept s → node_at s d.number ≡ Some d → is_open s.handles fh d.number ≡ true
-    → Agrees s (plan_closed fh (row_of s d) (rows_of_state s)) (answer (tidied (closed s fh)) [])
+    → Agrees s (plan_closed (counters_of s) fh (row_of s d) (rows_of_state s)) (answer (tidied (closed s fh)) [])
 closed_agrees s fh d tree kept e there =
     let rows = close_rows s fh d.number tree there in
     record {

@@ -11,7 +11,7 @@ use Rattle.fuse_tree.specs.declared.rows.Full.{Full}
 use Rattle.fuse_tree.specs.declared.rows.Room.{Room}
 use Rattle.fuse_tree.specs.declared.rows.Change.TheVariants as changes
 use Rattle.fuse_init.specs.Profile.{Terms}
-use Rattle.fuse_tree.specs.State.{State, terms_of, profile_for, profile_of, used_of, Node, Shape, IsNode, FitsCapacity, is_file, type_of, node_at}
+use Rattle.fuse_tree.specs.State.{State, terms_of, profile_for, profile_of, used_of, Node, Shape, Carries, IsNode, FitsCapacity, is_file, type_of, node_at}
 use Rattle.fuse_tree.specs.Keeping.{agreement_of, attr_valid_of}
 use Rattle.fuse_tree.specs.Space.{room_of, used_after, has_room}
 use Rattle.fuse_tree.specs.Rows.{Rows, full_of, row_of, rows_of_state, put_node, at_node, sized, apply}
@@ -23,6 +23,7 @@ use Rattle.fuse_tree.proofs.Lists.{found}
 use Rattle.fuse_tree.proofs.KeptStates.{kept_change}
 use Rattle.fuse_tree.proofs.Agrees.{Agrees, refused_agrees, both_for, both_seen, not_false}
 use Rattle.fuse_tree.proofs.Blocks.{blocks_of, used_holds, used_then, room_with, room_told, room_sized, sized_rows, space_same, space_after}
+use Rattle.fuse_tree.proofs.Carried.{bytes_carried, carried_by_kind}
 use Rattle.fuse_tree.proofs.Lengths.{length_sized}
 use Rattle.fuse_tree.proofs.Modes.{kind_stays, mode_stays}
 use Rattle.fuse_tree.proofs.Trees.{SamePlace}
@@ -42,28 +43,29 @@ no_fault false false over e = absurd cc
 no_fault false true true e = absurd cc
 no_fault false true false e = (refl, refl)
 
-record Holds (limit mode : ℕ) (bytes : List ℕ) : Type 0 where
-  content : is_file mode ≡ false → bytes ≡ []
-  size : length bytes ≤ limit
+record Holds (t : Terms) (mode : ℕ) (bytes : List ℕ) : Type 0 where
+  content : Carries t mode bytes
+  size : length bytes ≤ t.file_limit
 
-content_then : (limit mode size : ℕ) (content : List ℕ) (b : Bool) → cond b (size_fault limit mode size) None ≡ None → Holds limit mode content
-    → Holds limit mode (cond b (sized size content) content)
-content_then limit mode size content true e p =
-    let q = no_fault _ (is_file mode) (nat_lt limit size) e in
-    let is = q.0 in
-    record { content = λ isnt. absurd cc; size = omega (arith, length_sized size content, ltb-false limit size q.1) }
-content_then limit mode size content false e p = p
+content_then : (t : Terms) (mode size : ℕ) (content : List ℕ) (b : Bool) → cond b (size_fault t.file_limit mode size) None ≡ None → Holds t mode content
+    → Holds t mode (cond b (sized size content) content)
+content_then t mode size content true e p =
+    let q = no_fault _ (is_file mode) (nat_lt t.file_limit size) e in
+    record {
+      content = bytes_carried t mode (sized size content) q.0;
+      size = omega (arith, length_sized size content, ltb-false t.file_limit size q.1);
+    }
+content_then t mode size content false e p = p
 
 set_is_node : (t : Terms) (next : ℕ) (set : SetattrIn) (now : Moment) (d : Node) → set_fault t.file_limit set d.mode ≡ None → IsNode t next d
     → IsNode t next (set_node set now d)
 set_is_node t next set now d e p =
-    let q = content_then t.file_limit d.mode set.size d.content (has set fattr_size) e (record { content = p.content; size = p.size }) in
-    let kind : is_file (mode_after set d.mode) ≡ is_file d.mode = ap (λ (k : ℕ). k == 8) (same_kind set d.mode) in
+    let q = content_then t d.mode set.size d.content (has set fattr_size) e (record { content = p.content; size = p.size }) in
     record {
       from_one = p.from_one;
       below = p.below;
       mode = mode_stays d.mode d.rdev set.mode (has set fattr_mode) p.mode;
-      content = λ isnt. q.content (sym kind ∙ isnt);
+      content = carried_by_kind t d.mode (mode_after set d.mode) (set_node set now d).content (same_kind set d.mode) q.content;
       size = q.size;
     }
 

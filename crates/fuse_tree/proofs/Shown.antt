@@ -4,12 +4,10 @@ use Rattle.std.specs.List.{AllByRecursion}
 use Rattle.std.proofs.lemmas.Bool.{eqb-false, ltb-false}
 use Rattle.std.proofs.lemmas.List.{map-append, take_more}
 use Rattle.fuse_wire.specs.Errnos.{einval, enametoolong}
-use Rattle.fuse_answer.specs.declared.dirent.Dirent.{Dirent}
-use Rattle.fuse_answer.specs.Entries.{Entry, entry_of}
 use Rattle.fuse_tree.specs.declared.rows.EntryRow.{EntryRow}
 use Rattle.fuse_tree.specs.State.{State, Shape, IsEntry, name_fault, is_odd_name}
 use Rattle.fuse_tree.specs.Rows.{Rows, IsRowed, rows_of_state, is_after, entries_after}
-use Rattle.fuse_tree.specs.inner.PlanListing.{row_entry, IsShown}
+use Rattle.fuse_tree.specs.inner.PlanListing.{IsShown}
 use Rattle.fuse_tree.proofs.Agrees.{no_fault}
 use Rattle.fuse_tree.proofs.Lists.{all_more, all_kept, or_false}
 use Rattle.fuse_tree.proofs.Bounds.{rowed_is, child_there}
@@ -57,14 +55,13 @@ all_at P [] i x all within is = absurd (omega arith)
 all_at P (y ∷ ys) zero x all within is = subst P is all.0
 all_at P (y ∷ ys) (suc i) x all within is = all_at P ys i x all.1 (omega arith) is
 
-pub one_more : (rows : Rows) (es : List EntryRow) (i : ℕ) (e : EntryRow) (old : List Entry) (ds new : List Dirent) (d : Dirent) → i < length es
-    → get_or es i e ≡ e → new ≡ ds ++ d ∷ []
-    → map entry_of ds ≡ old ++ map (row_entry rows) (take i es) → entry_of d ≡ row_entry rows e
-    → map entry_of new ≡ old ++ map (row_entry rows) (take (i + 1) es)
-one_more rows es i e old ds new d within is put before told =
+pub one_more : {D A : Type 0} (see : D → A) (make : EntryRow → A) (es : List EntryRow) (i : ℕ) (e : EntryRow) (old : List A) (ds new : List D) (d : D)
+    → i < length es → get_or es i e ≡ e → new ≡ ds ++ d ∷ []
+    → map see ds ≡ old ++ map make (take i es) → see d ≡ make e
+    → map see new ≡ old ++ map make (take (i + 1) es)
+one_more {D} {A} see make es i e old ds new d within is put before told =
     let more : take (i + 1) es ≡ take i es ++ e ∷ [] = take_more es i e within ∙ ap (λ (x : EntryRow). take i es ++ x ∷ []) is in
-    ap (map entry_of) put ∙ map-append entry_of ds (d ∷ []) ∙ ap (λ (x : List Entry). x ++ entry_of d ∷ []) before
-    ∙ ap (λ (x : Entry). (old ++ map (row_entry rows) (take i es)) ++ x ∷ []) told
-    ∙ append_assoc old (map (row_entry rows) (take i es)) (row_entry rows e ∷ [])
-    ∙ ap (λ (x : List Entry). old ++ x) (sym (map-append (row_entry rows) (take i es) (e ∷ [])))
-    ∙ ap (λ (x : List EntryRow). old ++ map (row_entry rows) x) (sym more)
+    ap (map see) put ∙ map-append see ds (d ∷ []) ∙ ap (λ (x : List A). x ++ see d ∷ []) before
+    ∙ ap (λ (x : A). (old ++ map make (take i es)) ++ x ∷ []) told
+    ∙ append_assoc old (map make (take i es)) (make e ∷ []) ∙ ap (λ (x : List A). old ++ x) (sym (map-append make (take i es) (e ∷ [])))
+    ∙ ap (λ (x : List EntryRow). old ++ map make x) (sym more)

@@ -35,6 +35,13 @@ isnt_not false e = absurd cc
 
 -- ---- the room
 
+pub sized_room : (room : Option Room) (from to : ℕ) → IfSome room FitsRoom → has_room room from to ≡ true → IfSome (option_map (room_after from to) room) FitsRoom
+sized_room None from to is enough = tt
+sized_room (Some room) from to is enough = record {
+  capacity = is.capacity;
+  used = omega (arith, is.capacity, leb-true (used_after room.used from to) room.capacity enough);
+}
+
 -- the counters with a room in which a size has changed
 room_fits : (counters : Option CountersRow) (from to : ℕ) → IfSome counters SmallCounters → has_room (room_in counters) from to ≡ true
     → FitColumns (room_changes counters from to)
@@ -46,17 +53,10 @@ room_fits (Some counters) from to few left = (
     next_cookie = omega (arith, few.next_cookie);
     nodes = omega (arith, few.nodes);
     handles = omega (arith, few.handles);
-    room = sized counters.room few.room left;
+    room = sized_room counters.room from to few.room left;
   },
   tt,
 )
-  where
-    sized : (room : Option Room) → IfSome room FitsRoom → has_room room from to ≡ true → IfSome (option_map (room_after from to) room) FitsRoom
-    sized None is enough = tt
-    sized (Some room) is enough = record {
-      capacity = is.capacity;
-      used = omega (arith, is.capacity, leb-true (used_after room.used from to) room.capacity enough);
-    }
 
 counters_small : (p : Profile) (rows : Rows) → Small rows → IfSome (counters_for p rows) SmallCounters
 counters_small Plain rows all = tt

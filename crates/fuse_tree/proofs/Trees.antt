@@ -8,14 +8,13 @@ use Rattle.fuse_init.specs.Profile.{Terms}
 use Rattle.fuse_tree.specs.Bounds.{number_end}
 use Rattle.fuse_tree.specs.declared.rows.EntryRow.{EntryRow}
 use Rattle.fuse_tree.specs.declared.rows.HandleRow.{HandleRow}
-use Rattle.fuse_tree.specs.State.{State, terms_of, Node, Shape, HasMode, IsNode, IsEntry, IsHandle, AreApart, Reaches, type_of, is_dir_of, has_number, is_open_at}
+use Rattle.fuse_tree.specs.State.{State, terms_of, Node, Shape, HasMode, Carries, IsNode, IsEntry, IsHandle, AreApart, Reaches, type_of, is_dir_of, has_number, is_open_at}
 use Rattle.fuse_tree.specs.State.{FitsCapacity, is_entry, name_fault, up_of, is_named}
 use Rattle.fuse_tree.specs.Rows.{entry_at}
 use Rattle.fuse_tree.specs.Making.{grow}
 use Rattle.fuse_tree.proofs.Lists.{all_more, all_both, all_grown, all_mapped, apart_grown, apart_mapped, any_mapped, any_grown, any_last, any_gives, and_true}
 use Rattle.fuse_tree.proofs.Lists.{none_found}
 use Rattle.fuse_tree.proofs.Ups.{reaches_more, named_reaches}
-use Rattle.fuse_tree.proofs.Blocks.{used_appended, space_same}
 
 -- ---- numbers that are given out
 
@@ -126,7 +125,9 @@ tree_mapped s f same ok space tree =
 pub record Fits (s : State) (n : Node) (e : EntryRow) : Type 0 where
   pub number : n.number ≡ s.next_node
   pub mode : HasMode n.mode n.rdev
-  pub empty : n.content ≡ []
+  pub content : Carries (terms_of s) n.mode n.content
+  pub size : length n.content ≤ (terms_of s).file_limit
+  pub space : IfSome s.capacity (FitsCapacity (grow n e s))
   pub child : e.child ≡ s.next_node
   pub cookie : e.cookie ≡ s.next_cookie
   pub dir : list_any (is_dir_of e.dir) s.nodes ≡ true
@@ -175,7 +176,7 @@ tree_grown s n e fits tree =
             content = p.content;
             size = p.size;
           }) tree.nodes)
-          (record { from_one = omega arith; below = omega arith; mode = fits.mode; content = λ _. fits.empty; size = rw fits.empty (omega arith) });
+          (record { from_one = omega arith; below = omega arith; mode = fits.mode; content = fits.content; size = fits.size });
       nodes_rise =
           apart_grown (λ a b. a.number < b.number) s.nodes n tree.nodes_rise
           (all_more (IsNode (terms_of s) s.next_node) (λ m. m.number < n.number) s.nodes (λ m p. let lt : m.number < s.next_node = p.below in omega arith) tree.nodes);
@@ -200,5 +201,5 @@ tree_grown s n e fits tree =
         fh_from_one = tree.limits.fh_from_one;
         cookie_from_three = omega arith;
       };
-      space = space_same s (grow n e s) s.capacity (used_appended s.nodes n fits.empty) tree.space;
+      space = fits.space;
     }

@@ -25,6 +25,7 @@ use Rattle.fuse_tree.proofs.Lists.{found, any_gives, and_true, and_false}
 use Rattle.fuse_tree.proofs.KeptStates.{kept_change}
 use Rattle.fuse_tree.proofs.Agrees.{Agrees, refused_agrees, both, both_seen, not_false}
 use Rattle.fuse_tree.proofs.Blocks.{used_then, room_with, room_told, room_sized, sized_rows, space_after}
+use Rattle.fuse_tree.proofs.Carried.{bytes_carried}
 use Rattle.fuse_tree.proofs.Lengths.{length_written}
 use Rattle.fuse_tree.proofs.Trees.{SamePlace}
 use Rattle.fuse_tree.proofs.Puts.{only_one, find_full}
@@ -69,7 +70,7 @@ wrote_is_node : (t : Terms) (next offset : ℕ) (payload : List ℕ) (now : Mome
     → offset + length payload ≤ t.file_limit → IsNode t next d → IsNode t next (wrote offset payload now d)
 wrote_is_node t next offset payload now d file low p =
     let size : length d.content ≤ t.file_limit = p.size in
-    record { from_one = p.from_one; below = p.below; mode = p.mode; content = λ isnt. absurd cc; size = omega (arith, length_written offset payload d.content) }
+    record { from_one = p.from_one; below = p.below; mode = p.mode; content = bytes_carried t d.mode (written offset payload d.content) file; size = omega (arith, length_written offset payload d.content) }
 
 -- in the node d
 module _ (s : State) (offset : ℕ) (payload : List ℕ) (now : Moment) (d : Node) (tree : Shape s) (e : node_at s d.number ≡ Some d) where

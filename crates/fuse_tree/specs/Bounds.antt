@@ -31,6 +31,10 @@ read_limit = 1048576
 abbrev pub name_limit : ℕ
 name_limit = 255
 
+-- the most bytes of the target of a symbolic link (Linux: PATH_MAX, with a NUL)
+abbrev pub target_limit : ℕ
+target_limit = 4095
+
 -- the node at the top (fuse.h: FUSE_ROOT_ID)
 abbrev pub fuse_root_id : ℕ
 fuse_root_id = 1

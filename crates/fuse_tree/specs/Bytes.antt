@@ -28,6 +28,7 @@ BringsBytes (acts.Mkdir mode umask name) = AreNameBytes name
 BringsBytes (acts.Rename new_dir old_name new_name) = AreNameBytes old_name × AreNameBytes new_name
 BringsBytes (acts.Rename2 new_dir flags old_name new_name) = AreNameBytes old_name × AreNameBytes new_name
 BringsBytes (acts.Write fh offset write_flags lock_owner flags payload) = AreBytes payload
+BringsBytes (acts.Unsupported opcode body) = AreBytes body
 BringsBytes _ = Unit {0}
 
 -- a new store holds bytes, and requests that bring bytes and mounts leave it so

@@ -22,6 +22,7 @@ use Rattle.fuse_tree.specs.Listing.{read_dir}
 use Rattle.fuse_tree.specs.Opening.{open_file, open_dir, release, release_dir}
 use Rattle.fuse_tree.specs.Removing.{unlink, rmdir}
 use Rattle.fuse_tree.specs.Renaming.{asking, rename}
+use Rattle.fuse_tree.specs.Further.{further}
 
 -- ---- LOOKUP
 
@@ -72,6 +73,7 @@ do_act s header (acts.Release x) now n = release s x.fh n
 do_act s header (acts.ReleaseDir x) now n = release_dir s x.fh n
 do_act s header (acts.Rename new_dir old_name new_name) now n = rename s (asking new_dir 0 old_name new_name now) n
 do_act s header (acts.Rename2 new_dir flags old_name new_name) now n = rename s (asking new_dir flags old_name new_name now) n
+do_act s header (acts.Unsupported opcode body) now n = further s header opcode body now n
 do_act s header _ now n = refuse s enosys
 
 abbrev pub do_at : State → Asked → Moment → Option Node → Done

@@ -20,6 +20,12 @@ pub mod Removing
 pub mod Renaming
 pub mod Opening
 pub mod Listing
+pub mod Statfs
+pub mod Linking
+pub mod Symlinking
+pub mod Creating
+pub mod PlusListing
+pub mod Further
 pub mod Do
 pub mod Columns
 pub mod Plan

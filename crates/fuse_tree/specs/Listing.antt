@@ -44,18 +44,28 @@ entries_following s dir offset = filter (is_following offset) (entries_in s dir)
 
 -- ---- as many as fit
 
--- the most entries, n or fewer, that fit into size from the first one on
+-- the most elements, n or fewer, that fit into size from the first one on, by the length of each
+abbrev pub most_by : {A : Type 0} → (A → ℕ) → List A → ℕ → ℕ → ℕ
+most_by len es size zero = 0
+most_by len es size (suc n) = if nat_le (sum_by len (take (suc n) es)) size then suc n else most_by len es size n
+
+abbrev pub longest_by : {A : Type 0} → (A → ℕ) → List A → ℕ → List A
+longest_by len es size = take (most_by len es size (length es)) es
+
+-- there is no first element, or it fits
+abbrev pub first_fits_by : {A : Type 0} → (A → ℕ) → List A → ℕ → Bool
+first_fits_by len [] size = true
+first_fits_by len (e ∷ es) size = nat_le (len e) size
+
+-- by their lengths in READDIR
 abbrev pub most : List Entry → ℕ → ℕ → ℕ
-most es size zero = 0
-most es size (suc n) = if nat_le (sum_by packed_len (take (suc n) es)) size then suc n else most es size n
+most es size n = most_by packed_len es size n
 
 abbrev pub longest_prefix : List Entry → ℕ → List Entry
-longest_prefix es size = take (most es size (length es)) es
+longest_prefix es size = longest_by packed_len es size
 
--- there is no first entry, or it fits
 abbrev pub first_fits : List Entry → ℕ → Bool
-first_fits [] size = true
-first_fits (e ∷ es) size = nat_le (packed_len e) size
+first_fits es size = first_fits_by packed_len es size
 
 -- ---- READDIR
 

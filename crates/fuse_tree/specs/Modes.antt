@@ -23,6 +23,10 @@ s_ifsock = 0o140000
 abbrev pub s_isgid : ℕ
 s_isgid = 0o2000
 
+-- a symbolic link, of which only some profiles have any
+abbrev pub s_iflnk : ℕ
+s_iflnk = 0o120000
+
 -- the bits below this one are the permissions, and the next four are the type
 abbrev pub type_unit : ℕ
 type_unit = 0o10000

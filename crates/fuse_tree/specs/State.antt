@@ -13,8 +13,8 @@ use Rattle.fuse_init.specs.declared.settings.Settings.{Settings}
 use Rattle.fuse_init.specs.declared.profile.Profile.{Profile}
 use Rattle.fuse_init.specs.declared.profile.Profile.TheVariants.{Plain, Everyday}
 use Rattle.fuse_init.specs.Profile.{Terms, terms}
-use Rattle.fuse_tree.specs.Bounds.{handle_limit, number_end, capacity_end, name_limit, fuse_root_id, block_bytes}
-use Rattle.fuse_tree.specs.Modes.{s_ifblk, s_ifchr, s_ifdir, s_ififo, s_ifreg, s_ifsock, type_unit, type_count}
+use Rattle.fuse_tree.specs.Bounds.{handle_limit, number_end, capacity_end, name_limit, target_limit, fuse_root_id, block_bytes}
+use Rattle.fuse_tree.specs.Modes.{s_ifblk, s_ifchr, s_ifdir, s_ififo, s_iflnk, s_ifreg, s_ifsock, type_unit, type_count}
 use Rattle.fuse_tree.specs.declared.rows.EntryRow.{EntryRow}
 use Rattle.fuse_tree.specs.declared.rows.HandleRow.{HandleRow}
 
@@ -86,11 +86,15 @@ is_dir mode = type_of mode == s_ifdir / type_unit
 abbrev pub is_file : ℕ → Bool
 is_file mode = type_of mode == s_ifreg / type_unit
 
+-- a symbolic link (symlink(7))
+abbrev pub is_link : ℕ → Bool
+is_link mode = type_of mode == s_iflnk / type_unit
+
 -- the bits of a mode that are its type
 abbrev pub type_bits : ℕ → ℕ
 type_bits mode = type_of mode * type_unit
 
--- these bits are of a type that a node may have
+-- these bits are of a type that a node may have under every profile
 abbrev pub is_type : ℕ → Bool
 is_type bits =
     (bits == s_ifdir) || (bits == s_ifreg) || (bits == s_ifchr) || (bits == s_ifblk) || (bits == s_ififo) || (bits == s_ifsock)
@@ -184,16 +188,28 @@ Reaches entries number = (steps : ℕ) × (above entries steps number ≡ fuse_r
 
 -- a mode is a type and permissions, and nothing more; only devices have the number of one
 pub record HasMode (mode rdev : ℕ) : Type 0 where
-  pub typed : is_type (type_bits mode) ≡ true
+  pub typed : (is_type (type_bits mode) || is_link mode) ≡ true
   pub no_more : mode < 2 ^ 16
   pub no_device : is_device (type_bits mode) ≡ false → rdev ≡ 0
 
--- a node's number is given out, its mode is one, and only regular files have content
+-- the target of a symbolic link: a path, without its NUL (Linux: PATH_MAX; symlink(2): an empty one is refused)
+pub record IsTarget (target : List ℕ) : Type 0 where
+  pub some : 1 ≤ length target
+  pub short : length target ≤ target_limit
+  pub no_nul : AllByRecursion (λ b. b ≢ 0) target
+
+-- only regular files and symbolic links have content, and only some profiles have links
+pub record Carries (t : Terms) (mode : ℕ) (content : List ℕ) : Type 0 where
+  pub others : (is_file mode || is_link mode) ≡ false → content ≡ []
+  pub target : is_link mode ≡ true → IsTarget content
+  pub links : is_link mode ≡ true → t.links ≡ true
+
+-- a node's number is given out, its mode is one, and it has what such a node may have for content
 pub record IsNode (t : Terms) (next_node : ℕ) (n : Node) : Type 0 where
   pub from_one : 1 ≤ n.number
   pub below : n.number < next_node
   pub mode : HasMode n.mode n.rdev
-  pub content : is_file n.mode ≡ false → n.content ≡ []
+  pub content : Carries t n.mode n.content
   pub size : length n.content ≤ t.file_limit
 
 -- an entry leads from a directory under the root to a node other than the root

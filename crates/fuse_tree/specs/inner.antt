@@ -1,3 +1,4 @@
+pub mod ChunkBytes
 pub mod NumbersOnce
 pub mod Reading
 pub mod PlanSpace
@@ -10,6 +11,12 @@ pub mod PlanRemoving
 pub mod PlanOpening
 pub mod PlanListing
 pub mod PlanRenaming
+pub mod PlanStatfs
+pub mod PlanLinking
+pub mod PlanSymlinking
+pub mod PlanCreating
+pub mod PlanPlus
+pub mod PlanFurther
 pub mod Planning
 pub mod Causing
 pub mod Vectors

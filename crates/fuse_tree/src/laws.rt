@@ -1,4 +1,5 @@
 ghost use Rattle.fuse_tree.specs.Listing.{ListingIsLongest};
+ghost use Rattle.fuse_tree.specs.PlusListing.{PlusIsLongest};
 ghost use Rattle.fuse_tree.specs.Renaming.{LiesInIsUnder};
 ghost use Rattle.fuse_tree.specs.Plan.{TreeKept, NewStoreIsTree, RowsTellState, AnswersFit};
 ghost use Rattle.fuse_tree.specs.Plan.{AnswersAreRead};
@@ -59,6 +60,11 @@ pub fn listing_is_longest()
     ensures { ListingIsLongest }
 {}
 
+/// READDIRPLUS lists the longest prefix that fits.
+pub fn plus_listing_is_longest()
+    ensures { PlusIsLongest }
+{}
+
 /// A directory lies under another one within as many steps up as there are nodes.
 pub fn lies_in_is_under()
     ensures { LiesInIsUnder }
@@ -73,6 +79,7 @@ pub fn limit_numbers()
     ensures capacities { CAPACITY_END ≡ bounds.capacity_end }
     ensures capacity { DEFAULT_CAPACITY ≡ bounds.default_capacity }
     ensures read { MAX_READ ≡ bounds.read_limit }
+    ensures target { MAX_TARGET ≡ bounds.target_limit }
     ensures root { ROOT_ID ≡ bounds.fuse_root_id }
     ensures block { BLOCK_SIZE ≡ bounds.block_bytes }
     ensures sector { SECTOR_SIZE ≡ bounds.sector_bytes }
@@ -90,6 +97,7 @@ pub fn mode_numbers()
     ensures fifo { S_IFIFO ≡ modes.s_ififo }
     ensures socket { S_IFSOCK ≡ modes.s_ifsock }
     ensures group { S_ISGID ≡ modes.s_isgid }
+    ensures link { S_IFLNK ≡ modes.s_iflnk }
     ensures unit { TYPE_UNIT ≡ modes.type_unit }
     ensures types { TYPES ≡ modes.type_count }
     ensures no_replace { RENAME_NOREPLACE ≡ modes.rename_noreplace }

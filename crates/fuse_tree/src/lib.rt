@@ -21,14 +21,17 @@ mod terms;
 pub use agreement::Agreement;
 pub use laws::{
     answers_are_read, answers_fit, bytes_kept, lies_in_is_under, limit_numbers, listing_is_longest,
-    mode_numbers, new_store_is_tree, rows_of_trees, rows_tell_state, tree_kept,
+    mode_numbers, new_store_is_tree, plus_listing_is_longest, rows_of_trees, rows_tell_state,
+    tree_kept,
 };
 pub use limits::{
     BLOCK_SIZE, CAPACITY_END, COUNTER_END, DEFAULT_CAPACITY, KEPT_SECS, MAX_FILE, MAX_HANDLES,
-    MAX_NODES, MAX_READ, ROOT_ID, SECTOR_SIZE, VALID_SECS,
+    MAX_NODES, MAX_READ, MAX_TARGET, ROOT_ID, SECTOR_SIZE, VALID_SECS,
 };
 pub use look::{Look, LookFault};
-pub use mode::{S_IFBLK, S_IFCHR, S_IFDIR, S_IFIFO, S_IFREG, S_IFSOCK, S_ISGID, TYPE_UNIT, TYPES};
+pub use mode::{
+    S_IFBLK, S_IFCHR, S_IFDIR, S_IFIFO, S_IFLNK, S_IFREG, S_IFSOCK, S_ISGID, TYPE_UNIT, TYPES,
+};
 pub use mount::clearing;
 pub use pieces::{Piece, Pieces};
 pub use plain_tree::PlainTree;

@@ -24,6 +24,9 @@ pub const MAX_READ: u32 = MAX_BODY as u32;
 /// The fewest bytes that an entry takes in a listing: those before its name, and a name of up to 8.
 pub const LEAST_ENTRY: u32 = 32;
 
+/// The most bytes of the target of a symbolic link.
+pub const MAX_TARGET: u32 = 4095;
+
 /// The number of the directory at the top of the tree: FUSE_ROOT_ID of `fuse.h`.
 pub const ROOT_ID: u64 = 1;
 

@@ -19,6 +19,9 @@ pub const S_IFSOCK: u32 = 0o140000;
 /// What is made in a directory with this bit gets its group.
 pub const S_ISGID: u32 = 0o2000;
 
+/// A symbolic link, of which only some profiles have any.
+pub const S_IFLNK: u32 = 0o120000;
+
 /// A mode's bits below this one are the permissions. It and the next three are the type.
 pub const TYPE_UNIT: u32 = 0o10000;
 

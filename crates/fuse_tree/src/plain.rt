@@ -1,4 +1,5 @@
-mod contents;
+mod chunk;
+pub mod chunks;
 mod entries;
 mod handles;
 mod nodes;

@@ -6,14 +6,15 @@ ghost use Rattle.fuse_tree.specs.Rows.{rowed};
 ghost use Rattle.fuse_tree.specs.Do.{done};
 ghost use Rattle.fuse_tree.specs.Plan.{Meets, look_fault};
 ghost use Rattle.fuse_tree.specs.inner.Reading.{IsWithin, LooksUp, view};
-ghost use Rattle.fuse_tree.specs.inner.Planning.{tells_name, plan_act, plan_agreed as planned_agreed};
-ghost use Rattle.fuse_tree.specs.inner.Planning.{plan_of};
+ghost use Rattle.fuse_tree.specs.inner.Planning.{tells_name, plan_act, plan_of};
 
 mod answers;
 mod attributes;
+mod create;
 mod exchange;
 mod fault;
 mod finding;
+mod further;
 mod getattr;
 mod init;
 mod lookup;
@@ -25,6 +26,8 @@ mod names;
 mod open;
 mod read;
 mod read_dir;
+mod read_dir_plus;
+mod readlink;
 mod release;
 mod removal;
 mod remove;
@@ -32,6 +35,8 @@ mod rename;
 mod rmdir;
 mod setattr;
 mod space;
+mod statfs;
+mod symlink;
 mod unlink;
 mod walking;
 mod write;
@@ -43,7 +48,8 @@ use crate::rows::{NodeRow, Planned};
 use crate::terms::open_flags;
 use answers::{done_nothing, refused};
 pub use fault::PlanFault;
-use finding::{find_agreement, find_node};
+use finding::{find_agreement, find_node, is_within};
+use further::plan_further;
 use fuse_request::{Op, Request};
 use fuse_wire::{Errno, Moment};
 use getattr::plan_getattr;
@@ -90,7 +96,7 @@ pub fn plan<L: Look>(
 }
 
 // INIT is always answered, and other requests where settings are agreed on.
-#[tactic(auto, using(crate::proofs::Agreeing::offers_nothing))]
+#[tactic(auto, using(crate::proofs::Agreeing::offers_nothing, crate::proofs::Agreeing::looks_at_node, crate::proofs::Bounds::none_outside))]
 fn plan_request<L: Look>(
     alloc: Global,
     look: &mut L,
@@ -108,28 +114,16 @@ fn plan_request<L: Look>(
     if agreement.settings.is_none() {
         return Ok(refused(alloc, Errno::EPROTO));
     }
-    plan_agreed(alloc, look, &agreement, request, now)
-}
-
-#[tactic(auto, using(crate::proofs::Agreeing::looks_at_node))]
-fn plan_agreed<L: Look>(
-    alloc: Global,
-    look: &mut L,
-    agreement: &Agreement,
-    request: &Request<'_>,
-    now: Moment,
-) -> Result<Planned, PlanFault>
-    requires { L.fault look.old ≡ None }
-    ensures { LooksUp (view L.is_clean L.sees L.fault L.looks L.fails) look.old look.new result
-        (planned_agreed agreement.now (asked request.now) now) }
-{
     if let Op::Destroy = request.op {
         return Ok(done_nothing(alloc));
     }
     let Some(row) = find_node(look, request.header.nodeid)? else {
         return Ok(refused(alloc, Errno::ESTALE));
     };
-    plan_op(alloc, look, agreement, request, now, &row)
+    if !is_within(agreement.profile, &row) {
+        return Err(PlanFault::NotATree);
+    }
+    plan_op(alloc, look, &agreement, request, now, &row)
 }
 
 // The operation, at the node of the header. The last line is of requests that are not performed.
@@ -179,12 +173,23 @@ fn plan_op<L: Look>(
         | Op::Rmdir { .. }
         | Op::Rename { .. }
         | Op::Rename2 { .. } => plan_named(alloc, look, agreement, request, now, row),
+        Op::Unsupported { opcode, body } => {
+            plan_further(
+                alloc,
+                look,
+                agreement,
+                &request.header,
+                *opcode,
+                body,
+                now,
+                row,
+            )
+        }
         Op::Destroy
         | Op::Forget { .. }
         | Op::Init(_)
         | Op::Interrupt { .. }
-        | Op::BatchForget { .. }
-        | Op::Unsupported { .. } => Ok(refused(alloc, Errno::ENOSYS)),
+        | Op::BatchForget { .. } => Ok(refused(alloc, Errno::ENOSYS)),
     }
 }
 

@@ -1,4 +1,5 @@
 use crate::limits::ROOT_ID;
+use crate::plain::chunks::Chunks;
 use fuse_answer::Answer;
 use fuse_init::{Profile, Settings};
 use fuse_wire::{AccessMode, ByteList, Moment};
@@ -40,7 +41,7 @@ impl NodeRow {
 #[derive(Drop)]
 pub struct Full {
     pub row: NodeRow,
-    pub content: ByteList,
+    pub content: Chunks,
 }
 
 /// A name in a directory. Cookies give the order in which names are listed.

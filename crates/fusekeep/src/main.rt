@@ -2,19 +2,24 @@
 //! and streams, and runs scripts of events.
 #![tactic(auto)]
 
+mod causes;
+mod companion;
+mod deaths;
 mod serve;
 mod show;
 mod snapshot;
+mod version;
 
+use causes::say_cause;
 use clap::Error;
 use clap::error::ErrorKind;
+use companion::{missing_log, remove_log};
 use fuse_commands::{
-    Ending, ProgressReader, Run, STANDARD_INPUT, START, Work, parse, run_check, run_dump,
-    run_replay, unreadable,
+    Ending, ProgressReader, Run, STANDARD_INPUT, Work, impossible_store, parse, run_check,
+    run_decode, run_dump, unreadable,
 };
-use fuse_files::{Show, replay_store, simulate_store};
-use fuse_init::PlainProfile;
-use fuse_store::{PlainKeeper, PlainTree, StoreKind};
+use fuse_files::{Show, kind_asked, replay_in_memory, replay_store, simulate_store};
+use fuse_store::StoreKind;
 use fuse_store_files::StoreFiles;
 use fuse_wire::Moment;
 use serve::serve_as_asked;
@@ -25,22 +30,32 @@ use std::alloc::Global;
 use std::io::{BufWriter, IsTerminal, Read, Write};
 use std::process::ExitCode;
 use std::{env, fs, io};
+use version::VERSION;
 
 fn main(rt: HostRuntime) -> ExitCode {
-    let ending = run(&rt);
+    ExitCode::from(run(&rt).status())
+}
+
+// Prints the message of clap: on standard output if the version was asked for.
+fn refuse<R: Print + Eprint>(rt: &R, error: Error) -> Ending {
+    match error.kind() {
+        ErrorKind::OutOfMemory => Ending::Memory,
+        ErrorKind::DisplayVersion => match rt.print(&error) {
+            Ok(()) => Ending::Done,
+            Err(_) => Ending::PortFailed,
+        },
+        _ => {
+            let _ = rt.eprint(&error);
+            Ending::Usage
+        }
+    }
+}
+
+// Prints the line of an ending.
+fn say_ending<R: Eprint>(rt: &R, ending: Ending) {
     if let Some(line) = ending.line() {
         let _ = rt.eprintln(line);
     }
-    ExitCode::from(ending.status())
-}
-
-// Prints the message of clap.
-fn refuse<R: Eprint>(rt: &R, error: Error) -> Ending {
-    if error.kind() == ErrorKind::OutOfMemory {
-        return Ending::Memory;
-    }
-    let _ = rt.eprint(&error);
-    Ending::Usage
 }
 
 // The command line.
@@ -52,44 +67,70 @@ fn words_of(rt: &HostRuntime) -> Result<Vec<String>, Ending> {
     }
 }
 
-// Runs the command line.
+// Runs the command line. A fault has a line, and one for its cause if that is known.
 fn run(rt: &HostRuntime) -> Ending {
     let words = match words_of(rt) {
         Ok(words) => words,
-        Err(ending) => return ending,
+        Err(ending) => {
+            say_ending(rt, ending);
+            return ending;
+        }
     };
-    match parse(rt.alloc(), words.as_slice()) {
-        Ok(
-            Run::Serve {
-                db,
-                begin,
-                at,
-                wary,
-            },
-        ) => {
+    match parse(rt.alloc(), words.as_slice(), VERSION) {
+        Ok(asked) => {
+            let ending = run_as_asked(rt, asked);
+            say_ending(rt, ending);
+            say_cause(rt, asked, ending);
+            ending
+        }
+        Err(error) => {
+            let ending = refuse(rt, error);
+            say_ending(rt, ending);
+            ending
+        }
+    }
+}
+
+// Runs a command, if the new store that it asks for is possible.
+fn run_as_asked(rt: &HostRuntime, asked: Run<'_>) -> Ending {
+    match kind_asked(asked.new_store()) {
+        Some(kind) => run_command(rt, asked, kind),
+        None => refuse(rt, impossible_store(rt.alloc())),
+    }
+}
+
+// Runs a command. A new store is of this kind.
+fn run_command(rt: &HostRuntime, asked: Run<'_>, kind: StoreKind) -> Ending {
+    match asked {
+        Run::Serve {
+            db,
+            begin,
+            at,
+            wary,
+            ..
+        } => {
             if wary {
-                serve_as_asked(rt, db, Wary, begin, at)
+                serve_as_asked(rt, db, Wary, begin, at, kind)
             } else {
-                serve_as_asked(rt, db, Unknown, begin, at)
+                serve_as_asked(rt, db, Unknown, begin, at, kind)
             }
         }
-        Ok(Run::Store { file }) => show_file(rt, file, Show::Summary),
-        Ok(Run::List { file, path }) => show_file(rt, file, Show::Directory(path)),
-        Ok(Run::Cat { file, path }) => show_file(rt, file, Show::File(path)),
-        Ok(Run::Read { input, work }) => run_on_input(rt, input, work),
-        Err(error) => refuse(rt, error),
+        Run::Store { file } => show_file(rt, file, Show::Summary),
+        Run::List { file, path } => show_file(rt, file, Show::Directory(path)),
+        Run::Cat { file, path } => show_file(rt, file, Show::File(path)),
+        Run::Read { input, work } => run_on_input(rt, input, work, kind),
     }
 }
 
 // Opens the input and processes it.
-fn run_on_input(rt: &HostRuntime, input: &str, work: Work<'_>) -> Ending {
+fn run_on_input(rt: &HostRuntime, input: &str, work: Work<'_>, kind: StoreKind) -> Ending {
     if input == STANDARD_INPUT {
-        return run_with_progress(rt, rt.reader(), None, work);
+        return run_with_progress(rt, rt.reader(), None, work, kind);
     }
     match fs::open(rt, input) {
         Ok(file) => {
             let total = size_of(&file);
-            run_with_progress(rt, file, total, work)
+            run_with_progress(rt, file, total, work, kind)
         }
         Err(_) => Ending::PortFailed,
     }
@@ -107,8 +148,8 @@ fn size_of(file: &fs::File) -> Option<u64> {
 fn is_watched(rt: &HostRuntime, work: Work<'_>) -> bool {
     let prints_apart = match work {
         Work::Check => true,
-        Work::Dump | Work::Replay { .. } => !rt.stdout().is_terminal(),
-        Work::Simulate => false,
+        Work::Dump | Work::Decode | Work::Replay { .. } => !rt.stdout().is_terminal(),
+        Work::Simulate { .. } => false,
     };
     prints_apart && rt.stderr().is_terminal()
 }
@@ -119,48 +160,42 @@ fn run_with_progress<R: Read + Drop>(
     reader: R,
     total: Option<u64>,
     work: Work<'_>,
+    kind: StoreKind,
 ) -> Ending {
     if is_watched(rt, work) {
-        run_work(rt, ProgressReader::new(reader, rt, total), work)
+        run_work(rt, ProgressReader::new(reader, rt, total), work, kind)
     } else {
-        run_work(rt, reader, work)
+        run_work(rt, reader, work, kind)
     }
 }
 
 // Processes the input, with buffered output.
-fn run_work<R: Read + Drop>(rt: &HostRuntime, reader: R, work: Work<'_>) -> Ending {
+fn run_work<R: Read + Drop>(
+    rt: &HostRuntime,
+    reader: R,
+    work: Work<'_>,
+    kind: StoreKind,
+) -> Ending {
     let alloc = rt.alloc();
     let Ok(mut writer) = BufWriter::new(alloc, io::writer(rt)) else {
         return Ending::Memory;
     };
     match work {
         Work::Dump => run_dump(alloc, reader, &mut writer),
+        Work::Decode => run_decode(alloc, reader, &mut writer),
         Work::Check => run_check(alloc, reader, &mut writer),
-        Work::Replay { db, at, wary } => {
+        Work::Replay { db, at, wary, .. } => {
             let moment = Moment { secs: at, nanos: 0 };
             match db {
-                None => replay_in_memory(alloc, reader, &mut writer, moment),
+                None => replay_in_memory(alloc, kind, reader, &mut writer, moment),
                 Some(file) if wary => {
-                    replay_on_file(rt, file, Wary, reader, &mut writer, moment)
+                    replay_on_file(rt, file, Wary, kind, reader, &mut writer, moment)
                 }
-                Some(file) => replay_on_file(rt, file, Unknown, reader, &mut writer, moment),
+                Some(file) => replay_on_file(rt, file, Unknown, kind, reader, &mut writer, moment),
             }
         }
-        Work::Simulate => simulate_in_memory(alloc, reader, &mut writer),
+        Work::Simulate { .. } => simulate_in_memory(alloc, kind, reader, &mut writer),
     }
-}
-
-// Replays over a new store in memory.
-fn replay_in_memory<R: Read + Drop, W: Write>(
-    alloc: Global,
-    reader: R,
-    writer: &mut W,
-    moment: Moment,
-) -> Ending {
-    let Ok(mut keeper) = PlainKeeper::<PlainTree<PlainProfile>>::new(alloc, START) else {
-        return Ending::Memory;
-    };
-    run_replay(alloc, &mut keeper, reader, writer, moment)
 }
 
 // Replays over the store in a file.
@@ -168,13 +203,16 @@ fn replay_on_file<S: Start, R: Read + Drop, W: Write>(
     rt: &HostRuntime,
     file: &str,
     start: S,
+    kind: StoreKind,
     reader: R,
     writer: &mut W,
     moment: Moment,
 ) -> Ending {
+    let made = missing_log(rt, file);
     let files = StoreFiles::at(rt, file, start);
-    let (ending, left) = replay_store(rt.alloc(), files, StoreKind::PLAIN, reader, writer, moment);
+    let (ending, left) = replay_store(rt.alloc(), files, kind, reader, writer, moment);
     if let Some(left) = left {
+        remove_log(rt, made, ending);
         let _files = left.into_files();
     }
     ending
@@ -183,6 +221,7 @@ fn replay_on_file<S: Start, R: Read + Drop, W: Write>(
 // Runs a script over a new store in two files in memory.
 fn simulate_in_memory<R: Read + Drop, W: Write>(
     alloc: Global,
+    kind: StoreKind,
     reader: R,
     writer: &mut W,
 ) -> Ending {
@@ -190,5 +229,5 @@ fn simulate_in_memory<R: Read + Drop, W: Write>(
         log: Memory::new(alloc),
         db: Memory::new(alloc),
     };
-    simulate_store::<PlainProfile, _, _, _>(alloc, files, 0, reader, writer)
+    simulate_store(alloc, files, kind, reader, writer)
 }

@@ -1,4 +1,5 @@
 //! The command `serve`: standard input and standard output are a FUSE device.
+use crate::companion::{missing_log, remove_log};
 use fuse_commands::{Begin, CountLine, Ending};
 use fuse_files::{StoreRun, serve_store};
 use fuse_session::{Clock, Fixed, System};
@@ -14,17 +15,17 @@ pub(crate) fn serve_as_asked<S: Start>(
     start: S,
     begin: Option<Begin>,
     at: Option<u64>,
+    kind: StoreKind,
 ) -> Ending {
     let Some(begin) = begin else {
         return Ending::Modes;
     };
-    let files = StoreFiles::at(rt, file, start);
     match at {
         Some(secs) => {
             let mut clock = Fixed(Moment { secs, nanos: 0 });
-            serve_on_files(rt, files, &mut clock, begin)
+            serve_on_files(rt, file, start, &mut clock, begin, kind)
         }
-        None => serve_on_files(rt, files, &mut System::new(rt), begin),
+        None => serve_on_files(rt, file, start, &mut System::new(rt), begin, kind),
     }
 }
 
@@ -32,31 +33,27 @@ pub(crate) fn serve_as_asked<S: Start>(
 // write one answer.
 fn serve_on_files<S: Start, C: Clock>(
     rt: &HostRuntime,
-    files: StoreFiles<'_, '_, S>,
+    file: &str,
+    start: S,
     clock: &mut C,
     begin: Begin,
+    kind: StoreKind,
 ) -> Ending {
     let alloc = rt.alloc();
+    let made = missing_log(rt, file);
+    let files = StoreFiles::at(rt, file, start);
     let StoreRun {
         ending,
         counts,
         left,
-    } = serve_store(
-        alloc,
-        files,
-        rt.stdin(),
-        rt.stdout(),
-        clock,
-        begin,
-        StoreKind::PLAIN,
-    );
+    } = serve_store(alloc, files, rt.stdin(), rt.stdout(), clock, begin, kind);
     if let Some(counts) = counts
         && ending.is_of_stream()
     {
         let _ = rt.eprintln(CountLine(counts));
     }
-    // The files were closed.
     if let Some(left) = left {
+        remove_log(rt, made, ending);
         let _files = left.into_files();
     }
     ending

@@ -1,5 +1,6 @@
 //! The commands `store`, `ls` and `cat`: a summary, a directory or a file of a store.
 
+use crate::deaths::show_deaths;
 use crate::snapshot::read_store;
 use fuse_commands::Ending;
 use fuse_files::{Show, show_store};
@@ -10,8 +11,14 @@ pub(crate) fn show_file(rt: &HostRuntime, file: &str, show: Show<'_>) -> Ending 
     let Ok(mut writer) = BufWriter::new(rt.alloc(), io::writer(rt)) else {
         return Ending::Memory;
     };
-    match read_store(rt, file) {
+    let ending = match read_store(rt, file) {
         Ok(read) => show_store(rt.alloc(), read, show, &mut writer),
-        Err(ending) => ending,
+        Err(ending) => return ending,
+    };
+    if matches!((ending, show), (Ending::Done, Show::Summary))
+        && show_deaths(rt, file, &mut writer).is_err()
+    {
+        return Ending::PortFailed;
     }
+    ending
 }

@@ -1,12 +1,15 @@
 //! The bytes of the files of a store, read so that the files stay as they are.
 ghost use Rattle.std.specs.Prelude.{◌≡◌, IfOk, IfSome};
 
-use fuse_commands::Ending;
+use fuse_commands::{Cause, Ending};
 use fuse_files::StoreBytes;
 use std::alloc::Global;
 use std::fs;
 use std::io::{self, Read};
 use std::os::unix::fs::MetadataExt;
+
+// The ending for files that aren't those of a database.
+const UNOPENED: Ending = Ending::Sql(Cause::CannotOpen);
 
 // The number of attempts to read a store that a server writes to.
 const TRIES: usize = 8;
@@ -16,7 +19,7 @@ fn refusal(error: &io::Error) -> Ending {
     match error.kind() {
         io::ErrorKind::NotFound => Ending::NotAStore,
         io::ErrorKind::OutOfMemory => Ending::Memory,
-        _ => Ending::Sql,
+        _ => UNOPENED,
     }
 }
 
@@ -39,7 +42,7 @@ fn find_file(rt: &HostRuntime, path: &str) -> Result<Option<fs::File>, Ending> {
             Ok(file) => Ok(Some(file)),
             Err(error) => Err(refusal(&error)),
         },
-        Ok(_) => Err(Ending::Sql),
+        Ok(_) => Err(UNOPENED),
         Err(error) if error.kind() == io::ErrorKind::NotFound => Ok(None),
         Err(error) => Err(refusal(&error)),
     }
@@ -53,8 +56,8 @@ fn read_log(rt: &HostRuntime, path: &str) -> Result<Vec<u8>, Ending> {
     }
 }
 
-// Whether this path is a journal that only SQLite can play back, or no regular file.
-fn has_journal(rt: &HostRuntime, path: &str) -> bool {
+/// Whether this path is a journal that only SQLite can play back, or no regular file.
+pub(crate) fn has_journal(rt: &HostRuntime, path: &str) -> bool {
     match fs::symlink_metadata(rt, path) {
         Ok(found) if found.is_file() => begins_a_journal(rt, path),
         Ok(_) => true,
@@ -87,7 +90,7 @@ fn read_file(rt: &HostRuntime, path: &str) -> Result<Vec<u8>, Ending> {
 // together are a committed state.
 fn read_once(rt: &HostRuntime, file: &str) -> Result<StoreBytes, Ending> {
     if has_journal(rt, format!(in rt.alloc(); "{file}-journal")?.as_str()) {
-        return Err(Ending::Sql);
+        return Err(UNOPENED);
     }
     let path = format!(in rt.alloc(); "{file}-wal")?;
     let log = read_log(rt, path.as_str())?;
@@ -123,7 +126,7 @@ pub(crate) fn read_store(rt: &HostRuntime, file: &str) -> Result<StoreBytes, End
         Err(error) => return Err(refusal(&error)),
     };
     if is_no_file_name(file) {
-        return Err(Ending::Sql);
+        return Err(UNOPENED);
     }
     read_at_rest(rt, real.as_str())
 }

@@ -11,6 +11,7 @@ use std::alloc::{AllocError, Global};
 mod clocks;
 mod devices;
 mod epochs;
+mod everyday;
 mod mounts;
 mod opcodes;
 mod ports;

@@ -45,10 +45,14 @@ rows_after offset size row rows = dots_after offset row ++ map (row_entry rows) 
 abbrev pub row_len : EntryRow → ℕ
 row_len e = entry_len (length e.name)
 
+-- where each takes so many bytes more
+abbrev pub row_len_with : ℕ → EntryRow → ℕ
+row_len_with extra e = extra + row_len e
+
 -- the first n entries are followed by one that ends past so many bytes, or they are all
-pub record IsCut (es : List EntryRow) (left n : ℕ) : Type 0 where
+pub record IsCut (extra : ℕ) (es : List EntryRow) (left n : ℕ) : Type 0 where
   pub within : n ≤ length es
-  pub past : n < length es → left < sum_by row_len (take (n + 1) es)
+  pub past : n < length es → left < sum_by (row_len_with extra) (take (n + 1) es)
 
 -- ---- READDIR
 

@@ -61,17 +61,16 @@ abbrev pub closed_changes : CountersRow → ℕ → List Change
 closed_changes counters fh = changes.HandleGone fh ∷ changes.Counters (counters_closed counters) ∷ []
 
 -- the fh goes, and its node where nothing else keeps it
-abbrev pub plan_closed : ℕ → NodeRow → Rows → Planned
-plan_closed fh row rows = record {
+abbrev pub plan_closed : CountersRow → ℕ → NodeRow → Rows → Planned
+plan_closed counters fh row rows = record {
   answer = record { errno = 0; body = [] };
-  changes =
-      with_removal (goes_closed (profile_for rows.counters.room) fh row rows) row (counters_closed rows.counters) (closed_changes rows.counters fh);
+  changes = with_removal (goes_closed (profile_for counters.room) fh row rows) row (counters_closed counters) (closed_changes counters fh);
 }
 
 abbrev pub plan_close : ℕ → Option Errno → NodeRow → Rows → Planned
 plan_close fh kind_fault row rows =
     if not (is_open rows.handles fh row.node) then refused ebadf
-    else refused_for kind_fault (plan_closed fh row rows)
+    else refused_for kind_fault (plan_closed rows.counters fh row rows)
 
 -- ---- RELEASE and RELEASEDIR
 

@@ -27,6 +27,7 @@ use Rattle.fuse_tree.specs.inner.PlanOpening.{plan_open, plan_open_dir, plan_rel
 use Rattle.fuse_tree.specs.Renaming.{asking}
 use Rattle.fuse_tree.specs.inner.PlanRemoving.{plan_unlink, plan_rmdir}
 use Rattle.fuse_tree.specs.inner.PlanRenaming.{plan_rename}
+use Rattle.fuse_tree.specs.inner.PlanFurther.{plan_further}
 
 -- ---- LOOKUP
 
@@ -76,6 +77,7 @@ plan_act a header (acts.Release x) now row rows = plan_release x.fh row rows
 plan_act a header (acts.ReleaseDir x) now row rows = plan_release_dir x.fh row rows
 plan_act a header (acts.Rename new_dir old_name new_name) now row rows = plan_rename (asking new_dir 0 old_name new_name now) row rows
 plan_act a header (acts.Rename2 new_dir flags old_name new_name) now row rows = plan_rename (asking new_dir flags old_name new_name now) row rows
+plan_act a header (acts.Unsupported opcode body) now row rows = plan_further a header opcode body now row rows
 plan_act a header _ now row rows = refused enosys
 
 abbrev pub plan_at : Agreement → Asked → Moment → Option NodeRow → Rows → Planned

@@ -1,7 +1,9 @@
 -- The parts of `plan` over the rows (own profile): shared by the plans of the operations.
 -- Not part of what is trusted: neither `done` nor the public clauses of `plan` speak of it.
-use Rattle.std.specs.Prelude.{◌≡◌, ◌≤◌, ◌+◌, ◌-◌, ◌/◌, ℕ, not, if◌then◌else◌, List, [], Option, Some, None, Result, IfOk, IfErr, OnErr, ◌≢◌}
+use Rattle.std.specs.Prelude.{◌≡◌, ◌≤◌, ◌+◌, ◌-◌, ◌/◌, ◌&&◌, ℕ, Bool, not, nat_le, if◌then◌else◌, List, [], Option, Some, None, Result, IfOk, IfErr, OnErr, ◌≢◌}
 use Rattle.fuse_wire.specs.declared.errno.Errno.{Errno}
+use Rattle.fuse_init.specs.declared.profile.Profile.{Profile}
+use Rattle.fuse_init.specs.Profile.{terms}
 use Rattle.fuse_answer.specs.Bodies.{entry_bytes, attr_out_bytes}
 use Rattle.fuse_answer.specs.declared.records.Attr.{Attr}
 use Rattle.fuse_tree.specs.Bounds.{node_limit, file_limit, block_bytes, sector_bytes}
@@ -50,7 +52,11 @@ pub record LooksUp {S X : Type 0} (v : View S) (old new : S) (result : Result X 
   pub looks : look_fault result ≡ None → v.looking old new
   pub fails : OnErr result (v.failing old new)
 
--- a row within the bounds of each tree
+-- the row is within the bounds of this profile
+abbrev pub is_within : Profile → NodeRow → Bool
+is_within p row = nat_le row.size (terms p).file_limit && nat_le row.subdirs (terms p).node_limit
+
+-- a row within the bounds of every profile
 pub record IsWithin (row : NodeRow) : Type 0 where
   pub size : row.size ≤ file_limit
   pub subdirs : row.subdirs ≤ node_limit

@@ -1,6 +1,6 @@
 use crate::limits::ROOT_ID;
 use crate::mode::S_IFDIR;
-use crate::plain::contents::{part_of, with_bytes, with_size};
+use crate::plain::chunks::Chunks;
 use crate::rows::{Full, NodeRow};
 use crate::space::blocks_of;
 use fuse_wire::{ByteList, Memory, Moment};
@@ -75,7 +75,7 @@ impl NodeList {
             full.row = row;
             return Ok(());
         }
-        let content = ByteList::from_vec(Vec::new(alloc));
+        let content = Chunks::new(alloc);
         self.nodes.push(Full { row, content })?;
         Ok(())
     }
@@ -91,22 +91,22 @@ impl NodeList {
             self.old) }
         ensures err { OnErr result (self.new ≡ self.old) }
     {
-        if let Some(place) = place_in(self.nodes.as_slice(), number) {
-            let full = &mut self.nodes[place];
-            full.content = with_bytes(alloc, full.content.as_slice(), offset, bytes)?;
-        }
-        Ok(())
+        let Some(place) = place_in(self.nodes.as_slice(), number) else {
+            return Ok(());
+        };
+        let full = &mut self.nodes[place];
+        full.content.write(alloc, offset, bytes)
     }
 
     pub(super) fn set_size(&mut self, alloc: Global, number: u64, size: u64) -> Result<(), Memory>
         ensures ok { OnOk result (self.new ≡ map (at_node number (sized size)) self.old) }
         ensures err { OnErr result (self.new ≡ self.old) }
     {
-        if let Some(place) = place_in(self.nodes.as_slice(), number) {
-            let full = &mut self.nodes[place];
-            full.content = with_size(alloc, full.content.as_slice(), size)?;
-        }
-        Ok(())
+        let Some(place) = place_in(self.nodes.as_slice(), number) else {
+            return Ok(());
+        };
+        let full = &mut self.nodes[place];
+        full.content.set_size(alloc, size)
     }
 
     pub(super) fn keep_named(&mut self)
@@ -190,7 +190,7 @@ fn bytes_in(
 {
     for full in nodes {
         if full.row.node == number {
-            return part_of(alloc, full.content.as_slice(), offset, len);
+            return full.content.bytes(alloc, offset, len);
         }
     }
     Ok(ByteList::from_vec(Vec::new(alloc)))

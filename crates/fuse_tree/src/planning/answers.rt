@@ -1,8 +1,9 @@
 ghost use Rattle.std.specs.Prelude.{◌≡◌, [], IfOk};
 ghost use Rattle.fuse_answer.specs.Bodies.{entry_bytes};
+ghost use Rattle.fuse_tree.specs.Done as done;
 ghost use Rattle.fuse_tree.specs.Keeping.{absent_entry};
 ghost use Rattle.fuse_tree.specs.inner.Reading as planning;
-ghost use Rattle.fuse_tree.specs.inner.Reading.{IsWithin, entry_body, attr_body, told};
+ghost use Rattle.fuse_tree.specs.inner.Reading.{IsWithin, entry_body, row_attr, attr_body, told};
 
 use super::attributes::attributes_of;
 use crate::limits::KEPT_SECS;
@@ -38,13 +39,13 @@ pub(crate) fn done_nothing(alloc: Global) -> Planned
     unchanged(alloc, Answer::success(ByteList::from_vec(Vec::new(alloc))))
 }
 
-// The entry of a node, valid for so many seconds, as LOOKUP, MKNOD and MKDIR answer it.
-pub(crate) fn entry_answer(alloc: Global, valid: u64, row: &NodeRow) -> Result<Answer, Memory>
+// The entry of a node, valid for so many seconds.
+pub(crate) fn entry_of(valid: u64, row: &NodeRow) -> EntryOut
     requires { IsWithin row.now }
-    ensures { IfOk result (λ answer. answer ≡ (told (entry_body valid row.now)).answer) }
+    ensures { result ≡ done.entry_of valid (row_attr row.now) }
 {
     let attr = attributes_of(row);
-    let entry = EntryOut {
+    EntryOut {
         nodeid: attr.ino,
         generation: 0,
         entry_valid: valid,
@@ -52,8 +53,15 @@ pub(crate) fn entry_answer(alloc: Global, valid: u64, row: &NodeRow) -> Result<A
         entry_valid_nsec: 0,
         attr_valid_nsec: 0,
         attr,
-    };
-    let body = entry.body_of(alloc)?;
+    }
+}
+
+// It, as LOOKUP, MKNOD, MKDIR and SYMLINK answer it.
+pub(crate) fn entry_answer(alloc: Global, valid: u64, row: &NodeRow) -> Result<Answer, Memory>
+    requires { IsWithin row.now }
+    ensures { IfOk result (λ answer. answer ≡ (told (entry_body valid row.now)).answer) }
+{
+    let body = entry_of(valid, row).body_of(alloc)?;
     Ok(Answer::success(ByteList::from_vec(body)))
 }
 

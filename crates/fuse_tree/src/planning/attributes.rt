@@ -1,9 +1,9 @@
 ghost use Rattle.std.specs.Prelude.{◌≡◌};
-ghost use Rattle.fuse_tree.specs.State.{is_dir, is_file};
+ghost use Rattle.fuse_tree.specs.State.{is_dir, is_file, is_link};
 ghost use Rattle.fuse_tree.specs.inner.Reading.{IsWithin, row_links, row_attr};
 
 use crate::limits::{BLOCK_SIZE, SECTOR_SIZE};
-use crate::mode::{S_IFDIR, S_IFREG, TYPE_UNIT, TYPES};
+use crate::mode::{S_IFDIR, S_IFLNK, S_IFREG, TYPE_UNIT, TYPES};
 use crate::rows::NodeRow;
 use fuse_answer::Attr;
 
@@ -17,6 +17,12 @@ pub(crate) fn is_regular_file(mode: u32) -> bool
     ensures { result ≡ is_file mode }
 {
     mode / TYPE_UNIT % TYPES == S_IFREG / TYPE_UNIT
+}
+
+pub(crate) fn is_symbolic_link(mode: u32) -> bool
+    ensures { result ≡ is_link mode }
+{
+    mode / TYPE_UNIT % TYPES == S_IFLNK / TYPE_UNIT
 }
 
 fn links_of(row: &NodeRow) -> u32

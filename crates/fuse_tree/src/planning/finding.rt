@@ -1,6 +1,7 @@
 ghost use Rattle.std.specs.Prelude.{◌≡◌, None, is_some, IfOk, IfSome};
 ghost use Rattle.fuse_tree.specs.Rows.{row_at, entry_at, handle_at, agreement_at};
 ghost use Rattle.fuse_tree.specs.Handles.{access_at, is_open};
+ghost use Rattle.fuse_tree.specs.inner.Reading as reading;
 ghost use Rattle.fuse_tree.specs.inner.Reading.{IsWithin, child_at, LooksUp, view};
 ghost use Rattle.fuse_tree.specs.Removing as removing;
 ghost use Rattle.fuse_tree.specs.inner.PlanRemoving.{link_at};
@@ -10,6 +11,8 @@ use crate::agreement::Agreement;
 use crate::limits::{MAX_FILE, MAX_NODES};
 use crate::look::Look;
 use crate::rows::{Counters, EntryRow, HandleRow, NodeRow};
+use crate::terms::{max_file, max_nodes};
+use fuse_init::Profile;
 use fuse_wire::AccessMode;
 
 /// An entry that was looked up: its cookie, and the row of its child.
@@ -19,7 +22,7 @@ pub struct Link {
     pub child: NodeRow,
 }
 
-// The row of a node, within the bounds of each tree.
+// The row of a node, within the bounds of every profile.
 #[tactic(auto, using(crate::proofs::Bounds::row_within))]
 pub(crate) fn find_node<L: Look>(look: &mut L, number: u64) -> Result<Option<NodeRow>, PlanFault>
     requires { L.fault look.old ≡ None }
@@ -34,6 +37,13 @@ pub(crate) fn find_node<L: Look>(look: &mut L, number: u64) -> Result<Option<Nod
         return Err(PlanFault::NotATree);
     }
     Ok(Some(row))
+}
+
+// Whether the row is within the bounds of this profile.
+pub(crate) fn is_within(profile: Profile, row: &NodeRow) -> bool
+    ensures { result ≡ reading.is_within profile row.now }
+{
+    row.size <= max_file(profile) && u64::from(row.subdirs) <= max_nodes(profile)
 }
 
 fn find_entry<L: Look>(look: &mut L, dir: u64, name: &[u8]) -> Result<Option<EntryRow>, PlanFault>

@@ -6,6 +6,7 @@ ghost use Rattle.fuse_tree.specs.Making.{is_full};
 ghost use Rattle.fuse_tree.specs.inner.PlanMaking as planning;
 ghost use Rattle.fuse_tree.specs.inner.Reading.{IsWithin, LooksUp, view};
 ghost use Rattle.fuse_tree.specs.inner.PlanMaking.{dir_row, new_row, changes_of, plan_new};
+ghost use Rattle.fuse_tree.specs.inner.PlanMaking.{entry_row, counters_after};
 ghost use Rattle.fuse_tree.specs.inner.PlanMaking.{plan_make_with_room, HasPlace};
 
 use super::answers::{entry_answer, refused};
@@ -109,7 +110,7 @@ fn make_with_room<L: Look>(
     Ok(make(alloc, valid, &counters, fresh, name, row)?)
 }
 
-fn is_full_of(counters: &Counters) -> bool
+pub(crate) fn is_full_of(counters: &Counters) -> bool
     ensures full { result ≡ is_full (terms (profile_for counters.now.room)).node_limit
         counters.now.nodes counters.now.next_node counters.now.next_cookie }
     ensures few { result ≡ false → HasPlace counters.now }
@@ -152,24 +153,44 @@ fn make_changes(
     let mut changes = Vec::new(alloc);
     changes.push(Change::Node(dir_row_of(fresh, row)))?;
     changes.push(Change::Node(new_row_of(counters, fresh, row.node)))?;
+    changes.push(Change::Entry(new_entry_of(alloc, counters, name, row.node)?))?;
+    changes.push(Change::Counters(counters_made(counters)))?;
+    Ok(ChangeList::from_vec(changes))
+}
+
+// The entry of a new node in this directory.
+pub(crate) fn new_entry_of(
+    alloc: Global,
+    counters: &Counters,
+    name: &[u8],
+    dir: u64,
+) -> Result<EntryRow, Memory>
+    ensures { IfOk result (λ entry. entry ≡ entry_row counters.now dir name.now) }
+{
     let name = ByteList::from_vec(Vec::from_slice(alloc, name)?);
-    changes.push(Change::Entry(EntryRow {
-        dir: row.node,
+    Ok(EntryRow {
+        dir,
         name,
         child: counters.next_node,
         cookie: counters.next_cookie,
-    }))?;
-    changes.push(Change::Counters(Counters {
+    })
+}
+
+// The counters with a new node.
+pub(crate) fn counters_made(counters: &Counters) -> Counters
+    requires { HasPlace counters.now }
+    ensures { result ≡ counters_after counters.now }
+{
+    Counters {
         next_node: counters.next_node + 1,
         next_cookie: counters.next_cookie + 1,
         nodes: counters.nodes + 1,
         ..*counters
-    }))?;
-    Ok(ChangeList::from_vec(changes))
+    }
 }
 
 // The row of a directory when this node is made in it.
-fn dir_row_of(fresh: &NewNode, row: &NodeRow) -> NodeRow
+pub(crate) fn dir_row_of(fresh: &NewNode, row: &NodeRow) -> NodeRow
     requires { IsWithin row.now }
     ensures { result ≡ dir_row fresh.now row.now }
 {
@@ -183,7 +204,7 @@ fn dir_row_of(fresh: &NewNode, row: &NodeRow) -> NodeRow
 }
 
 // The row of a new node in this directory.
-fn new_row_of(counters: &Counters, fresh: &NewNode, dir: u64) -> NodeRow
+pub(crate) fn new_row_of(counters: &Counters, fresh: &NewNode, dir: u64) -> NodeRow
     ensures { result ≡ new_row counters.now fresh.now dir }
 {
     NodeRow {

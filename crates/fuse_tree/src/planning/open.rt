@@ -1,7 +1,7 @@
 ghost use Rattle.std.specs.Prelude.{◌≡◌, None, IfOk};
 ghost use Rattle.fuse_tree.specs.Opening.{open_fault};
 ghost use Rattle.fuse_tree.specs.inner.PlanOpening as planning;
-ghost use Rattle.fuse_tree.specs.inner.PlanOpening.{opened_changes, plan_opened, plan_open_node};
+ghost use Rattle.fuse_tree.specs.inner.PlanOpening.{counters_opened, opened_changes, plan_opened, plan_open_node};
 ghost use Rattle.fuse_tree.specs.inner.Reading.{LooksUp, view};
 
 use super::answers::refused;
@@ -75,7 +75,7 @@ fn open_node<L: Look>(
 }
 
 // Why no handle is given out.
-fn fault_of_opening(counters: &Counters) -> Option<Errno>
+pub(crate) fn fault_of_opening(counters: &Counters) -> Option<Errno>
     ensures { result ≡ open_fault counters.now.handles counters.now.next_fh }
 {
     if counters.handles >= MAX_HANDLES {
@@ -123,10 +123,18 @@ fn changes_of_opening(
         node,
         access,
     }))?;
-    changes.push(Change::Counters(Counters {
+    changes.push(Change::Counters(counters_with_handle(counters)))?;
+    Ok(ChangeList::from_vec(changes))
+}
+
+// The counters with a new handle.
+pub(crate) fn counters_with_handle(counters: &Counters) -> Counters
+    requires { open_fault counters.now.handles counters.now.next_fh ≡ None }
+    ensures { result ≡ counters_opened counters.now }
+{
+    Counters {
         next_fh: counters.next_fh + 1,
         handles: counters.handles + 1,
         ..*counters
-    }))?;
-    Ok(ChangeList::from_vec(changes))
+    }
 }

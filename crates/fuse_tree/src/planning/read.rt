@@ -49,7 +49,7 @@ fn may_read(access: Option<AccessMode>) -> bool
 }
 
 // The content of a node from the offset on, no longer than an answer may be.
-fn find_bytes<L: Look>(
+pub(crate) fn find_bytes<L: Look>(
     look: &mut L,
     number: u64,
     offset: u64,

@@ -7,7 +7,7 @@ ghost use Rattle.fuse_tree.specs.State.{type_of};
 ghost use Rattle.fuse_tree.specs.Rows.{Rows, IsRowed, entries_after};
 ghost use Rattle.fuse_tree.specs.Plan.{look_fault};
 ghost use Rattle.fuse_tree.specs.inner.PlanListing as planning;
-ghost use Rattle.fuse_tree.specs.inner.PlanListing.{dots_after, row_above, row_entry, row_len};
+ghost use Rattle.fuse_tree.specs.inner.PlanListing.{dots_after, row_above, row_entry, row_len_with};
 ghost use Rattle.fuse_tree.specs.inner.PlanListing.{plan_prefix, plan_list, ReadsBy, IsCut, IsShown};
 ghost use Rattle.fuse_tree.specs.inner.Reading as planned;
 ghost use Rattle.fuse_tree.specs.inner.Reading.{Reports, told, LooksUp, Looked, view};
@@ -93,7 +93,7 @@ fn list_after<'a, L: Look>(
     ensures looked { Looked L.fault L.looks L.fails look.old look.new result }
 {
     let dots_len = LEAST_ENTRY as usize * dirents.len();
-    let count = count_fitting(entries, (size as usize).saturating_sub(dots_len));
+    let count = count_fitting(entries, 0, (size as usize).saturating_sub(dots_len));
     if count == 0 && dirents.is_empty() {
         return Ok(list_nothing(alloc, entries.is_empty()));
     }
@@ -102,7 +102,7 @@ fn list_after<'a, L: Look>(
 }
 
 // Where no entry fits: none is there, or the first one is too big.
-fn list_nothing(alloc: Global, is_all: bool) -> Planned
+pub(crate) fn list_nothing(alloc: Global, is_all: bool) -> Planned
     ensures { result ≡ (if is_all then told [] else planned.refused EINVAL) }
 {
     if is_all {
@@ -112,14 +112,15 @@ fn list_nothing(alloc: Global, is_all: bool) -> Planned
     }
 }
 
-// How many entries come before the first that ends past so many bytes.
-fn count_fitting(entries: &[EntryRow], room: usize) -> usize
-    ensures { IsCut entries.now room result }
+// How many entries come before the first that ends past so many bytes, where each takes some more.
+pub(crate) fn count_fitting(entries: &[EntryRow], extra: usize, room: usize) -> usize
+    requires { extra ≤ 128 }
+    ensures { IsCut extra entries.now room result }
 {
     let mut left = room;
     let mut count = 0;
     for entry in entries {
-        let len = len_of(entry);
+        let len = len_of(extra, entry);
         if len > left {
             return count;
         }
@@ -129,14 +130,15 @@ fn count_fitting(entries: &[EntryRow], room: usize) -> usize
     count
 }
 
-// How many bytes the entry takes in a listing.
-fn len_of(entry: &EntryRow) -> usize
-    ensures { result ≡ row_len entry.now }
+// How many bytes the entry takes in a listing, with so many more.
+fn len_of(extra: usize, entry: &EntryRow) -> usize
+    requires { extra ≤ 128 }
+    ensures { result ≡ row_len_with extra entry.now }
 {
-    Dirent::NAME_AT + entry.name.as_slice().len().next_multiple_of(8)
+    extra + Dirent::NAME_AT + entry.name.as_slice().len().next_multiple_of(8)
 }
 
-fn find_entries<L: Look>(
+pub(crate) fn find_entries<L: Look>(
     look: &mut L,
     dir: u64,
     cookie: u64,
@@ -167,13 +169,13 @@ fn dots_of<'a>(alloc: Global, offset: u64, row: &NodeRow) -> Result<Vec<Dirent<'
 }
 
 // The directory above, and above the root the root.
-fn above_of(row: &NodeRow) -> u64
+pub(crate) fn above_of(row: &NodeRow) -> u64
     ensures { result ≡ row_above row.now }
 {
     if row.node == ROOT_ID { ROOT_ID } else { row.up }
 }
 
-fn dot_of(ino: u64, off: u64, name: &[u8]) -> Dirent<'_>
+pub(crate) fn dot_of(ino: u64, off: u64, name: &[u8]) -> Dirent<'_>
     ensures { entry_of result ≡ record {
       ino = ino;
       off = off;
@@ -191,7 +193,7 @@ fn dot_of(ino: u64, off: u64, name: &[u8]) -> Dirent<'_>
 }
 
 // The type of a node, from its mode.
-fn type_in(mode: u32) -> u32
+pub(crate) fn type_in(mode: u32) -> u32
     ensures { result ≡ type_of mode }
 {
     mode / TYPE_UNIT % TYPES

@@ -52,7 +52,9 @@ pub(crate) fn plan_release_dir<L: Look>(
     close(alloc, look, fh, kind_fault, row)
 }
 
-// Closes a handle that is open at this node, unless the node is of another kind.
+// Closes a handle that is open at this node, unless the node is of another kind. In a tree a handle
+// that is open is counted.
+#[tactic(auto, using(crate::proofs::Bounds::handle_counted))]
 fn close<L: Look>(
     alloc: Global,
     look: &mut L,
@@ -70,22 +72,26 @@ fn close<L: Look>(
     if let Some(errno) = kind_fault {
         return Ok(refused(alloc, errno));
     }
-    plan_closed(alloc, look, fh, row)
+    let counters = find_counters(look)?;
+    if counters.handles == 0 {
+        return Err(PlanFault::NotATree);
+    }
+    plan_closed(alloc, look, &counters, fh, row)
 }
 
 // The fh goes, and its node where nothing else keeps it.
 fn plan_closed<L: Look>(
     alloc: Global,
     look: &mut L,
+    counters: &Counters,
     fh: u64,
     row: &NodeRow,
 ) -> Result<Planned, PlanFault>
     requires { L.fault look.old ≡ None }
     ensures { LooksUp (view L.is_clean L.sees L.fault L.looks L.fails) look.old look.new result
-        (planning.plan_closed fh row.now) }
+        (planning.plan_closed counters.now fh row.now) }
 {
-    let counters = find_counters(look)?;
-    let left = counters_closed(&counters);
+    let left = counters_closed(counters);
     let mut changes = changes_of(alloc, left, fh)?;
     if goes_with_handle(look, counters.profile(), fh, row)? {
         push_removal(&mut changes, row, &left)?;

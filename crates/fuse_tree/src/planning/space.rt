@@ -35,10 +35,16 @@ pub(crate) fn is_room_for(counters: &Option<Counters>, from: u64, to: u64) -> bo
 {
     match counters {
         None => true,
-        Some(counters) => match counters.room {
-            None => true,
-            Some(room) => is_left(&room, from, to),
-        },
+        Some(counters) => is_room_in(&counters.room, from, to),
+    }
+}
+
+pub(crate) fn is_room_in(room: &Option<Room>, from: u64, to: u64) -> bool
+    ensures { result ≡ has_room room.now from to }
+{
+    match room {
+        None => true,
+        Some(room) => is_left(room, from, to),
     }
 }
 
@@ -62,7 +68,8 @@ fn room_after(room: &Room, from: u64, to: u64) -> Room
     }
 }
 
-fn counters_after(counters: &Counters, from: u64, to: u64) -> Counters
+// The counters when a size has changed so.
+pub(crate) fn counters_after(counters: &Counters, from: u64, to: u64) -> Counters
     requires { has_room counters.now.room from to ≡ true }
     ensures { result ≡ counters_sized from to counters.now }
 {

@@ -1,5 +1,5 @@
 //! The table of endings.
-use fuse_commands::Ending;
+use fuse_commands::{Cause, Ending};
 use std::alloc::Global;
 use std::test::Fail;
 
@@ -41,7 +41,7 @@ fn others() -> [Case; 14] {
     [
         (Ending::Usage, 2, ""),
         (Ending::Modes, 2, "usage: one of --fresh and --resume"),
-        (Ending::Sql, 3, "store: Sql"),
+        (Ending::Sql(Cause::NoRoom), 3, "store: Sql"),
         (Ending::NotAStore, 3, "store: NotAStore"),
         (Ending::Version(7), 3, "store: Version(7)"),
         (Ending::Damaged, 3, "store: Damaged"),

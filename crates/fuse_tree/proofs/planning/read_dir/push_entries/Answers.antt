@@ -1,7 +1,7 @@
 use Rattle.std.proofs.Common.{map, None, refl, sym}
 use Rattle.std.proofs.lemmas.List.Elements.{All-push}
 use Rattle.fuse_answer.specs.Entries.{entry_of, IsNamed}
-use Rattle.fuse_tree.specs.inner.PlanListing.{IsShown}
+use Rattle.fuse_tree.specs.inner.PlanListing.{row_entry, IsShown}
 use Rattle.fuse_tree.proofs.Shown.{all_at, one_more}
 use Rattle.fuse_tree.proofs.planning.read_dir.push_entries.Goals as goal
 
@@ -20,7 +20,7 @@ loop-entry-preserved g c =
           let clean_before = g.met.L.Look.was_clean c.loop-entry.look c.dirent_of.new.look looks clean in
           let sees_before = g.met.L.Look.kept c.args.look.now c.loop-entry.look before.looks clean_before rows sees in
           let here = all_at (IsShown rows) c.args.entries.now c.loop-entry.entry-index c.entry-item.result shown c.loop-entry-test.true at in
-          one_more rows c.args.entries.now c.loop-entry.entry-index c.entry-item.result
+          one_more entry_of (row_entry rows) c.args.entries.now c.loop-entry.entry-index c.entry-item.result
           (map entry_of c.args.dirents.now.items) dirents c.push.new.self.items c.in_ok-dirent.dirent c.loop-entry-test.true at
           c.in_ok-push.ensures.items (before.entries clean_before rows is sees shown) (one.entry (refl {a = None}) clean rows is sees_before here).0;
     }

@@ -31,4 +31,4 @@ returns-clause-ok c =
     let none : position (λ f. f.row.node == c.args.row.node) c.self.inside.nodes.items ≡ None =
     ap (position (λ f. f.row.node == c.args.row.node)) (sym c.as_slice.ensures.value) ∙ sym c.in_default.ensures in
     c.in_ok-push.ensures.items
-    ∙ rw (c.from_vec-content.ensures, c.new.ensures.items) (row_last c.args.row c.self.inside.nodes.items none ∙ ap (put_node c.args.row) c.self.view_is)
+    ∙ rw (c.new-content.ensures) (row_last c.args.row c.self.inside.nodes.items none ∙ ap (put_node c.args.row) c.self.view_is)

@@ -1,0 +1,48 @@
+-- The new store that a command line asks for (own profile).
+use Rattle.std.specs.Prelude.{◌≡◌, ◌<◌, ◌^◌, if◌then◌else◌, ℕ, List, codes, Option, Some, None}
+use Rattle.std.specs.Str.{bytes_eq}
+use Rattle.std.specs.Str.Parse.{IsNumeral, digits_value, without_leading_plus}
+use Rattle.clap.specs.declared.parser.matches.Found.{Found}
+use Rattle.clap.specs.Matches.{first_value, one_text}
+use Rattle.fuse_init.specs.declared.profile.Profile.{Profile}
+use Rattle.fuse_init.specs.declared.profile.Profile.TheVariants.{Plain, Everyday}
+use Rattle.fuse_commands.specs.declared.asked_store.AskedStore.{AskedStore}
+use Rattle.fuse_commands.specs.declared.arguments.Run.{Run}
+use Rattle.fuse_commands.specs.declared.arguments.Run.TheVariants.{Read, Serve}
+use Rattle.fuse_commands.specs.declared.arguments.Work.{Work}
+use Rattle.fuse_commands.specs.declared.arguments.Work.TheVariants.{Replay, Simulate}
+
+-- the profile of this name, plain where none is given
+abbrev pub profile_named : Option (List ℕ) → Profile
+profile_named None = Plain
+profile_named (Some name) = if bytes_eq name (codes "everyday") then Everyday else Plain
+
+-- a number of 64 bits in decimal digits, before which a plus may stand
+abbrev pub IsNumber : List ℕ → Type 0
+IsNumber text = IsNumeral 10 (without_leading_plus text) × (digits_value 10 (without_leading_plus text) < 2 ^ 64)
+
+-- the number in a text, where there is a text and it has one
+abbrev pub IsRead : Option (List ℕ) → Option ℕ → Type 0
+IsRead None number = number ≡ None
+IsRead (Some text) (Some n) = IsNumber text × (n ≡ digits_value 10 (without_leading_plus text))
+IsRead (Some text) None = IsNumber text → ⊥
+
+-- it is what these arguments ask for
+pub record AsksFor (f : Found) (asked : AskedStore) : Type 0 where
+  pub profile : asked.profile ≡ profile_named (first_value f (codes "profile"))
+  pub capacity : IsRead (one_text f (codes "capacity")) asked.capacity
+
+-- ---- in a command
+
+abbrev pub plain_asked : AskedStore
+plain_asked = record { profile = Plain; capacity = None }
+
+abbrev pub asked_for : Work → AskedStore
+asked_for (Replay db at wary new) = new
+asked_for (Simulate new) = new
+asked_for _ = plain_asked
+
+abbrev pub asked_in : Run → AskedStore
+asked_in (Serve db begin at wary new) = new
+asked_in (Read input work) = asked_for work
+asked_in _ = plain_asked

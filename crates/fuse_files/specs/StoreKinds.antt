@@ -1,0 +1,17 @@
+-- The blocks of the new store that is asked for, by its profile and the bytes that it shall have room for (own profile).
+use Rattle.std.specs.Prelude.{◌/◌, ◌%◌, ◌==◌, ◌&&◌, nat_lt, if◌then◌else◌, ℕ, Option, Some, None}
+use Rattle.fuse_init.specs.declared.profile.Profile.{Profile}
+use Rattle.fuse_init.specs.declared.profile.Profile.TheVariants.{Plain, Everyday}
+use Rattle.fuse_tree.specs.Bounds.{block_bytes, capacity_end, default_capacity}
+
+-- so many bytes, if they are whole blocks and not too many
+abbrev pub whole_blocks : ℕ → Option ℕ
+whole_blocks bytes =
+    if bytes % block_bytes == 0 && nat_lt (bytes / block_bytes) capacity_end then Some (bytes / block_bytes) else None
+
+-- a plain store has no capacity; an everyday one has the default where none is given
+abbrev pub blocks_asked : Profile → Option ℕ → Option ℕ
+blocks_asked Plain None = Some 0
+blocks_asked Plain (Some bytes) = None
+blocks_asked Everyday None = Some default_capacity
+blocks_asked Everyday (Some bytes) = whole_blocks bytes

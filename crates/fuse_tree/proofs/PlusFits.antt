@@ -1,0 +1,69 @@
+-- What is answered to READDIRPLUS fits, and is read.
+use Rattle.std.proofs.Common.{◌≡◌, ◌≤◌, ℕ, not, nat_lt, List, [], ◌∷◌, length, Option, Some, None, refl, sym, ap, ◌∙◌, arith}
+use Rattle.std.specs.List.{sum_by}
+use Rattle.std.proofs.lemmas.Bool.{ltb-false}
+use Rattle.std.proofs.lemmas.List.{length-append, length-replicate, append-nil}
+use Rattle.std.proofs.lemmas.List.Sums.{sum_by-cons}
+use Rattle.fuse_wire.specs.Layout.{form}
+use Rattle.fuse_request.specs.declared.request.ReadIn.{ReadIn}
+use Rattle.fuse_answer.specs.declared.records.EntryOut.{EntryOut}
+use Rattle.fuse_answer.specs.Entries.{Entry, packed_len, dirent_parts}
+use Rattle.fuse_answer.specs.PlusEntries.{PlusEntry, plus_len, out_bytes, plus_form, plus_bytes}
+use Rattle.fuse_answer.specs.Laws.{RecordSizes}
+use Rattle.fuse_answer.specs.Replies.{Unknown}
+use Rattle.fuse_tree.specs.Bounds.{read_limit}
+use Rattle.fuse_tree.specs.State.{State, Node, is_dir, is_named}
+use Rattle.fuse_tree.specs.Handles.{is_open}
+use Rattle.fuse_tree.specs.Listing.{longest_by, first_fits_by}
+use Rattle.fuse_tree.specs.PlusListing.{plus_following, list_plus, read_dir_plus}
+use Rattle.fuse_tree.proofs.Fit.{Fits, Reads, refused, answered, chosen, chosen_then, refused_reads, answered_reads, chosen_reads, any_body}
+use Rattle.fuse_tree.proofs.Prefixes.{longest}
+
+-- ---- how many bytes they take
+
+out_len : RecordSizes → (out : Option EntryOut) → length (out_bytes out) ≡ 128
+out_len sizes None = length-replicate {A = ℕ} 128 0
+out_len sizes (Some out) = sizes.0 out
+
+one_len : RecordSizes → (e : Entry) → length (form (dirent_parts e)) ≡ packed_len e
+one_len sizes e =
+    let cut = sum_by-cons packed_len e [] in
+    let whole : sum_by packed_len (e ∷ []) ≡ packed_len e = omega (arith, cut) in
+    ap length (sym (append-nil (form (dirent_parts e)))) ∙ sizes.5 (e ∷ []) ∙ whole
+
+plus_len_is : RecordSizes → (es : List PlusEntry) → length (plus_bytes es) ≡ sum_by plus_len es
+plus_len_is sizes [] = refl
+plus_len_is sizes (e ∷ es) =
+    omega (
+      arith,
+      length-append (plus_form e) (plus_bytes es),
+      length-append (out_bytes e.out) (form (dirent_parts e.entry)),
+      out_len sizes e.out,
+      one_len sizes e.entry,
+      plus_len_is sizes es,
+      sum_by-cons plus_len e es,
+    )
+
+list_plus_fits : RecordSizes → (s : State) (es : List PlusEntry) (size : ℕ) → size ≤ 1048576 → Fits (list_plus s es size)
+list_plus_fits sizes s es size few =
+    chosen (not (first_fits_by plus_len es size)) _ _ (refused s _)
+    (answered s _ (omega (arith, few, plus_len_is sizes (longest_by plus_len es size), (longest plus_len es size).fits)))
+
+pub read_dir_plus_fits : RecordSizes → (s : State) (asked : ReadIn) (n : Node) → Fits (read_dir_plus s asked n)
+read_dir_plus_fits sizes s asked n =
+    chosen (not (is_open s.handles asked.fh n.number)) _ _ (refused s _)
+    (chosen (not (is_dir n.mode)) _ _ (refused s _)
+    (chosen_then (nat_lt read_limit asked.size) _ _ (refused s _) (λ few.
+    chosen (not (is_named s n.number)) _ _ (refused s _)
+    (list_plus_fits sizes s (plus_following s n.number asked.offset) asked.size (ltb-false read_limit asked.size few)))))
+
+-- ---- it is read
+
+pub read_dir_plus_reads : (s : State) (asked : ReadIn) (n : Node) → Reads Unknown (read_dir_plus s asked n)
+read_dir_plus_reads s asked n =
+    chosen_reads (not (is_open s.handles asked.fh n.number)) _ _ (refused_reads s _ refl)
+    (chosen_reads (not (is_dir n.mode)) _ _ (refused_reads s _ refl)
+    (chosen_reads (nat_lt read_limit asked.size) _ _ (refused_reads s _ refl)
+    (chosen_reads (not (is_named s n.number)) _ _ (refused_reads s _ refl)
+    (chosen_reads (not (first_fits_by plus_len (plus_following s n.number asked.offset) asked.size)) _ _ (refused_reads s _ refl)
+    (answered_reads s _ (any_body _))))))

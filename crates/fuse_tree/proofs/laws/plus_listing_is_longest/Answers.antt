@@ -1,0 +1,5 @@
+use Rattle.fuse_tree.proofs.PlusAgrees as listing
+use Rattle.fuse_tree.proofs.laws.plus_listing_is_longest.Goals as goal
+
+pub returns : goal.returns
+returns c = listing.plus_is_longest

@@ -1,0 +1,49 @@
+-- The plan of READDIRPLUS over the rows (own profile), in the order of its checks.
+-- Not part of what is trusted: neither `done` nor the public clauses of `plan` speak of it.
+use Rattle.std.specs.Prelude.{◌+◌, ◌/◌, ℕ, not, nat_lt, if◌then◌else◌, List, ◌++◌, map, None}
+use Rattle.std.specs.Option.{option_map}
+use Rattle.fuse_wire.specs.Errnos.{enoent, ebadf, enotdir, einval}
+use Rattle.fuse_request.specs.declared.request.ReadIn.{ReadIn}
+use Rattle.fuse_answer.specs.Entries.{Entry}
+use Rattle.fuse_answer.specs.PlusEntries.{PlusEntry, plus_len, plus_bytes}
+use Rattle.fuse_answer.specs.Sizes.{entry_out_size}
+use Rattle.fuse_tree.specs.Bounds.{read_limit, least_entry}
+use Rattle.fuse_tree.specs.declared.rows.NodeRow.{NodeRow}
+use Rattle.fuse_tree.specs.declared.rows.EntryRow.{EntryRow}
+use Rattle.fuse_tree.specs.declared.rows.Planned.{Planned}
+use Rattle.fuse_tree.specs.State.{is_dir}
+use Rattle.fuse_tree.specs.Rows.{Rows, row_at, entries_after, row_is_named}
+use Rattle.fuse_tree.specs.Handles.{is_open}
+use Rattle.fuse_tree.specs.Done.{entry_of}
+use Rattle.fuse_tree.specs.Listing.{longest_by, first_fits_by}
+use Rattle.fuse_tree.specs.inner.PlanListing.{row_entry, dots_after}
+use Rattle.fuse_tree.specs.inner.Reading.{refused, told, row_attr}
+
+-- the directory itself or the one above it
+abbrev pub plus_dot : Entry → PlusEntry
+plus_dot e = record { out = None; entry = e }
+
+abbrev pub row_plus : ℕ → Rows → EntryRow → PlusEntry
+row_plus valid rows e = record { out = option_map (λ row. entry_of valid (row_attr row)) (row_at rows e.child); entry = row_entry rows e }
+
+-- more entries than can fit
+abbrev pub enough_plus : ℕ → ℕ
+enough_plus size = size / (entry_out_size + least_entry) + 1
+
+abbrev pub plus_after : ℕ → ℕ → ℕ → NodeRow → Rows → List PlusEntry
+plus_after valid offset size row rows =
+    map plus_dot (dots_after offset row) ++ map (row_plus valid rows) (entries_after rows row.node offset (enough_plus size))
+
+abbrev pub plan_plus_prefix : List PlusEntry → ℕ → Planned
+plan_plus_prefix es size = if not (first_fits_by plus_len es size) then refused einval else told (plus_bytes (longest_by plus_len es size))
+
+abbrev pub plan_list_plus : ℕ → ℕ → ℕ → NodeRow → Rows → Planned
+plan_list_plus valid offset size row rows = plan_plus_prefix (plus_after valid offset size row rows) size
+
+abbrev pub plan_read_dir_plus : ℕ → ReadIn → NodeRow → Rows → Planned
+plan_read_dir_plus valid asked row rows =
+    if not (is_open rows.handles asked.fh row.node) then refused ebadf
+    else if not (is_dir row.mode) then refused enotdir
+    else if nat_lt read_limit asked.size then refused einval
+    else if not (row_is_named row) then refused enoent
+    else plan_list_plus valid asked.offset asked.size row rows

@@ -1,0 +1,164 @@
+//! A second line on standard error: the file that was refused, and the cause, as far as it is known.
+
+use crate::snapshot::has_journal;
+use fuse_commands::{Cause, Ending, Run, STANDARD_INPUT, Work};
+use std::fs::{self, OpenOptions};
+use std::os::unix::fs::MetadataExt;
+use std::{fmt, io};
+
+const NONE_THERE: &str = ": No such file or directory";
+
+// A file, and what is said of it.
+#[derive(Clone, Copy)]
+struct CauseLine<'a> {
+    path: &'a str,
+    text: &'static str,
+}
+
+impl fmt::Display for CauseLine<'_> {
+    fn fmt<W: fmt::Write>(&self, f: &mut fmt::Formatter<W>) -> fmt::Result {
+        write!(f, "{}{}", self.path, self.text)
+    }
+}
+
+fn say(rt: &HostRuntime, path: &str, text: &'static str) {
+    let _ = rt.eprintln(CauseLine { path, text });
+}
+
+// What is said of a file that a call refused.
+fn text_of(error: &io::Error) -> Option<&'static str> {
+    match error.kind() {
+        io::ErrorKind::NotFound => Some(NONE_THERE),
+        io::ErrorKind::PermissionDenied => Some(": Permission denied"),
+        io::ErrorKind::IsADirectory => Some(": Is a directory"),
+        io::ErrorKind::NotADirectory => Some(": Not a directory"),
+        io::ErrorKind::ReadOnlyFilesystem => Some(": Read-only file system"),
+        io::ErrorKind::FilesystemLoop => Some(": Too many levels of symbolic links"),
+        io::ErrorKind::StorageFull => Some(": no room left"),
+        _ => None,
+    }
+}
+
+// Why a file can't be opened for reading or, if it is a part of a store, for writing.
+fn refusal_of(rt: &HostRuntime, path: &str, writes: bool) -> Option<&'static str> {
+    match fs::metadata(rt, path) {
+        Ok(found) if found.is_dir() => return Some(": Is a directory"),
+        Ok(found) if !found.is_file() => return None,
+        Ok(_) => {}
+        Err(error) => return text_of(&error),
+    }
+    match OpenOptions::new().read(true).write(writes).open(rt, path) {
+        Ok(_) => None,
+        Err(error) => text_of(&error),
+    }
+}
+
+// Why a file of a store can't be opened. SQLite takes no file that has two names.
+fn store_refusal(rt: &HostRuntime, path: &str, writes: bool) -> Option<&'static str> {
+    match fs::metadata(rt, path) {
+        Ok(found) if found.is_file() && found.nlink() > 1 => Some(
+            " has another name (a hard link)",
+        ),
+        Ok(found) if !found.is_file() && !found.is_dir() => Some(" is no regular file"),
+        _ => refusal_of(rt, path, writes),
+    }
+}
+
+// Why a file can't be made. Where it can be by now, it is made, as by an opening.
+fn making_refusal(rt: &HostRuntime, path: &str) -> Option<&'static str> {
+    match OpenOptions::new()
+        .write(true)
+        .create_new(true)
+        .open(rt, path)
+    {
+        Ok(_) => None,
+        Err(error) => text_of(&error),
+    }
+}
+
+// Why the file of a store, or the log beside it, can't be opened.
+fn say_unopened(rt: &HostRuntime, file: &str, writes: bool) {
+    if file == ":memory:" || file.starts_with("file:") {
+        return say(rt, file, " is no name of a file for SQLite");
+    }
+    match store_refusal(rt, file, writes) {
+        Some(NONE_THERE) if writes => {
+            say(rt, file, making_refusal(rt, file).unwrap_or(NONE_THERE))
+        }
+        Some(text) => say(rt, file, text),
+        None => say_unopened_beside(rt, file, writes),
+    }
+}
+
+// The same of the files beside it.
+fn say_unopened_beside(rt: &HostRuntime, file: &str, writes: bool) {
+    let Ok(real) = fs::canonicalize(rt, file) else {
+        return;
+    };
+    let real = real.as_str();
+    let Ok(journal) = format!(in rt.alloc(); "{real}-journal") else {
+        return;
+    };
+    let Ok(log) = format!(in rt.alloc(); "{real}-wal") else {
+        return;
+    };
+    if has_journal(rt, journal.as_str()) {
+        return say(
+            rt,
+            journal.as_str(),
+            " is there: open the file with sqlite3 first",
+        );
+    }
+    match store_refusal(rt, log.as_str(), writes) {
+        Some(NONE_THERE) if !writes => {}
+        Some(NONE_THERE) => {
+            if let Some(text) = making_refusal(rt, log.as_str()) {
+                say(rt, log.as_str(), text);
+            }
+        }
+        Some(text) => say(rt, log.as_str(), text),
+        None => {}
+    }
+}
+
+// The cause of a fault of the store in a file.
+fn say_of_store(rt: &HostRuntime, file: &str, writes: bool, ending: Ending) {
+    match ending {
+        Ending::Sql(Cause::CannotOpen) => say_unopened(rt, file, writes),
+        Ending::Sql(Cause::InUse) => say(rt, file, " is in use by another server"),
+        Ending::Sql(Cause::NoRoom) => say(rt, file, ": no room left"),
+        Ending::Sql(Cause::InputOutput) => say(rt, file, ": input/output error"),
+        Ending::NotAStore => {
+            if matches!(fs::exists(rt, file), Ok(false)) {
+                say(rt, file, NONE_THERE);
+            }
+        }
+        _ => {}
+    }
+}
+
+// The cause of a fault of the input.
+fn say_of_input(rt: &HostRuntime, input: &str, ending: Ending) {
+    if !matches!(ending, Ending::PortFailed) || input == STANDARD_INPUT {
+        return;
+    }
+    if let Some(text) = refusal_of(rt, input, false) {
+        say(rt, input, text);
+    }
+}
+
+/// Prints the cause of an ending of this run, if it is known.
+pub(crate) fn say_cause(rt: &HostRuntime, run: Run<'_>, ending: Ending) {
+    match run {
+        Run::Serve { db, .. } => say_of_store(rt, db, true, ending),
+        Run::Store { file } | Run::List { file, .. } | Run::Cat { file, .. } => {
+            say_of_store(rt, file, false, ending)
+        }
+        Run::Read { input, work } => {
+            if let Work::Replay { db: Some(file), .. } = work {
+                say_of_store(rt, file, true, ending);
+            }
+            say_of_input(rt, input, ending);
+        }
+    }
+}

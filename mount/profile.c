@@ -1,0 +1,69 @@
+/* The profile and the size of a new store. A store that is there has its own. */
+#define _GNU_SOURCE
+#include "supervisor.h"
+#include <errno.h>
+#include <stdlib.h>
+#include <string.h>
+#include <sys/statvfs.h>
+
+enum { BLOCK = 4096 }; /* bytes */
+
+static const char plain[] = "plain", everyday[] = "everyday";
+static const unsigned long long largest = (1ULL << 63) - BLOCK;
+
+bool take_profile(struct supervisor *s, const char *word) {
+  s->profile = strcmp(word, plain) == 0 ? plain : strcmp(word, everyday) == 0 ? everyday : NULL;
+  if (!s->profile) say("the profile %s isn't known: it is plain or everyday", word);
+  return s->profile;
+}
+
+/* The number of bytes of a suffix, which is K, M, G, T or none; 0 for another one. */
+static unsigned long long unit_of(const char *suffix) {
+  static const char units[] = "KMGT";
+  if (!*suffix) return 1;
+  const char *unit = strchr(units, *suffix);
+  return unit && !suffix[1] ? 1024ULL << (10 * (unit - units)) : 0;
+}
+
+bool take_size(struct supervisor *s, const char *word) {
+  char *suffix;
+  errno = 0;
+  unsigned long long number = strtoull(word, &suffix, 10), unit = unit_of(suffix);
+  bool is_number = *word >= '0' && *word <= '9' && errno == 0 && unit > 0 && number <= largest / unit;
+  if (!is_number) return say("size=%s: no number of bytes", word), false;
+  s->size = number * unit / BLOCK * BLOCK;
+  s->has_size = true;
+  return true;
+}
+
+bool fits_profile(const struct supervisor *s) {
+  bool fits = s->profile != plain || !s->has_size;
+  if (!fits) say("a plain store has no size");
+  return fits;
+}
+
+void choose_profile(struct supervisor *s) {
+  struct statvfs room;
+  if (!s->is_new) {
+    if (s->profile || s->has_size) say("%s has its own profile and size: profile=.. and size=.. are ignored", s->store);
+    return;
+  }
+  if (!s->profile) s->profile = everyday;
+  if (s->profile == plain || s->has_size || statvfs(folder_of(s), &room) != 0) return;
+  unsigned long long tenth = room.f_bavail / 10 * room.f_frsize;
+  s->size = tenth < largest / 9 ? 9 * tenth / BLOCK * BLOCK : largest;
+  s->has_size = true;
+}
+
+size_t words_of_store(const struct supervisor *s, const char **words) {
+  static char size[32];
+  size_t count = 0;
+  if (!s->is_new) return 0;
+  words[count++] = "--profile";
+  words[count++] = s->profile;
+  if (!s->has_size) return count;
+  snprintf(size, sizeof size, "%llu", s->size);
+  words[count++] = "--capacity";
+  words[count++] = size;
+  return count;
+}
