@@ -233,7 +233,7 @@ churn() {
   local first last
   start store mnt log && churns 1000 && first=$(bytes_of_store) && churns "$operations" && last=$(bytes_of_store) || return 1
   echo "$first bytes after 1000 files, $last after $operations more"
-  expect "it doesn't grow" [ "$last" -le $((first + 1000000)) ] || return 1
+  expect "it doesn't grow" [ "$last" -le $((first + 65536)) ] || return 1
   unmount_and_end mnt
 }
 
