@@ -81,10 +81,11 @@ kills() {
   python3 -m mount.kills compare mnt models && unmount_and_end mnt && python3 -m mount.kills compare-next store models
 }
 
-# The same random operations on a mount and in a tmpfs give the same, while servers are killed. Each mount has room for so many operations.
+# The same random operations on a mount and in a tmpfs give the same, while servers are killed. The tmpfs keeps no times of access, as the
+# mount doesn't: a symbolic link on the way to itself would have another one. Each mount has room for so many operations.
 differential() {
   local left=$operations number=1 part killer status
-  mkdir other && mount -t tmpfs none other || return 1
+  mkdir other && mount -t tmpfs -o noatime none other || return 1
   while [ "$left" -gt 0 ]; do
     part=$((left < operations_of_a_mount ? left : operations_of_a_mount))
     start store mnt "log-$number" || return 1
