@@ -1,6 +1,6 @@
 //! Keepers of the tree in lists, and their counts.
 use crate::run::{Held, holding};
-use fuse_init::PlainProfile;
+use fuse_init::{EverydayProfile, PlainProfile};
 use fuse_keeper::{Keeper, PlainKeeper};
 use fuse_tree::PlainTree;
 use fuse_wire::{Memory, Moment};
@@ -8,6 +8,9 @@ use std::alloc::Global;
 
 /// A keeper of the tree in memory.
 pub type TreeKeeper = PlainKeeper<PlainTree<PlainProfile>>;
+
+/// One of the everyday profile.
+pub type EverydayKeeper = PlainKeeper<PlainTree<EverydayProfile>>;
 
 pub const START: Moment = Moment { secs: 0, nanos: 0 };
 
@@ -18,6 +21,11 @@ pub const AT_1000: Moment = Moment {
 
 /// A new store, made at second 0.
 pub(crate) fn new_keeper(alloc: Global) -> Result<TreeKeeper, Memory> {
+    PlainKeeper::new(alloc, START)
+}
+
+/// One of the everyday profile, with the default capacity.
+pub(crate) fn new_everyday_keeper(alloc: Global) -> Result<EverydayKeeper, Memory> {
     PlainKeeper::new(alloc, START)
 }
 

@@ -1,11 +1,8 @@
 //! The requests that only an everyday store serves.
 use super::*;
 use crate::hex::put_hex;
-use crate::keepers::START;
+use crate::keepers::new_everyday_keeper;
 use crate::run::Pair;
-use fuse_init::EverydayProfile;
-use fuse_keeper::PlainKeeper;
-use fuse_tree::PlainTree;
 
 // What Linux 6.18 offers, under id 2.
 const INIT: Pair = (
@@ -142,7 +139,7 @@ const READLINK_OF_NONE: Pair = (
     "10000000 8cffffff 2400000000000000",
 );
 
-// Whether a new everyday store in lists gives these answers.
+// Whether a new everyday store gives these answers.
 fn answers(alloc: Global, pairs: &[Pair]) -> Result<bool, StoreFault> {
     let mut input = Vec::new(alloc);
     let mut arrivals = Vec::new(alloc);
@@ -153,8 +150,11 @@ fn answers(alloc: Global, pairs: &[Pair]) -> Result<bool, StoreFault> {
         arrivals.push(Arrival::Piece(input.len().wrapping_sub(begin)))?;
         put_hex(&mut wanted, answer)?;
     }
-    let mut keeper: PlainKeeper<PlainTree<EverydayProfile>> = PlainKeeper::new(alloc, START)?;
+    let mut keeper = new_everyday_keeper(alloc)?;
     let mut port = MemoryPort::new(alloc, input, arrivals, Vec::new(alloc), false);
+    if keeper.failed() {
+        return Ok(false);
+    }
     serve(alloc, &mut keeper, &mut port, &mut Fixed(AT_1000), 20);
     Ok(port.sent() == wanted.as_slice())
 }
