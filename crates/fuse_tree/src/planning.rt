@@ -96,7 +96,7 @@ pub fn plan<L: Look>(
 }
 
 // INIT is always answered, and other requests where settings are agreed on.
-#[tactic(auto, using(crate::proofs::Agreeing::offers_nothing, crate::proofs::Agreeing::looks_at_node, crate::proofs::Bounds::none_outside))]
+#[tactic(auto, using(crate::proofs::Agreeing::offers_nothing, crate::proofs::Agreeing::looks_at_node))]
 fn plan_request<L: Look>(
     alloc: Global,
     look: &mut L,

@@ -1,7 +1,8 @@
 ghost use Rattle.std.specs.Prelude.{◌≡◌, None, IfOk};
 ghost use Rattle.fuse_tree.specs.Opening.{open_fault};
 ghost use Rattle.fuse_tree.specs.inner.PlanOpening as planning;
-ghost use Rattle.fuse_tree.specs.inner.PlanOpening.{counters_opened, opened_changes, plan_opened, plan_open_node};
+ghost use Rattle.fuse_tree.specs.inner.PlanOpening.{counters_opened, opened_changes};
+ghost use Rattle.fuse_tree.specs.inner.PlanOpening.{plan_opened, plan_open_node};
 ghost use Rattle.fuse_tree.specs.inner.Reading.{LooksUp, view};
 
 use super::answers::refused;

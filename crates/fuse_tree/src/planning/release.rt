@@ -54,7 +54,6 @@ pub(crate) fn plan_release_dir<L: Look>(
 
 // Closes a handle that is open at this node, unless the node is of another kind. In a tree a handle
 // that is open is counted.
-#[tactic(auto, using(crate::proofs::Bounds::handle_counted))]
 fn close<L: Look>(
     alloc: Global,
     look: &mut L,
