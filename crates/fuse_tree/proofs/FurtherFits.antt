@@ -5,7 +5,7 @@ use Rattle.std.specs.Option.{unwrap_or}
 use Rattle.std.specs.Prelude.{nat_le, nat_lt}
 use Rattle.std.proofs.lemmas.Bool.{eqb-true}
 use Rattle.std.proofs.lemmas.List.{length-take}
-use Rattle.fuse_wire.proofs.Layouts.{length-form}
+use Rattle.fuse_wire.specs.Bytes as wire_bytes
 use Rattle.fuse_wire.specs.declared.access_mode.AccessMode.{AccessMode}
 use Rattle.fuse_wire.specs.declared.moment.Moment.{Moment}
 use Rattle.fuse_wire.specs.Flags.{access_of}
@@ -18,7 +18,8 @@ use Rattle.fuse_init.specs.declared.profile.Profile.TheVariants.{Plain, Everyday
 use Rattle.fuse_init.specs.Profile.{terms}
 use Rattle.fuse_answer.specs.Laws.{RecordSizes}
 use Rattle.fuse_answer.specs.declared.further.CreateOut.{CreateOut}
-use Rattle.fuse_answer.specs.FurtherAnswers.{statfs_parts, statfs_bytes, create_parts, create_bytes}
+use Rattle.fuse_answer.specs.declared.further.StatfsOut.{StatfsOut}
+use Rattle.fuse_answer.specs.FurtherAnswers.{statfs_bytes, create_bytes}
 use Rattle.fuse_answer.specs.Replies.{Kind, Unknown, kind_of}
 use Rattle.fuse_tree.specs.Bounds.{target_limit, handle_limit, number_end}
 use Rattle.fuse_tree.specs.declared.new_node.NewNode.{NewNode}
@@ -40,10 +41,12 @@ use Rattle.fuse_tree.proofs.PlusFits.{read_dir_plus_fits, read_dir_plus_reads}
 readlink_fits : (s : State) (n : Node) → Fits (readlink s n)
 readlink_fits s n = chosen (not (is_link n.mode)) _ _ (refused s _) (answered s _ (omega (arith, length-take 4095 n.content)))
 
+statfs_len : (out : StatfsOut) → length (statfs_bytes out) ≡ 80
+unfolding statfs_bytes wire_bytes.le
+statfs_len out = refl
+
 statfs_fits : (s : State) → Fits (statfs s)
-unfolding statfs_bytes
-statfs_fits s =
-    answered s _ (omega (arith, length-form (statfs_parts (statfs_of (terms_of s).node_limit (length s.nodes) (unwrap_or (room_of s) no_room)))))
+statfs_fits s = answered s _ (omega (arith, statfs_len (statfs_of (terms_of s).node_limit (length s.nodes) (unwrap_or (room_of s) no_room))))
 
 symlink_fits : RecordSizes → (s : State) (header : InHeader) (name target : List ℕ) (now : Moment) (n : Node) → Fits (symlink s header name target now n)
 symlink_fits sizes s header name target now n =
@@ -60,15 +63,15 @@ symlink_fits sizes s header name target now n =
     (omega (arith, sizes.0 (entry_of (valid_of (agreement_of s)) (attr_of (with_link s fresh target n.number name) made)))))))))))
 
 -- an entry and then what OPEN answers
-create_len : (out : CreateOut) → length (create_bytes out) ≤ 1048576
-unfolding create_bytes
-create_len out = omega (arith, length-form (create_parts out))
+create_len : (out : CreateOut) → length (create_bytes out) ≡ 144
+unfolding create_bytes wire_bytes.le
+create_len out = refl
 
 create_for_fits : (s : State) (fresh : NewNode) (dir : ℕ) (name : List ℕ) (o : Option AccessMode) → Fits (create_for s fresh dir name o)
 create_for_fits s fresh dir name None = refused s _
 create_for_fits s fresh dir name (Some access) =
     refused_for s (open_fault (length s.handles) s.next_fh) _
-    (answered (created s fresh dir name access) _ (create_len (create_of s fresh dir name access)))
+    (answered (created s fresh dir name access) _ (omega (arith, create_len (create_of s fresh dir name access))))
 
 create_fits : (s : State) (header : InHeader) (flags mode : ℕ) (name : List ℕ) (now : Moment) (n : Node) → Fits (create s header flags mode name now n)
 create_fits s header flags mode name now n =
