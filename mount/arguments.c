@@ -43,6 +43,16 @@ static bool is_max_read(const char *word) {
   return *digits && !digits[strspn(digits, "0123456789")];
 }
 
+/* Takes an option that says how servers work. */
+static bool takes_way(struct supervisor *s, const char *word) {
+  if (strcmp(word, "wary") == 0) s->wary = true;
+  else if (strcmp(word, "volatile") == 0) s->is_volatile = true;
+  else if (strcmp(word, "groups") == 0) s->groups = GROUPS;
+  else if (strcmp(word, "nogroups") == 0) s->groups = NO_GROUPS;
+  else return false;
+  return true;
+}
+
 static bool append(char *list, const char *word) {
   size_t used = strlen(list);
   if (snprintf(list + used, OPTIONS_SIZE - used, ",%s", word) < (int)(OPTIONS_SIZE - used)) return true;
@@ -56,7 +66,7 @@ static bool take_option(struct supervisor *s, const char *word) {
       s->flags = (s->flags & ~flag_words[i].clear) | flag_words[i].set;
       return append(s->options, word);
     }
-  if (strcmp(word, "wary") == 0) return s->wary = true;
+  if (takes_way(s, word)) return true;
   if (begins(word, "profile=")) return take_profile(s, word + strlen("profile="));
   if (begins(word, "size=")) return take_size(s, word + strlen("size="));
   if (strcmp(word, "default_permissions") == 0 || is_for_others(word)) return true;
@@ -77,11 +87,12 @@ bool is_helper(const char *name) {
 
 int print_help(void) {
   static const char help[] =
-    "usage: fusekeep-mount [-f] [-o OPTIONS] STORE MOUNTPOINT\n"
+    "usage: fusekeep-mount [-df] [-o OPTIONS] STORE MOUNTPOINT\n"
     "       fusekeep-mount --server STORE\n"
     "       fusekeep-mount --help | --version\n"
     "\n"
     "Mounts the store in the file STORE on the directory MOUNTPOINT, and keeps the mount alive when its server dies.\n"
+    "  -d              write a line for each request and each answer to standard error; implies -f\n"
     "  -f              stay in the foreground\n"
     "  -o OPTIONS      mount options, with commas between them\n"
     "  --server STORE  print the process number of the server of a mounted store\n"
@@ -100,6 +111,9 @@ int print_help(void) {
     "  profile=P       a new store is of the profile plain or everyday (everyday)\n"
     "  size=N          a new everyday store has room for N bytes, or for N K, M, G or T (nine tenths of the free space)\n"
     "  wary            the servers suppose less of the disk, and each commit syncs twice\n"
+    "  groups, nogroups\n"
+    "                  requests that wait together are committed together, or aren't (groups)\n"
+    "  volatile        nothing is flushed: a cut of power or a crash of the system may lose or damage the whole store\n"
     "  default_permissions\n"
     "                  always on, given or not\n"
     "  defaults, auto, noauto, nofail, _netdev, user, user=.., nouser, users, owner, group, comment=.., x-.., X-..\n"
@@ -118,13 +132,14 @@ bool read_arguments(struct supervisor *s, int argc, char **argv) {
   bool by_mount = is_helper(argv[0]), is_known = true;
   unsetenv("POSIXLY_CORRECT");
   opterr = 0;
-  for (int letter; (letter = getopt(argc, argv, by_mount ? "sfnvo:" : "fo:")) != -1;) {
+  for (int letter; (letter = getopt(argc, argv, by_mount ? "sfnvo:" : "dfo:")) != -1;) {
     if (letter == 'f') *(by_mount ? &s->fake : &s->foreground) = true;
+    if (letter == 'd') s->shows = s->foreground = true;
     if (letter == 's') s->sloppy = true;
     if (letter == 'o' && !take_options(s, optarg)) return false;
     if (letter == '?') is_known = false;
   }
   if (is_known && argc - optind == 2) return fits_profile(s);
-  say("usage: %s", by_mount ? "STORE MOUNTPOINT [-sfnv] [-o OPTIONS]" : "[-f] [-o OPTIONS] STORE MOUNTPOINT, or --server STORE");
+  say("usage: %s", by_mount ? "STORE MOUNTPOINT [-sfnv] [-o OPTIONS]" : "[-df] [-o OPTIONS] STORE MOUNTPOINT, or --server STORE");
   return false;
 }

@@ -2,6 +2,7 @@
 #define _GNU_SOURCE
 #include "supervisor.h"
 #include <errno.h>
+#include <fcntl.h>
 #include <stdio.h>
 #include <string.h>
 #include <sys/prctl.h>
@@ -35,15 +36,27 @@ static void put_words(const struct supervisor *s, const char *mode, const char *
   words[count] = NULL;
 }
 
+/* What a server has beside an engine that begins a mount. A server that was killed may have left the device so that no read waits. */
+static void become_server(const struct supervisor *s, int lines) {
+  int flags = fcntl(STDIN_FILENO, F_GETFL);
+  if (flags < 0 || fcntl(STDIN_FILENO, F_SETFL, flags & ~O_NONBLOCK) != 0) _exit(CANNOT_RUN);
+  if (s->library >= 0) preload_library(s, lines);
+  if (!s->is_volatile || ignore_flushes()) return;
+  dprintf(STDERR_FILENO, "seccomp: %s\n", strerror(errno));
+  _exit(CANNOT_RUN);
+}
+
 pid_t start_engine(const struct supervisor *s, const char *mode, int device) {
   const char *words[MOST_WORDS];
   if (ftruncate(s->lock, 0) != 0) refused("lock");
   pid_t child = fork_child();
   if (child != 0) return child;
+  int lines = s->shows ? fcntl(STDERR_FILENO, F_DUPFD, FIRST_OTHER) : -1;
   if (dup2(s->lock, STDERR_FILENO) < 0) _exit(CANNOT_RUN);
   if (dup2(device, STDIN_FILENO) < 0 || dup2(device, STDOUT_FILENO) < 0) _exit(CANNOT_RUN);
-  close_range(FIRST_OTHER, ~0U, 0);
+  close_range(FIRST_OTHER, ~0U, CLOSE_RANGE_CLOEXEC);
   give_back_signals(s);
+  if (strcmp(mode, "--resume") == 0) become_server(s, lines);
   put_words(s, mode, words);
   execvp(s->engine, (char **)words);
   dprintf(STDERR_FILENO, "%s: %s\n", s->engine, strerror(errno));

@@ -32,15 +32,22 @@ static bool find_on_path(struct supervisor *s, const char *name) {
   }
 }
 
-/* Searches the source tree and the folder of this program. */
-static bool find_near(struct supervisor *s) {
-  static const char *const near[] = {"../../dist/x86_64-linux/fusekeep", "fusekeep"};
+const char *near_program(const char *name) {
   static char path[PATH_MAX + 64];
   ssize_t length = readlink("/proc/self/exe", path, PATH_MAX);
   while (length > 0 && path[length - 1] != '/') length--;
-  for (size_t i = 0; length > 0 && i < sizeof near / sizeof *near; i++) {
-    strcpy(path + length, near[i]);
-    if (is_program(path)) return s->engine = path, true;
+  if (length <= 0) return NULL;
+  strcpy(path + length, name);
+  return path;
+}
+
+/* Searches the source tree and the folder of this program. */
+static bool find_near(struct supervisor *s) {
+  static const char *const near[] = {"../../dist/x86_64-linux/fusekeep", "fusekeep"};
+  static char found[PATH_MAX + 64];
+  for (size_t i = 0; i < sizeof near / sizeof *near; i++) {
+    const char *path = near_program(near[i]);
+    if (path && is_program(path)) return s->engine = strcpy(found, path), true;
   }
   return false;
 }

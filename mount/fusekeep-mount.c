@@ -239,6 +239,7 @@ static bool take_signals(struct supervisor *s) {
 
 static int run(struct supervisor *s, const char *store, const char *mountpoint) {
   if (!find_engine(s) || !find_mountpoint(s, mountpoint)) return FAILED;
+  find_library(s);
   int status = hold_store(s, store) ? begin_in_store(s) : FAILED;
   if (status == 0) watch_store(s);
   if (status == 0 && take_signals(s) && mount_store(s)) return supervise(s);

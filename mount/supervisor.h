@@ -45,6 +45,9 @@ enum trouble { NO_TROUBLE, LINKED, MOVED, REMOVED, LOG_REMOVED, OTHER_LOG };
 struct supervisor {
   bool foreground, fake, sloppy;
   bool wary;                                       /* the servers suppose nothing of torn writes */
+  bool is_volatile;                                /* the servers flush nothing */
+  enum { BY_DEFAULT, GROUPS, NO_GROUPS } groups;   /* whether a server gets all messages that wait at once */
+  bool shows;                                      /* a line is written for each message */
   const char *profile;                             /* of a new store; NULL where nothing is said */
   unsigned long long size;                         /* bytes for which it has room */
   bool has_size, is_new;                           /* there is a size; the store is to be made */
@@ -54,6 +57,7 @@ struct supervisor {
   char data[OPTIONS_SIZE], options[OPTIONS_SIZE];  /* for mount(2) beside the flags; for fusermount3 */
   int lock, device, signals, readiness;            /* descriptors; the last one reports that the mount is ready */
   int store_file, log_file, watch;                 /* descriptors: of the files, and of inotify(7) */
+  int library;                                     /* descriptor of what servers preload; -1 for none */
   sigset_t mask;                                   /* with which this process was called */
   pid_t server, probe, unmounter;                  /* 0 for none */
   bool ready, stop_requested, is_unmounted;
@@ -79,7 +83,7 @@ bool refused(const char *what);
 /* Milliseconds of the monotonic clock. */
 long long now(void);
 
-/* arguments.c, engine.c, server.c */
+/* arguments.c, engine.c, preload.c, server.c */
 
 /* Reads the options, and returns whether the command line is valid. Its operands stand at `optind`. */
 bool read_arguments(struct supervisor *s, int argc, char **argv);
@@ -95,6 +99,15 @@ int print_version(void);
  * PATH, which mount(8) doesn't pass on. */
 bool find_engine(struct supervisor *s);
 
+/* A path that begins at the folder of this program. The next call overwrites it. NULL where that folder isn't known. */
+const char *near_program(const char *name);
+
+/* Opens the library that servers preload, where the mount has groups or lines. It may be missing: a mount has neither then. */
+void find_library(struct supervisor *s);
+
+/* Preloads the library, in a child that becomes a server. It writes lines to this descriptor. */
+void preload_library(const struct supervisor *s, int lines);
+
 /* Prints the process number of the server of a mounted store, and returns the exit status of this program. */
 int print_server(const char *store);
 
@@ -107,8 +120,13 @@ pid_t fork_child(void);
 /* Restores the signals with which this process was called, before another program is executed. */
 void give_back_signals(const struct supervisor *s);
 
-/* Runs `fusekeep serve`. With `--fresh` a new store gets its profile. */
+/* Runs `fusekeep serve`. With `--fresh` a new store gets its profile. With `--resume` it is a server, over the device. */
 pid_t start_engine(const struct supervisor *s, const char *mode, int device);
+
+/* volatile.c */
+
+/* From here on this process flushes nothing: fsync(2) and fdatasync(2) return 0. */
+bool ignore_flushes(void);
 
 /* The last line that an engine wrote to its standard error, which is the lock's file. A line that begins with the store's path is the
  * cause of the one before, and follows it here. The next call overwrites it. */
