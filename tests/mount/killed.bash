@@ -3,11 +3,11 @@
 # Workers and their end.
 
 start_workers() {
-  local number
+  local number share=$((creations / processes))
   workers=()
   rm -f stop
   for ((number = 0; number < processes; number++)); do
-    python3 "$here/workload.py" work mnt "$number" "model-$number" stop "$creations" &
+    python3 "$here/workload.py" work mnt "$number" "model-$number" stop "$share" &
     workers+=($!)
     record $!
   done
@@ -48,7 +48,7 @@ round() {
 }
 
 rounds() {
-  local number=1 ends kills=${kills:-200}
+  local number=1 ends kills=${kills:-200} processes=16
   while :; do
     ends=$([ $((number % 2)) -eq 1 ] && echo stop || echo unmount)
     touch alive
@@ -135,7 +135,7 @@ has_lives() {
 }
 
 at_calls() {
-  local killer
+  local killer processes=16
   write_dying_engine
   start store mnt log || return 1
   start_workers

@@ -297,9 +297,14 @@ def compare_races(models, found):
     check({name for name in found if name.startswith("race-")} == {f"race-{number}" for number in range(tried)}, "races differ")
 
 
+def number_of(path):
+    """The number of the process whose model this is."""
+    return int(path.rsplit("-", 1)[1])
+
+
 def compare(mount, paths):
     """The whole tree is what all processes did, and nothing else."""
-    models = [Model(path) for path in paths]
+    models = [Model(path) for path in sorted(paths, key=number_of)]
     os.chdir(mount)
     check(sorted(os.listdir(".")) == sorted([f"own-{number}" for number in range(len(models))] + ["shared"]), os.listdir("."))
     files = dirs = 0

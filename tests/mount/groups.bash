@@ -1,0 +1,175 @@
+# Phases of tests/mount/run: the library that servers preload, and servers that flush nothing. Each runs in a folder of its own.
+
+# Sixteen calls wait at the device of a stopped server, each in a directory of its own: one directory has one MKDIR at a time.
+start_callers() {
+  local number
+  callers=()
+  mkdir mnt/{1..16} && server=$("$program" --server store) && kill -STOP "$server" || return 1
+  for number in {1..16}; do
+    mkdir "mnt/$number/made" &
+    callers+=($!)
+    record $!
+  done
+  await 60 all_wait
+}
+
+# Whether all callers wait for a request. The kernel names the function in which a process sleeps only to root.
+all_wait() {
+  local caller
+  for caller in "${callers[@]}"; do
+    grep -qE "request_wait|fuse" "/proc/$caller/wchan" || return 1
+  done
+}
+
+# All calls have succeeded, and each has made its directory.
+end_callers() {
+  local caller number
+  for caller in "${callers[@]}"; do
+    expect "no call fails" wait "$caller" || return 1
+  done
+  for number in {1..16}; do
+    expect "the directory $number is there" [ "$(ls "mnt/$number")" = made ] || return 1
+  done
+}
+
+# Lets the stopped server go on under strace: trace_server FILE WORD..
+trace_server() {
+  local file=$1
+  shift
+  strace -qq -o "$file" -p "$server" "$@" &
+  tracer=$!
+  record "$tracer"
+  await 60 is_traced "$server" && kill -CONT "$server"
+}
+
+# A server dies when it has read some messages of those that wait, and answered none. They come again, and the next server waits in its
+# reads as if none had died.
+gathered() {
+  start store mnt log && start_callers || return 1
+  trace_server calls -P /dev/fuse -e trace=read,write -e inject=read:signal=KILL:when=6 || return 1
+  end_callers || return 1
+  expect "it had read some and answered none ($(xargs -d '\n' <calls))" \
+    [ "$(grep -c '^read(0, .* = [1-9]' calls) $(grep -c '^write(1' calls)" = "5 0" ] || return 1
+  expect "it was killed" [ "$(kills_in log)" -eq 1 ] || return 1
+  server=$("$program" --server store) && await 60 waits_in_reads "$server" || return 1
+  unmount_and_end mnt
+}
+
+# Whether the reads of a server wait, which is so where the device has no O_NONBLOCK.
+waits_in_reads() {
+  [ $((0$(sed -n 's/^flags:[[:space:]]*//p' "/proc/$1/fdinfo/0") & 04000)) -eq 0 ]
+}
+
+# The requests that wait together are committed together: so many answers by one flush.
+committed_together() {
+  local answers flushes
+  start store mnt log && start_callers && trace_server calls -e trace=write,fsync,fdatasync || return 1
+  end_callers || return 1
+  kill "$tracer"
+  wait "$tracer"
+  answers=$(grep -c '^write(1' calls) flushes=$(grep -cE '^(fsync|fdatasync)' calls)
+  expect "$answers answers by $flushes flushes" [ "$flushes" -le $((answers - 12)) ] || return 1
+  unmount_and_end mnt
+}
+
+# Whether the log has a line for the request, and one for its answer: is_shown OPCODE ENDING ANSWER
+is_shown() {
+  local line id time='^[0-9]{2}:[0-9]{2}:[0-9]{2}[.][0-9]{6}Z'
+  line=$(grep -E "$time $1 id=[0-9]+ resend=[01] node=[0-9]+ len=[0-9]+ pid=[0-9]+$2\$" log | tail -n 1)
+  id=$(grep -o 'id=[0-9]*' <<<"$line" | head -n 1)
+  expect "there is a line for $1$2" [ -n "$id" ] || return 1
+  expect "its answer has $3" grep -qE "$time $1 $id resend=[01] $3\$" log
+}
+
+# With -d there is a line for each request and each answer, whether requests are gathered or not.
+shows() {
+  local switch=-d
+  shows_all && options=nogroups && shows_all
+}
+
+shows_all() {
+  local ok='errno=0 len=[0-9]+ us=[0-9]+'
+  rm -rf store* && start store mnt log && mkdir mnt/made && touch mnt/made/$'a\nb"c' && ln -s there mnt/link || return 1
+  ! rmdir mnt/made 2>line && kill -KILL "$("$program" --server store)" && ls mnt >/dev/null && unmount_and_end mnt || return 1
+  is_shown INIT "" "$ok" && is_shown MKDIR ' "made"' "$ok" && is_shown CREATE ' "a\\012b\\042c"' "$ok" || return 1
+  is_shown SYMLINK ' "link" "there"' "$ok" && is_shown RMDIR ' "made"' 'errno=39 len=16 us=[0-9]+ Directory not empty' || return 1
+  expect "the notices are shown" [ "$(grep -cE 'Z notice=7 RESEND$' log) $(grep -cE 'Z notice=8 INC_EPOCH$' log)" = "2 1" ] || return 1
+  expect "each answer follows a request of its id and opcode" has_pairs
+}
+
+has_pairs() {
+  awk '/ errno=/ { answers++; if (!asked[$2 " " $3]) exit 1 } / node=/ { asked[$2 " " $3] = 1 } END { exit !(answers > 12) }' log
+}
+
+# A mount goes on where nobody reads its lines.
+shows_to_nobody() {
+  "$program" -d store mnt 2> >(head -n 3 >/dev/null) &
+  supervisor=$!
+  record "$supervisor"
+  await 120 is_mounted "$PWD/mnt" && mkdir mnt/{1..50} || return 1
+  expect "the directories are there" [ "$(ls mnt | wc -l)" -eq 50 ] || return 1
+  kill -TERM "$supervisor" && ended 0
+}
+
+# Whether a server has the library.
+has_library() {
+  grep -q fusekeep-gather.so "/proc/$1/maps"
+}
+
+has_no_library() {
+  ! has_library "$1"
+}
+
+# Without the library a mount is served, a message a read, and says so once where groups or lines were asked for. With it, the library may
+# go while the store is mounted.
+no_library() {
+  local program=$program
+  mkdir bin && cp "$program" bin && program=$PWD/bin/fusekeep-mount || return 1
+  works_without "" "" && works_without groups "fusekeep-gather.so is missing: each request is committed by itself" || return 1
+  switch=-d works_without "" "fusekeep-gather.so is missing: no request is shown" || return 1
+  mkdir -p lib/fusekeep && cp "$top/mount/out/fusekeep-gather.so" lib/fusekeep || return 1
+  options=
+  start store mnt log && expect "it has the library" has_library "$("$program" --server store)" || return 1
+  rm lib/fusekeep/fusekeep-gather.so && kill -KILL "$("$program" --server store)" && mkdir mnt/last || return 1
+  expect "the next one has it, too" has_library "$("$program" --server store)" || return 1
+  unmount_and_end mnt
+}
+
+# works_without OPTIONS LINE
+works_without() {
+  options=$1
+  start store mnt log && mkdir "mnt/1$1$switch" && python3 "$here/killer.py" "$supervisor" 2 0.3 && mkdir "mnt/2$1$switch" || return 1
+  expect "no server has it" has_no_library "$("$program" --server store)" || return 1
+  unmount_and_end mnt || return 1
+  expect "it says so once" [ "$(grep -c "is missing" log)" -eq $([ -z "$2" ]; echo $?) ] && grep -qF "$2" log
+}
+
+# In a server of a volatile mount neither fsync(2) nor fdatasync(2) reaches the kernel, which refuses both for a pipe. The engine that
+# begins a mount flushes.
+flushes() {
+  cat >flushing-engine <<END
+#!/bin/sh
+python3 - "\$@" <<'CALLS'
+import os, sys
+for flush in os.fsync, os.fdatasync:
+    try:
+        flush(os.pipe()[1])
+        word = "ignored"
+    except OSError:
+        word = "made"
+    with open("$PWD/flushes", "a") as file:
+        print("serves" if "--resume" in sys.argv else "begins", word, file=file)
+CALLS
+exec "$engine" "\$@"
+END
+  chmod +x flushing-engine
+  export FUSEKEEP=$PWD/flushing-engine
+  flushes_as "begins made begins made serves made serves made" && options=volatile || return 1
+  flushes_as "begins made begins made serves ignored serves ignored"
+}
+
+flushes_as() {
+  rm -f flushes
+  start store mnt log && mkdir "mnt/made$options" && unmount_and_end mnt || return 1
+  expect "$1 (it has $(xargs <flushes))" [ "$(xargs <flushes)" = "$1" ]
+}
