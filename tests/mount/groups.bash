@@ -25,6 +25,7 @@ all_wait() {
 end_callers() {
   local caller number
   for caller in "${callers[@]}"; do
+    await 60 isnt_running "$caller" || return 1
     expect "no call fails" wait "$caller" || return 1
   done
   for number in {1..16}; do
