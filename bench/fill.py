@@ -19,8 +19,11 @@ UPDATE nodes SET subdirs = {dirs} WHERE node = 1;
 UPDATE meta SET v = {nodes} + 1 WHERE k = 2;
 UPDATE meta SET v = {nodes} + 2 WHERE k = 4;
 UPDATE meta SET v = {nodes} WHERE k = 5;
-COMMIT;
+{room}COMMIT;
 """
+
+# What an everyday store has beside it: its profile, its capacity of 1 TiB and how much of it is used, in blocks.
+ROOM = "INSERT INTO meta VALUES (12, 2), (13, 268435456), (14, ({nodes} - 1 - {dirs}) * {blocks});\n"
 
 
 def find_program():
@@ -29,9 +32,11 @@ def find_program():
     return named or subprocess.run([f"{TOP}/dist/program"], stdout=subprocess.PIPE, text=True, check=True).stdout.strip()
 
 
-def make_store(path, nodes, dirs, blocks=0):
+def make_store(path, nodes, dirs=0, blocks=0, profile="plain"):
     """Makes a store of so many nodes, the root and the directories included; without directories all nodes are in the root. Each
     file has so many blocks of 4 KiB."""
+    shape = {"nodes": nodes, "dirs": dirs, "blocks": blocks}
+    room = ROOM.format(**shape) if profile == "everyday" else ""
     with open(NEW_STORE, encoding="utf-8") as new:
-        text = new.read() + FILL.format(nodes=nodes, dirs=dirs, blocks=blocks)
+        text = new.read() + FILL.format(**shape, room=room)
     subprocess.run(["sqlite3", path], input=text, text=True, check=True)

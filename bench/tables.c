@@ -1,7 +1,13 @@
 /* Serves a stream of INIT, LOOKUP, MKNOD, OPEN, WRITE, READ and RELEASE over a store file by libsqlite3, to be measured beside the
  * program: with the program's statements, in the same groups and with the same durability. Every request must be answered without
- * an error. Prints the number of statements of each opcode. */
+ * an error. Each read of standard input must give whole messages. The statements are those of the words that follow the store:
+ *   changed   only the counters that changed are written
+ *   held      settings and counters are read once, at the opening
+ *   known     no row is looked for again that the request has already found or missed
+ *   grouped   a group's settled records go by one statement, and its counters are written once; needs `held`
+ * Standard error has the number of statements of each opcode. */
 #include <sqlite3.h>
+#include <stdbool.h>
 #include <stdint.h>
 #include <stdio.h>
 #include <stdlib.h>
@@ -9,17 +15,20 @@
 #include <unistd.h>
 
 enum { LOOKUP = 1, MKNOD = 8, OPEN = 14, READ = 15, WRITE = 16, RELEASE = 18, INIT = 26, OPCODES = 64 };
-enum { HEADER = 40, PIECE = 135168, GROUP = 16, BLOCK = 4096, SECOND = 1000 };
+enum { HEADER = 40, ANSWER = 16, PIECE = 135168, GROUP = 16, BLOCK = 4096, SECOND = 1000, KEEP_CACHE = 2 };
 
-/* The columns of nodes, and the numbers of meta from key 1 on. */
+/* The columns of nodes, and the numbers of meta from key 1 on. A plain store has none from PROFILE on. */
 enum { NODE, MODE, UID, GID, RDEV, SIZE, ATIME, ATIMENSEC, MTIME, MTIMENSEC, CTIME, CTIMENSEC, UP, SUBDIRS, COLUMNS };
-enum { VERSION, NEXT_NODE, NEXT_FH, NEXT_COOKIE, NODES, HANDLES, SETTINGS, MINOR, READAHEAD, FLAGS, NEXT_LOT, NUMBERS };
+enum { VERSION, NEXT_NODE, NEXT_FH, NEXT_COOKIE, NODES, HANDLES, SETTINGS, MINOR, READAHEAD, FLAGS, NEXT_LOT, PROFILE, CAPACITY, USED,
+  NUMBERS };
 
 #define STATEMENTS(X) \
   X(BEGIN, "BEGIN") \
   X(COMMIT, "COMMIT") \
   X(SELECT_KEPT, "SELECT errno, body FROM kept WHERE id = ?1") \
   X(INSERT_KEPT, "INSERT INTO kept VALUES (?1, ?2, ?3, ?4)") \
+  X(DELETE_KEPT, "DELETE FROM kept WHERE id = ?1") \
+  X(DELETE_GROUP, "DELETE FROM kept WHERE id IN (?1, ?2, ?3, ?4, ?5, ?6, ?7, ?8, ?9, ?10, ?11, ?12, ?13, ?14, ?15, ?16)") \
   X(INSERT_LOT, "INSERT INTO lots VALUES (?1)") \
   X(SELECT_META, "SELECT v FROM meta ORDER BY k") \
   X(UPDATE_META, "UPDATE meta SET v = ?2 WHERE k = ?1") \
@@ -35,7 +44,8 @@ enum { VERSION, NEXT_NODE, NEXT_FH, NEXT_COOKIE, NODES, HANDLES, SETTINGS, MINOR
   X(DELETE_HANDLE, "DELETE FROM handles WHERE fh = ?1") \
   X(SELECT_BLOCK, "SELECT bytes FROM blocks WHERE node = ?1 AND block = ?2") \
   X(DELETE_BLOCK, "DELETE FROM blocks WHERE node = ?1 AND block = ?2") \
-  X(INSERT_BLOCK, "INSERT INTO blocks VALUES (?1, ?2, ?3)")
+  X(INSERT_BLOCK, "INSERT INTO blocks VALUES (?1, ?2, ?3)") \
+  X(UPDATE_BLOCK, "UPDATE blocks SET bytes = ?3 WHERE node = ?1 AND block = ?2")
 
 #define NAME(name, text) name,
 #define TEXT(name, text) text,
@@ -45,7 +55,18 @@ static const char *const texts[] = { STATEMENTS(TEXT) };
 static sqlite3 *db;
 static sqlite3_stmt *statements[STATEMENT_COUNT];
 static long made, requests[OPCODES], made_for[OPCODES];
+static bool changed, held, known, grouped;
 static int64_t lot;
+
+/* The numbers of the store, how many of them there are, and those that the last statement wrote. */
+static int64_t numbers[NUMBERS], stored[NUMBERS];
+static int number_count;
+
+/* The settled ids, and the answers of the group, sent after its commit. */
+static int64_t settled[GROUP];
+static int settled_count;
+static uint8_t answers[GROUP][ANSWER + BLOCK];
+static int answer_count;
 
 static void fail(const char *what) {
   fprintf(stderr, "tables: %s: %s\n", what, db ? sqlite3_errmsg(db) : "");
@@ -87,16 +108,33 @@ static void run_with(int which, int count, const int64_t *numbers) {
   run(with(which, count, numbers));
 }
 
-static void select_meta(int64_t *numbers) {
+static void select_meta(void) {
   sqlite3_stmt *s = with(SELECT_META, 0, NULL);
-  int count = 0;
-  while (has_row(s) && count < NUMBERS) numbers[count++] = sqlite3_column_int64(s, 0);
-  check(count == NUMBERS, "meta isn't whole");
+  for (number_count = 0; has_row(s) && number_count < NUMBERS; number_count++)
+    numbers[number_count] = stored[number_count] = sqlite3_column_int64(s, 0);
+  check(number_count == NEXT_LOT + 1 || number_count == NUMBERS, "meta isn't whole");
   sqlite3_reset(s);
 }
 
-static void set_numbers(const int64_t *numbers, int from, int until) {
-  for (int i = from; i < until; i++) run_with(UPDATE_META, 2, (int64_t[]){ i + 1, numbers[i] });
+static void look_at_meta(void) {
+  if (!held) select_meta();
+}
+
+static void write_numbers(int from, int until) {
+  for (int i = from; i < until && i < number_count; i++) {
+    if (changed && numbers[i] == stored[i]) continue;
+    run_with(UPDATE_META, 2, (int64_t[]){ i + 1, numbers[i] });
+    stored[i] = numbers[i];
+  }
+}
+
+static void write_counters(void) {
+  write_numbers(NEXT_NODE, SETTINGS);
+  write_numbers(USED, NUMBERS);
+}
+
+static void counters_changed(void) {
+  if (!grouped) write_counters();
 }
 
 static int select_node(int64_t node, int64_t *row) {
@@ -108,9 +146,10 @@ static int select_node(int64_t node, int64_t *row) {
   return found;
 }
 
-static void put_node(const int64_t *row) {
+static void put_node(const int64_t *row, bool is_new) {
   int64_t old[COLUMNS];
-  run_with(select_node(row[NODE], old) ? UPDATE_NODE : INSERT_NODE, COLUMNS, row);
+  check(known || select_node(row[NODE], old) != is_new, "the node");
+  run_with(is_new ? INSERT_NODE : UPDATE_NODE, COLUMNS, row);
 }
 
 /* The node of a name, or 0. */
@@ -128,11 +167,22 @@ static void select_handle(int64_t fh, int64_t node) {
   sqlite3_reset(s);
 }
 
-static void select_block(int64_t node, int64_t block, uint8_t *bytes) {
-  sqlite3_stmt *s = with(SELECT_BLOCK, 2, (int64_t[]){ node, block });
+static bool select_block(const int64_t *place, uint8_t *bytes) {
+  sqlite3_stmt *s = with(SELECT_BLOCK, 2, place);
+  bool found = has_row(s);
   memset(bytes, 0, BLOCK);
-  if (has_row(s)) memcpy(bytes, sqlite3_column_blob(s, 0), BLOCK);
+  if (found) memcpy(bytes, sqlite3_column_blob(s, 0), BLOCK);
   sqlite3_reset(s);
+  return found;
+}
+
+static void put_block(const int64_t *place, const uint8_t *bytes) {
+  uint8_t old[BLOCK];
+  bool found = select_block(place, old);
+  if (!known) run_with(DELETE_BLOCK, 2, place);
+  sqlite3_stmt *s = with(known && found ? UPDATE_BLOCK : INSERT_BLOCK, 2, place);
+  put_bytes(s, 3, bytes, BLOCK);
+  run(s);
 }
 
 static uint64_t get(const uint8_t *bytes, int width) {
@@ -157,13 +207,19 @@ static int entry_body(uint8_t *out, const int64_t *row) {
 }
 
 static int do_init(const uint8_t *body, uint8_t *out) {
-  uint64_t flags = (get(body + 12, 4) | get(body + 16, 4) << 32) & (1ull << 0 | 1ull << 5 | 1ull << 30 | 1ull << 39);
-  int64_t numbers[NUMBERS] = { [SETTINGS] = 1, [MINOR] = 40, [READAHEAD] = get(body + 8, 4), [FLAGS] = flags };
-  set_numbers(numbers, SETTINGS, NEXT_LOT);
+  bool is_plain = number_count < NUMBERS;
+  uint64_t offered = get(body + 12, 4) | get(body + 16, 4) << 32;
+  uint64_t wanted = 1ull << 0 | 1ull << 5 | 1ull << 30 | 1ull << 39 | (is_plain ? 0 : 1ull << 13 | 1ull << 14 | 1ull << 18 | 1ull << 23);
+  int64_t most = is_plain ? 40 : 44, minor = get(body + 4, 4);
+  numbers[SETTINGS] = 1;
+  numbers[MINOR] = minor < most ? minor : most;
+  numbers[READAHEAD] = get(body + 8, 4);
+  numbers[FLAGS] = offered & wanted;
+  write_numbers(SETTINGS, NEXT_LOT);
   memset(out, 0, 64);
-  put(put(put(put(out, 4, 7), 4, 40), 4, numbers[READAHEAD]), 4, flags & 0xffffffff);
+  put(put(put(put(out, 4, 7), 4, 40), 4, numbers[READAHEAD]), 4, numbers[FLAGS] & 0xffffffff);
   put(put(put(put(out + 16, 2, 12), 2, 9), 4, 131072), 4, 1);
-  put(out + 32, 4, flags >> 32);
+  put(out + 32, 4, numbers[FLAGS] >> 32);
   return 64;
 }
 
@@ -174,50 +230,50 @@ static int do_lookup(int64_t *row, const char *name, uint8_t *out) {
 }
 
 static int do_mknod(int64_t *dir, const uint8_t *header, const uint8_t *body, uint8_t *out) {
-  int64_t numbers[NUMBERS];
   const char *name = (const char *)body + 16;
   check(!select_named(dir[NODE], name), "the name is taken");
-  select_meta(numbers);
+  look_at_meta();
   int64_t row[COLUMNS] = { [NODE] = numbers[NEXT_NODE], [MODE] = get(body, 4), [UID] = get(header + 24, 4),
     [GID] = get(header + 28, 4), [ATIME] = SECOND, [MTIME] = SECOND, [CTIME] = SECOND, [UP] = dir[NODE] };
   dir[MTIME] = dir[CTIME] = SECOND;
   dir[MTIMENSEC] = dir[CTIMENSEC] = 0;
-  put_node(dir);
-  put_node(row);
+  put_node(dir, false);
+  put_node(row, true);
   sqlite3_stmt *s = with(INSERT_ENTRY, 2, (int64_t[]){ numbers[NEXT_COOKIE], dir[NODE] });
   put_bytes(s, 3, name, (int)strlen(name));
   check(sqlite3_bind_int64(s, 4, row[NODE]) == SQLITE_OK, "bind");
   run(s);
   numbers[NEXT_NODE]++, numbers[NEXT_COOKIE]++, numbers[NODES]++;
-  set_numbers(numbers, NEXT_NODE, SETTINGS);
+  counters_changed();
   return entry_body(out, row);
 }
 
 static int do_open(const int64_t *row, const uint8_t *body, uint8_t *out) {
-  int64_t numbers[NUMBERS];
-  select_meta(numbers);
+  look_at_meta();
   run_with(INSERT_HANDLE, 3, (int64_t[]){ numbers[NEXT_FH], row[NODE], get(body, 4) & 3 });
-  put(put(out, 8, numbers[NEXT_FH]), 8, 0);
+  put(put(out, 8, numbers[NEXT_FH]), 8, number_count < NUMBERS ? 0 : KEEP_CACHE);
   numbers[NEXT_FH]++, numbers[HANDLES]++;
-  set_numbers(numbers, NEXT_NODE, SETTINGS);
+  counters_changed();
   return 16;
 }
 
-/* A whole block at its place. */
+/* A whole block at its place, at or before the end of the file. The counters of an everyday store are written with it. */
 static int do_write(int64_t *row, const uint8_t *body, uint8_t *out) {
-  uint8_t old[BLOCK];
-  int64_t offset = get(body + 8, 8), size = get(body + 16, 4), place[] = { row[NODE], offset / BLOCK };
-  check(size == BLOCK && offset % BLOCK == 0, "not a block");
+  bool is_plain = number_count < NUMBERS;
+  int64_t offset = get(body + 8, 8), size = get(body + 16, 4), before = row[SIZE], again[COLUMNS];
+  check(size == BLOCK && offset % BLOCK == 0 && offset <= before, "not a block");
   select_handle(get(body, 8), row[NODE]);
-  if (row[SIZE] < offset + size) row[SIZE] = offset + size;
+  if (!is_plain) look_at_meta();
+  check(known || select_node(row[NODE], again), "no node");
+  if (before < offset + size) row[SIZE] = offset + size;
   row[MTIME] = row[CTIME] = SECOND;
   row[MTIMENSEC] = row[CTIMENSEC] = 0;
-  put_node(row);
-  select_block(place[0], place[1], old);
-  run_with(DELETE_BLOCK, 2, place);
-  sqlite3_stmt *s = with(INSERT_BLOCK, 2, place);
-  put_bytes(s, 3, body + 40, BLOCK);
-  run(s);
+  put_node(row, false);
+  put_block((int64_t[]){ row[NODE], offset / BLOCK }, body + 40);
+  if (!is_plain) {
+    numbers[USED] += (row[SIZE] + BLOCK - 1) / BLOCK - (before + BLOCK - 1) / BLOCK;
+    counters_changed();
+  }
   put(put(out, 4, size), 4, 0);
   return 8;
 }
@@ -225,27 +281,27 @@ static int do_write(int64_t *row, const uint8_t *body, uint8_t *out) {
 static int do_read(int64_t *row, const uint8_t *body, uint8_t *out) {
   int64_t offset = get(body + 8, 8), size = get(body + 16, 4);
   select_handle(get(body, 8), row[NODE]);
-  check(select_node(row[NODE], row) && size == BLOCK && offset % BLOCK == 0 && offset + size <= row[SIZE], "not a block");
-  select_block(row[NODE], offset / BLOCK, out);
+  check((known || select_node(row[NODE], row)) && size == BLOCK && offset % BLOCK == 0 && offset + size <= row[SIZE], "not a block");
+  select_block((int64_t[]){ row[NODE], offset / BLOCK }, out);
   return BLOCK;
 }
 
 static int do_release(const int64_t *row, const uint8_t *body) {
-  int64_t numbers[NUMBERS], fh = get(body, 8);
+  int64_t fh = get(body, 8);
   select_handle(fh, row[NODE]);
-  select_meta(numbers);
+  look_at_meta();
   run_with(DELETE_HANDLE, 1, &fh);
   numbers[HANDLES]--;
-  set_numbers(numbers, NEXT_NODE, SETTINGS);
+  counters_changed();
   return 0;
 }
 
 /* Executes a request, and writes its answer's body to `out`. */
 static int act(int opcode, const uint8_t *message, uint8_t *out) {
-  int64_t numbers[NUMBERS], row[COLUMNS];
+  int64_t row[COLUMNS];
   const uint8_t *body = message + HEADER;
+  look_at_meta();
   if (opcode == INIT) return do_init(body, out);
-  select_meta(numbers);
   check(numbers[SETTINGS] && select_node((int64_t)get(message + 16, 8), row), "no INIT, or no such node");
   switch (opcode) {
     case LOOKUP: return do_lookup(row, (const char *)body, out);
@@ -259,67 +315,99 @@ static int act(int opcode, const uint8_t *message, uint8_t *out) {
 }
 
 static void take(const uint8_t *message) {
-  uint8_t out[BLOCK];
+  uint8_t *answer = answers[answer_count++];
   int opcode = (int)get(message + 4, 4);
   int64_t id = get(message + 8, 8) & INT64_MAX;
   long before = made;
   sqlite3_stmt *s = with(SELECT_KEPT, 1, &id);
   check(!has_row(s), "a repeat");
   sqlite3_reset(s);
-  int len = act(opcode, message, out);
+  int len = act(opcode, message, answer + ANSWER);
+  put(put(put(answer, 4, ANSWER + len), 4, 0), 8, id);
   s = with(INSERT_KEPT, 3, (int64_t[]){ id, lot, 0 });
-  put_bytes(s, 4, out, len);
+  put_bytes(s, 4, answer + ANSWER, len);
   run(s);
   requests[opcode]++;
   made_for[opcode] += made - before;
 }
 
-static void take_lot(void) {
-  int64_t numbers[NUMBERS];
-  if (lot) return;
-  select_meta(numbers);
-  lot = numbers[NEXT_LOT]++;
-  run_with(INSERT_LOT, 1, &lot);
-  set_numbers(numbers, NEXT_LOT, NUMBERS);
+/* Deletes the records of the group before, whose answers were sent. */
+static void settle(void) {
+  if (grouped && settled_count > 1) {
+    for (int i = settled_count; i < GROUP; i++) settled[i] = settled[0];
+    run_with(DELETE_GROUP, GROUP, settled);
+  } else {
+    for (int i = 0; i < settled_count; i++) run_with(DELETE_KEPT, 1, &settled[i]);
+  }
+  settled_count = 0;
 }
 
-/* Serves the whole messages of these bytes, in groups, and returns where they end. */
-static size_t take_all(const uint8_t *bytes, size_t len) {
-  size_t at = 0;
-  while (len - at >= HEADER && len - at >= get(bytes + at, 4)) {
-    run_with(BEGIN, 0, NULL);
-    take_lot();
-    for (int i = 0; i < GROUP && len - at >= HEADER && len - at >= get(bytes + at, 4); i++) {
-      take(bytes + at);
-      at += get(bytes + at, 4);
-    }
-    run_with(COMMIT, 0, NULL);
+static void take_lot(void) {
+  if (lot) return;
+  look_at_meta();
+  lot = numbers[NEXT_LOT]++;
+  run_with(INSERT_LOT, 1, &lot);
+  write_numbers(NEXT_LOT, NEXT_LOT + 1);
+}
+
+/* Sends the answers of a group, each by a write of its own, as to a device. */
+static void send_answers(void) {
+  for (int i = 0; i < answer_count; i++) {
+    size_t len = get(answers[i], 4);
+    check(write(1, answers[i], len) == (ssize_t)len, "write");
+    settled[settled_count++] = (int64_t)get(answers[i] + 8, 8);
   }
+  answer_count = 0;
+}
+
+/* Serves a group of the whole messages of these bytes, and returns where it ends. */
+static size_t take_group(const uint8_t *bytes, size_t len) {
+  size_t at = 0;
+  run_with(BEGIN, 0, NULL);
+  settle();
+  take_lot();
+  for (int i = 0; i < GROUP && at < len; i++) {
+    check(len - at >= HEADER && len - at >= get(bytes + at, 4), "a message is cut");
+    take(bytes + at);
+    at += get(bytes + at, 4);
+  }
+  if (grouped) write_counters();
+  run_with(COMMIT, 0, NULL);
+  send_answers();
   return at;
 }
 
-int main(int argc, char **argv) {
-  static uint8_t held[2 * PIECE];
-  size_t len = 0;
-  ssize_t got;
-  check(argc == 2, "usage: tables STORE <STREAM");
-  check(sqlite3_open(argv[1], &db) == SQLITE_OK, "open");
+static void choose(const char *word) {
+  if (!strcmp(word, "changed")) changed = true;
+  else if (!strcmp(word, "held")) held = true;
+  else if (!strcmp(word, "known")) known = true;
+  else if (!strcmp(word, "grouped")) grouped = true;
+  else fail("usage: tables STORE [changed] [held] [known] [grouped]");
+}
+
+static void open_store(const char *path) {
+  check(sqlite3_open(path, &db) == SQLITE_OK, "open");
   exec("PRAGMA locking_mode = EXCLUSIVE");
   exec("PRAGMA journal_mode = WAL");
   exec("PRAGMA synchronous = FULL");
   exec("PRAGMA foreign_keys = ON");
   for (int i = 0; i < STATEMENT_COUNT; i++)
     check(sqlite3_prepare_v3(db, texts[i], -1, SQLITE_PREPARE_PERSISTENT, &statements[i], NULL) == SQLITE_OK, texts[i]);
-  while ((got = read(0, held + len, PIECE)) > 0) {
-    len += got;
-    size_t end = take_all(held, len);
-    memmove(held, held + end, len - end);
-    len -= end;
-  }
-  check(got == 0 && len == 0, "the stream");
+  select_meta();
+}
+
+int main(int argc, char **argv) {
+  static uint8_t bytes[PIECE];
+  ssize_t got;
+  for (int i = 2; i < argc; i++) choose(argv[i]);
+  check(argc >= 2 && (held || !grouped), "usage");
+  open_store(argv[1]);
+  while ((got = read(0, bytes, PIECE)) > 0)
+    for (size_t at = 0; at < (size_t)got;) at += take_group(bytes + at, got - at);
+  check(got == 0, "read");
   for (int i = 0; i < STATEMENT_COUNT; i++) sqlite3_finalize(statements[i]);
   check(sqlite3_close(db) == SQLITE_OK, "close");
   for (int i = 0; i < OPCODES; i++)
-    if (requests[i]) printf("%d %ld %.2f\n", i, requests[i], (double)made_for[i] / requests[i]);
+    if (requests[i]) fprintf(stderr, "%d %ld %.2f\n", i, requests[i], (double)made_for[i] / requests[i]);
   return 0;
 }
