@@ -2,7 +2,7 @@
 use Rattle.std.proofs.Common.{◌≡◌, inl, inr, ℕ, pos, List, [], ◌∷◌, map, filter, fold, Bool, true, false, not, cond, Some, None, Option, Less, Equal, Greater}
 use Rattle.std.proofs.Common.{refl, sym, ap, subst, arith, ◌∙◌, int_cmp}
 use Rattle.std.specs.List.{AllByRecursion, find}
-use Rattle.std.specs.Option.{option_to_list}
+use Rattle.std.specs.Option.{option_to_list, is_some}
 use Rattle.std.specs.Ordering.{is_eq, nat_cmp, match_ordering}
 use Rattle.std.specs.declared.cmp.Ordering.{Ordering}
 use Rattle.std.proofs.lemmas.Bool.{cases_Bool}
@@ -22,6 +22,14 @@ int_cmp_nat m n = grind (arith, nat_tests)
 
 pub row_cmp_nat : (m n : ℕ) → value_cmp (Int (pos m)) (Int (pos n)) ≡ nat_cmp m n
 row_cmp_nat m n = value_cmp-Int (pos m) (pos n) ∙ int_cmp_nat m n
+
+pub none_there : {X : Type 0} (o : Option X) → is_some o ≡ false → o ≡ None
+none_there None is = refl
+none_there (Some x) is = absurd cc
+
+pub one_there : {X : Type 0} (o : Option X) → is_some o ≡ true → (x : X) × (o ≡ Some x)
+one_there None is = absurd cc
+one_there (Some x) is = (x, refl)
 
 module _ {X : Type 0} (key : X → ℕ) (row : X → Row) (keyed : (x : X) → rowid (row x) ≡ Int (pos (key x))) where
   abbrev pub has : ℕ → X → Bool

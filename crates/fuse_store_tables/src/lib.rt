@@ -21,7 +21,7 @@ mod statements;
 mod used;
 mod values;
 
-pub use blocks::{delete_block, delete_blocks_from, insert_block, select_block, write_block};
+pub use blocks::{delete_blocks_from, insert_block, select_block, update_block, write_block};
 pub use columns::{bytes_at, node_at, number_at, small_at};
 pub use counters::{AGREED, HANDLES, NEXT_LOT, NEXT_NODE, USED, select_counters, update_counter};
 pub use creation::{make_store, try_store};
