@@ -153,6 +153,30 @@ module _ {X : Type 0} (key : X → ℕ) (row : X → Row) (keyed : (x : X) → r
     | inr not_here ↦ rw not_here (ap (λ rest. y ∷ rest) (set_missing k f ys (rw not_here at none)))
   ]
 
+  found_is : (k : ℕ) (y : X) → has k y ≡ true → key y ≡ k
+  found_is k y is = grind (arith, nat_tests)
+
+  -- where one has it, a change to this row is the same as putting it there
+  pub set_is_put : (f : X → X) (new : X) → ((x : X) → key x ≡ key new → f x ≡ new) → (xs : List X) (x : X) → IsTable (map row xs)
+      → at_key (key new) xs ≡ Some x → set (key new) f xs ≡ put new xs
+  set_is_put f new same [] x rise found = absurd cc
+  set_is_put f new same (y ∷ ys) x rise found = elim (cases_Bool (has (key new) y)) [
+    | inl here ↦
+        let k = found_is (key new) y here in
+        rw here (rw (set_none (key new) f y ys here rise.0, same y k) (sym (put_here (nat_cmp (key y) (key new)) here)))
+    | inr not_here ↦
+        let rest : at_key (key new) ys ≡ Some x = rw not_here at found in
+        let low : nat_cmp (key y) (key new) ≡ Less = subst (λ m. nat_cmp (key y) m ≡ Less) (found_is (key new) x (found_has (key new) ys x rest))
+        (found_above (key new) y ys x rise.0 rest) in
+        rw not_here (ap (λ more. y ∷ more) (set_is_put f new same ys x rise.1 rest)
+        ∙ sym (ap (λ o. match_ordering o (y ∷ put new ys) (new ∷ ys) (new ∷ y ∷ ys)) low))
+  ]
+    where
+      put_here : (o : Ordering) → is_eq o ≡ true → match_ordering o (y ∷ put new ys) (new ∷ ys) (new ∷ y ∷ ys) ≡ new ∷ ys
+      put_here Less is = absurd cc
+      put_here Equal is = refl
+      put_here Greater is = absurd cc
+
   -- ---- many at once
 
   pub numbered_rows : (rows : List Row) (news : List X) → ((all : List Row) (x : X) → with_rowid Chosen all (row x) ≡ row x)
