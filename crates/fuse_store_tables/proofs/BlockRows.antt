@@ -30,7 +30,7 @@ use Rattle.sqlite.specs.State.{State, HasCleanDisk, Survives, CommitsBy, Writes,
 use Rattle.sqlite.proofs.Callers.{IsPlain, command_of, statement_of}
 use Rattle.fuse_store_tables.specs.Layout.{blocks, store_schema}
 use Rattle.fuse_store_tables.specs.Blocks.{Block, block_row, is_at, is_from, block_at, new_block, shown_block}
-use Rattle.fuse_store_tables.specs.Content.{Content, Holds, stored, put_by, with_block, without_block, without_blocks_from}
+use Rattle.fuse_store_tables.specs.Content.{Content, Holds, stored, put_by, with_block, without_blocks_from}
 use Rattle.fuse_store_tables.specs.Moves.{Inside, Makes}
 use Rattle.fuse_store_tables.specs.inner.Performing.{Ran}
 use Rattle.fuse_store_tables.proofs.Writing.{makes}
@@ -138,43 +138,17 @@ removes_blocks node from = makes Holds store_schema (λ c d h. h.schema) blocks_
 
 -- ---- one block
 
-abbrev pub block_text : List ℕ
-block_text = codes "DELETE FROM blocks WHERE node = ?1 AND block = ?2"
-
 abbrev pub block_terms : List Term
 block_terms = op2 (Compare Eq Binary) (col 1 1) (col 0 0) ∷ op2 (Compare Eq Binary) (col 1 2) (col 0 1) ∷ []
 
-block_is : command_of (understood store_schema block_text) ≡ Delete 3 (picking 5 block_terms)
-unfolding understood everything
-block_is = refl
-
-block_plain : IsPlain (understood store_schema block_text)
-unfolding understood everything
-block_plain = (refl, refl)
-
-pub tests_block : (node block : ℕ) (b : Block) → list_all (holds ((Int (pos node) ∷ Int (pos block) ∷ []) ∷ block_row b ∷ [])) block_terms ≡ is_at node block b
+pub tests_block : (node block : ℕ) (more : Row) (b : Block) → list_all (holds ((Int (pos node) ∷ Int (pos block) ∷ more) ∷ block_row b ∷ [])) block_terms
+    ≡ is_at node block b
 unfolding binary
-tests_block node block b =
+tests_block node block more b =
     ap (λ o. is_true (from_truth (Some (is_eq o))) && (is_true (from_truth (Some (is_eq (value_cmp (Int (pos b.block)) (Int (pos block)))))) && true))
     (row_cmp_nat b.node node)
     ∙ ap (λ o. is_true (from_truth (Some (is_eq (nat_cmp b.node node)))) && (is_true (from_truth (Some (is_eq o))) && true)) (row_cmp_nat b.block block)
     ∙ both_true (is_eq (nat_cmp b.node node)) (is_eq (nat_cmp b.block block))
-
-block_gone : (node block : ℕ) (c : Content) (old new : State) (n : ℕ) → Holds c old.now
-    → Writes old new None (Delete 3 (picking 5 block_terms)) (statement_of block_text (understood store_schema block_text)) (Int (pos node) ∷ Int (pos block)
-    ∷ []) n → Holds (without_block node block c) new.now
-block_gone node block c old new n at w =
-    let was = at.rows.1.1.1.0 in
-    let now = picks (λ b. b.slot) block_row (λ _. refl) (is_at node block) 3 blocks refl block_terms (Int (pos node) ∷ Int (pos block)
-    ∷ []) (tests_block node block) (λ _. refl) c.blocks old new _ n at.schema was.0 was.1 w in
-    wrote store_schema (stored c) (stored (without_block node block c)) blocks old.now new.now at now.2 w.sound (only_blocks c _) now.0 now.1
-
-pub removes_block : (node block : ℕ) (old new : State) (r : Result (Unit {0}) Error) → (HasCleanDisk new → Ran block_text (Int (pos node) ∷ Int (pos block)
-    ∷ []) old new r)
-    → Survives old new (CommitsBy block_text (Int (pos node) ∷ Int (pos block) ∷ []) old) → Makes (without_block node block) old new r
-removes_block node block = makes Holds store_schema (λ c d h. h.schema) block_text (Int (pos node) ∷ Int (pos block) ∷ []) (Delete 3 (picking 5 block_terms))
-    block_is block_plain refl
-    (λ c. Holds (without_block node block c)) (block_gone node block)
 
 -- ---- a block by its place
 
@@ -194,10 +168,10 @@ select_unlisted : reads_listing store_schema select_text ≡ false
 unfolding understood everything
 select_unlisted = refl
 
-same_number : (m n : ℕ) → is_eq (nat_cmp m n) ≡ true → m ≡ n
+pub same_number : (m n : ℕ) → is_eq (nat_cmp m n) ≡ true → m ≡ n
 same_number m n is = grind (arith, nat_tests)
 
-both_are : (a b : Bool) → (a && b) ≡ true → (a ≡ true) × (b ≡ true)
+pub both_are : (a b : Bool) → (a && b) ≡ true → (a ≡ true) × (b ≡ true)
 both_are true true e = (refl, refl)
 both_are true false e = absurd cc
 both_are false b e = absurd cc
@@ -206,7 +180,7 @@ none_after : (node block : ℕ) (bs : List Block) → AllByRecursion (λ b. is_a
 none_after node block [] apart = refl
 none_after node block (b ∷ bs) apart = rw (apart.0) (none_after node block bs apart.1)
 
-found_one : (node block : ℕ) (bs : List Block) → AreApart bs → filter (is_at node block) bs ≡ option_to_list (block_at node block bs)
+pub found_one : (node block : ℕ) (bs : List Block) → AreApart bs → filter (is_at node block) bs ≡ option_to_list (block_at node block bs)
 found_one node block [] apart = refl
 found_one node block (b ∷ bs) apart = elim (cases_Bool (is_at node block b)) [
   | inl here ↦
@@ -223,7 +197,7 @@ finds : (node block : ℕ) (c : Content) (old new : State) (rows : List Row) →
 finds node block c old new rows at h =
     let params = Int (pos node) ∷ Int (pos block) ∷ [] in
     let answer = (read Holds store_schema (λ c d h. h.schema) select_text params _ select_is select_plain select_unlisted c old new rows at h).answer Null in
-    let same = answered block_row (is_at node block) Null (overlay old.now.trees []) block_terms params (tests_block node block) 5 (col 1 3 ∷ []) c.blocks rows
+    let same = answered block_row (is_at node block) Null (overlay old.now.trees []) block_terms params (tests_block node block []) 5 (col 1 3 ∷ []) c.blocks rows
     at.holds.rows.1.1.1.0.0 answer in
     only (block_at node block c.blocks) shown_block rows (subst (λ xs. IsPermutation (map shown_block xs) rows) (found_one node block c.blocks
     (blocks_apart c old.now at.holds)) same)

@@ -1,5 +1,5 @@
 -- Calls one after another.
-use Rattle.std.proofs.Common.{◌≡◌, Bool, true, false, cond, Ok, Err, Result, IfErr, IsErrAnd, sym, subst}
+use Rattle.std.proofs.Common.{◌≡◌, Bool, true, false, cond, Ok, Err, Result, IfErr, IsErrAnd, sym, subst, ◌∙◌}
 use Rattle.std.specs.Result.{IsErr}
 use Rattle.sqlite.specs.Effect.{Database}
 use Rattle.sqlite.specs.State.{State, HasCleanDisk, Survives}
@@ -114,3 +114,24 @@ makes_same f g a b x y same p = record { stays = p.stays; turns = λ clean c at.
 pub makes_known : {X Y E F : Type 0} (f g : Content → Content) (a b : State) (x : X) (y : Y) → Makes {E = E} f a b (Ok x) → ((c : Content) → HasCleanDisk b
     → InsideAs (Holds c) a → f c ≡ g c) → Makes {E = F} g a b (Ok y)
 makes_known f g a b x y p same = record { stays = p.stays; turns = λ clean c at. subst (λ k. InsideAs (Holds k) b) (same c clean at) (p.turns clean c at) }
+
+-- ---- a change that says whether there was a row, and an addition where there was none
+
+module _ (f g h : Content → Content) (found : Content → Bool) (a b : State) (any : Bool) (p : Makes {X = Bool} {E = Error} f a b (Ok any))
+    (says : HasCleanDisk b → (c : Content) → InsideAs (Holds c) a → any ≡ found c) where
+  pub put_there : {X : Type 0} (x : X) → any ≡ true → ((c : Content) → Holds c a.now → found c ≡ true → f c ≡ h c) → Makes {E = Error} h a b (Ok x)
+  put_there x is same = record {
+    stays = p.stays;
+    turns = λ clean c at. subst (λ k. InsideAs (Holds k) b) (same c at.holds (sym (says clean c at) ∙ is)) (p.turns clean c at);
+  }
+
+  pub put_anew : {X : Type 0} (d : State) (r : Result X Error) → any ≡ false → Makes g b d r → ((c : Content) → Holds c a.now → found c ≡ false
+      → g (f c) ≡ h c) → Makes h a d r
+  put_anew d (Ok x) is q same =
+      let both = makes_then f g a b d any (Ok x) p q in
+      record {
+        stays = both.stays;
+        turns = λ clean c at. subst (λ k. InsideAs (Holds k) d) (same c at.holds (sym (says (earlier b d _ q.stays.survives clean) c at) ∙ is))
+            (both.turns clean c at);
+      }
+  put_anew d (Err e) is q same = record { stays = (makes_then f g a b d any (Err e) p q).stays; turns = tt }

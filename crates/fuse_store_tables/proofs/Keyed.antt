@@ -2,7 +2,7 @@
 use Rattle.std.proofs.Common.{◌≡◌, inl, inr, ℕ, pos, List, [], ◌∷◌, map, filter, fold, Bool, true, false, not, cond, Some, None, Option, Less, Equal, Greater}
 use Rattle.std.proofs.Common.{refl, sym, ap, subst, arith, ◌∙◌, int_cmp}
 use Rattle.std.specs.List.{AllByRecursion, find}
-use Rattle.std.specs.Option.{option_to_list}
+use Rattle.std.specs.Option.{option_to_list, is_some}
 use Rattle.std.specs.Ordering.{is_eq, nat_cmp, match_ordering}
 use Rattle.std.specs.declared.cmp.Ordering.{Ordering}
 use Rattle.std.proofs.lemmas.Bool.{cases_Bool}
@@ -22,6 +22,14 @@ int_cmp_nat m n = grind (arith, nat_tests)
 
 pub row_cmp_nat : (m n : ℕ) → value_cmp (Int (pos m)) (Int (pos n)) ≡ nat_cmp m n
 row_cmp_nat m n = value_cmp-Int (pos m) (pos n) ∙ int_cmp_nat m n
+
+pub none_there : {X : Type 0} (o : Option X) → is_some o ≡ false → o ≡ None
+none_there None is = refl
+none_there (Some x) is = absurd cc
+
+pub one_there : {X : Type 0} (o : Option X) → is_some o ≡ true → (x : X) × (o ≡ Some x)
+one_there None is = absurd cc
+one_there (Some x) is = (x, refl)
 
 module _ {X : Type 0} (key : X → ℕ) (row : X → Row) (keyed : (x : X) → rowid (row x) ≡ Int (pos (key x))) where
   abbrev pub has : ℕ → X → Bool
@@ -144,6 +152,30 @@ module _ {X : Type 0} (key : X → ℕ) (row : X → Row) (keyed : (x : X) → r
     | inl here ↦ absurd (let e = rw here at none in cc)
     | inr not_here ↦ rw not_here (ap (λ rest. y ∷ rest) (set_missing k f ys (rw not_here at none)))
   ]
+
+  found_is : (k : ℕ) (y : X) → has k y ≡ true → key y ≡ k
+  found_is k y is = grind (arith, nat_tests)
+
+  -- where one has it, a change to this row is the same as putting it there
+  pub set_is_put : (f : X → X) (new : X) → ((x : X) → key x ≡ key new → f x ≡ new) → (xs : List X) (x : X) → IsTable (map row xs)
+      → at_key (key new) xs ≡ Some x → set (key new) f xs ≡ put new xs
+  set_is_put f new same [] x rise found = absurd cc
+  set_is_put f new same (y ∷ ys) x rise found = elim (cases_Bool (has (key new) y)) [
+    | inl here ↦
+        let k = found_is (key new) y here in
+        rw here (rw (set_none (key new) f y ys here rise.0, same y k) (sym (put_here (nat_cmp (key y) (key new)) here)))
+    | inr not_here ↦
+        let rest : at_key (key new) ys ≡ Some x = rw not_here at found in
+        let low : nat_cmp (key y) (key new) ≡ Less = subst (λ m. nat_cmp (key y) m ≡ Less) (found_is (key new) x (found_has (key new) ys x rest))
+        (found_above (key new) y ys x rise.0 rest) in
+        rw not_here (ap (λ more. y ∷ more) (set_is_put f new same ys x rise.1 rest)
+        ∙ sym (ap (λ o. match_ordering o (y ∷ put new ys) (new ∷ ys) (new ∷ y ∷ ys)) low))
+  ]
+    where
+      put_here : (o : Ordering) → is_eq o ≡ true → match_ordering o (y ∷ put new ys) (new ∷ ys) (new ∷ y ∷ ys) ≡ new ∷ ys
+      put_here Less is = absurd cc
+      put_here Equal is = refl
+      put_here Greater is = absurd cc
 
   -- ---- many at once
 

@@ -22,6 +22,7 @@ pub mod NodeRows
 pub mod LotRows
 pub mod CounterRows
 pub mod BlockRows
+pub mod BlockChanges
 pub mod Counting
 pub mod RecordCounts
 pub mod Emptied

@@ -1,8 +1,8 @@
 -- The statements on the table of nodes.
-use Rattle.std.proofs.Common.{◌≡◌, ℕ, pos, List, [], ◌∷◌, map, codes, true, false, ◌&&◌, Some, None, Ok, Err, Result}
+use Rattle.std.proofs.Common.{◌≡◌, ℕ, pos, List, [], ◌∷◌, map, codes, Bool, true, false, nat_lt, ◌&&◌, Some, None, Ok, Err, Result}
 use Rattle.std.proofs.Common.{IfOk, IfErr, refl, sym, ap, subst, ◌∙◌, ◌++◌}
 use Rattle.std.specs.List.{list_all}
-use Rattle.std.specs.Option.{option_to_list}
+use Rattle.std.specs.Option.{option_to_list, is_some}
 use Rattle.std.specs.Ordering.{is_eq}
 use Rattle.std.specs.List.Sorted.{IsPermutation}
 use Rattle.sqlite.specs.declared.types.Value.TheVariants.{Null, Int}
@@ -20,6 +20,7 @@ use Rattle.sqlite.specs.Command.TheVariants.{Insert, Update, Delete, Select}
 use Rattle.sqlite_rules.specs.Cast.{cast_row}
 use Rattle.sqlite_tied.specs.Compute.{everything}
 use Rattle.sqlite.specs.declared.error.Error.{Error}
+use Rattle.sqlite.specs.Effect.{Database}
 use Rattle.sqlite.specs.Listing.{understood, reads_listing}
 use Rattle.sqlite.specs.State.{State, HasCleanDisk, Survives, CommitsBy, Writes, Shown, FailsToQuery, CommitsShowing}
 use Rattle.sqlite.proofs.Callers.{IsPlain, command_of, statement_of}
@@ -28,13 +29,13 @@ use Rattle.fuse_store_tables.specs.Content.{Content, Holds, stored, put_by, has_
 use Rattle.fuse_store_tables.specs.inner.Columns.{given_node}
 use Rattle.fuse_store_tables.specs.Content.{with_node, set_node, without_node}
 use Rattle.fuse_store_tables.specs.Moves.{Inside, Makes}
-use Rattle.fuse_store_tables.specs.inner.Performing.{Ran}
-use Rattle.fuse_store_tables.proofs.Writing.{makes}
+use Rattle.fuse_store_tables.specs.inner.Performing.{Ran, RanAny}
+use Rattle.fuse_store_tables.proofs.Writing.{makes, makes_any, says_any}
 use Rattle.fuse_store_tables.proofs.Tables.{wrote, quiet, only_nodes}
-use Rattle.fuse_store_tables.proofs.Keyed.{put_rows, row_cmp_nat, found_rows}
+use Rattle.fuse_store_tables.proofs.Keyed.{put_rows, row_cmp_nat, found_rows, set_is_put, set_missing, none_there, one_there}
 use Rattle.fuse_store_tables.proofs.RowLemmas.{cast_int, cast_null, inserted}
 use Rattle.fuse_store_tables.proofs.Reading.{plain_query, answered, looks, read, only, truth_of}
-use Rattle.fuse_store_tables.proofs.Updating.{changing, changes}
+use Rattle.fuse_store_tables.proofs.Updating.{changing, changes, changes_some}
 use Rattle.fuse_store_tables.proofs.Deletes.{picking, picks}
 use Rattle.std.specs.Int.{w64, cast_signed}
 use Rattle.fuse_tree.specs.declared.rows.NodeRow.{NodeRow}
@@ -206,7 +207,38 @@ changed x c old new n at w =
     c.nodes old new _ n at.schema was.0 was.1 w in
     wrote store_schema (stored c) (stored (set_node x c)) nodes old.now new.now at now.2 w.sound (only_nodes c _) now.0 now.1
 
-pub sets : (x : NodeRow) (old new : State) (r : Result (Unit {0}) Error) → (HasCleanDisk new → Ran update_text (given x) old new r)
+changed_some : (x : NodeRow) (c : Content) (old new : State) (n : ℕ) → Holds c old.now → Writes old new None (Update 1 (changing 1 key_terms update_terms))
+    (statement_of update_text (understood store_schema update_text)) (given x) n
+    → nat_lt 0 n ≡ is_some (at_by node_key x.node c.nodes)
+changed_some x c old new n at w =
+    let was = at.rows.1.0 in
+    changes_some node_key node_row (λ _. refl) x.node (renumbered x) (λ _. refl) 1 nodes refl (λ y. node_row (renumbered x y))
+    (λ y. cast_as (renumbered x y)) key_terms update_terms (given x) (key_tests x.node (node_columns x)) (λ y. refl) (λ _. refl)
+    c.nodes old new _ n at.schema was.0 was.1 w
+
+pub sets : (x : NodeRow) (old new : State) (r : Result Bool Error) → (HasCleanDisk new → RanAny update_text (given x) old new r)
     → Survives old new (CommitsBy update_text (given x) old) → Makes (set_node x) old new r
-sets x = makes Holds store_schema (λ c d h. h.schema) update_text (given x) (Update 1 (changing 1 key_terms update_terms)) update_is update_plain refl
+sets x = makes_any Holds store_schema (λ c d h. h.schema) update_text (given x) (Update 1 (changing 1 key_terms update_terms)) update_is update_plain refl
     (λ c. Holds (set_node x c)) (changed x)
+
+pub sets_some : (x : NodeRow) (old new : State) (r : Result Bool Error) → (HasCleanDisk new → RanAny update_text (given x) old new r)
+    → HasCleanDisk new → IfOk r (λ any. (c : Content) → Inside c old → any ≡ is_some (at_by node_key x.node c.nodes))
+sets_some x = says_any Holds store_schema (λ c d h. h.schema) update_text (given x) (Update 1 (changing 1 key_terms update_terms)) update_is update_plain refl
+    (λ c. is_some (at_by node_key x.node c.nodes)) (changed_some x)
+
+-- ---- in the place of the row before, or as a new row
+
+same_node : (x y : NodeRow) → y.node ≡ x.node → renumbered x y ≡ x
+same_node x y is = ap (λ n. record x { node = n }) is
+
+pub put_over : (x : NodeRow) (c : Content) (d : Database) → Holds c d → is_some (at_by node_key x.node c.nodes) ≡ true → set_node x c ≡ with_node x c
+put_over x c d at is =
+    let was = at.rows.1.0 in
+    let there = one_there (at_by node_key x.node c.nodes) is in
+    ap (λ ns. record c { nodes = ns }) (set_is_put node_key node_row (λ _. refl) (renumbered x) x (same_node x) c.nodes there.0 (subst IsTable was.0 was.1)
+    there.1)
+
+pub put_new : (x : NodeRow) (c : Content) → is_some (at_by node_key x.node c.nodes) ≡ false → with_node x (set_node x c) ≡ with_node x c
+put_new x c is =
+    ap (λ ns. with_node x (record c { nodes = ns })) (set_missing node_key node_row (λ _. refl) x.node (renumbered x) c.nodes
+    (none_there (at_by node_key x.node c.nodes) is))

@@ -1,6 +1,6 @@
 -- What the commands on rows come to, for any schema in which no key acts.
 use Rattle.std.proofs.Common.{◌≡◌, ◌≢◌, ◌⊎◌, inl, inr, ℕ, ℤ, ◌/◌, length, List, [], ◌∷◌, map, Bool, true, false, not, ◌&&◌, cond, Some, None, Ok, Err, Result}
-use Rattle.std.proofs.Common.{slice_get, refl, sym, ap, subst, ◌∙◌}
+use Rattle.std.proofs.Common.{slice_get, refl, sym, ap, subst, ◌∙◌, suc, drop, unwrap_or}
 use Rattle.std.specs.List.{AllByRecursion}
 use Rattle.sqlite.specs.declared.types.Value.{Value}
 use Rattle.sqlite.specs.declared.types.Value.TheVariants.{Null, Int}
@@ -8,6 +8,8 @@ use Rattle.sqlite.specs.Schema.{Schema}
 use Rattle.sqlite.specs.Table.{Table}
 use Rattle.sqlite.specs.Order.{Row}
 use Rattle.sqlite.specs.Tree.{Trees}
+use Rattle.sqlite_trees.specs.Tree.{put_row}
+use Rattle.sqlite_rules.specs.declared.error.Rowids.{Rowids}
 use Rattle.sqlite.specs.Term.{Term}
 use Rattle.sqlite.specs.Ops.{unary}
 use Rattle.sqlite.specs.Kind.TheVariants.{Integer}
@@ -17,7 +19,7 @@ use Rattle.sqlite_schema.specs.declared.program.Program.{Program}
 use Rattle.sqlite_schema.specs.declared.schema.Keys.TheVariants.{Enforced}
 use Rattle.sqlite_rules.specs.Calls.{ids_of}
 use Rattle.sqlite.specs.Edit.{edit_of, edited}
-use Rattle.sqlite_rules.specs.Edit.{is_taken, numbered, with_rowid, taken_by, are_fresh, put_all}
+use Rattle.sqlite_rules.specs.Edit.{is_taken, without_all, numbered, with_rowid, taken_by, are_fresh, put_all}
 use Rattle.sqlite_rules.specs.Action.{works}
 use Rattle.sqlite.specs.Cast.{cast}
 use Rattle.sqlite_rules.specs.Cast.{cast_row}
@@ -56,6 +58,14 @@ fresh_one rows row h = taken (is_taken rows row) h
     taken : (b : Bool) → (not b && true) ≡ true → b ≡ false
     taken true e = absurd cc
     taken false e = refl
+
+numbered_length : (ids : Rowids) (rows news : List Row) → length (numbered ids rows news) ≡ length news
+numbered_length ids rows [] = refl
+numbered_length ids rows (r ∷ news) = ap suc (numbered_length ids (put_row (with_rowid ids rows r) rows) news)
+
+cast_length : (table : Table) (sources : List Row) → length (map (λ s. cast_row table (drop 1 s)) sources) ≡ length sources
+cast_length table [] = refl
+cast_length table (s ∷ sources) = ap suc (cast_length table sources)
 
 -- AUTOINCREMENT is no part of the tables here
 abbrev pub uncounted : Table → Table
@@ -168,6 +178,21 @@ module _ (schema : Schema) (at : ℕ) (table : Table) (listed : slice_get schema
               (reads from.0 from.1);
           spares = (ap (λ (d : Database). d.schema) now ∙ sym has, spared wrote.0 trees_now applied.tables);
         }
+
+    -- how many rows it says that it changed
+    pub counted : Writes old new None (Update at q) text params n → n ≡ length given
+    counted w =
+        let db = old.now.trees in
+        let ran = subst (λ s. Does old.step_limit (mode_of old) params (record old.now { schema = s }) text None (Update at q) (Ok (w.tally, new.now))) has
+        w.changed in
+        let on : OnRows task_now (mode_of old) None (Update at q) db (Ok (w.tally, new.now)) = rw listed at ran in
+        let done = went on in
+        let rows : w.tally.rows ≡ Some (length done.0.rows) = ap (λ (p : Tally × Database). p.0.rows) (same_value (went (went done.2).2).2) in
+        let from = went done.1 in
+        let wrote = went from.2 in
+        let news : done.0.rows ≡ (edit_of db (uncounted table) (ids_of from.0) Given 1 from.0).news = ap (λ (it : Written). it.rows) (same_value wrote.2) in
+        w.counted ∙ ap (λ o. unwrap_or o 0) rows ∙ ap length news
+        ∙ numbered_length Given (without_all (db table.tree) (ids_of from.0)) (map (λ s. cast_row table (drop 1 s)) from.0) ∙ cast_length table from.0 ∙ ap length (reads from.0 from.1)
 
   -- a DELETE takes out the rows that its query shows
   pub deleted : (q : Program) (old new : State) (text : List ℕ) (params : Row) (n : ℕ) → old.now.schema ≡ schema → ((olds news : List Row)

@@ -1,5 +1,5 @@
 -- Statements that write within a transaction.
-use Rattle.std.proofs.Common.{◌≡◌, inl, inr, ℕ, List, Bool, true, false, cond, None, Option, Ok, Err, Result, sym, ap, ◌∙◌}
+use Rattle.std.proofs.Common.{◌≡◌, inl, inr, ℕ, List, Bool, true, false, cond, None, Option, Ok, Err, Result, IfOk, nat_lt, sym, ap, ◌∙◌}
 use Rattle.sqlite.specs.Schema.{Schema}
 use Rattle.sqlite.specs.Order.{Row}
 use Rattle.sqlite.specs.Tree.{Trees}
@@ -13,8 +13,8 @@ use Rattle.sqlite.specs.State.{State, HasCleanDisk, Survives, KeepsCommit, Execu
 use Rattle.sqlite.specs.Clock.{timed}
 use Rattle.sqlite.proofs.StateLemmas.{survives_weaker}
 use Rattle.sqlite.proofs.Callers.{IsPlain, command_of, statement_of, runs_as}
-use Rattle.fuse_store_tables.specs.Moves.{IsReady, StaysIn, Takes}
-use Rattle.fuse_store_tables.specs.inner.Performing.{Ran}
+use Rattle.fuse_store_tables.specs.Moves.{InsideAs, IsReady, StaysIn, Takes}
+use Rattle.fuse_store_tables.specs.inner.Performing.{Ran, RanAny}
 use Rattle.fuse_store_tables.proofs.Control.{keeps_failed}
 
 abbrev pub writes : Command → Bool
@@ -90,3 +90,25 @@ module _ {C : Type 0} (P : C → Database → Type 0) (layout : Schema) (known :
         record { is_open = w.shown.is_open; in_transaction = w.shown.mode ∙ at.in_transaction; holds = does c old new n at.holds w };
   }
   makes Q does old new (Err e) runs survives = record { stays = stays old new (Err e) runs survives; turns = tt }
+
+  -- the same of a statement that says whether it changed a row
+  pub makes_any : (Q : C → Database → Type 0) → ((c : C) (old new : State) (n : ℕ) → P c old.now
+      → Writes old new None command (statement_of sql (understood layout sql)) params n → Q c new.now)
+      → (old new : State) (r : Result Bool Error) → (HasCleanDisk new → RanAny sql params old new r) → Survives old new (CommitsBy sql params old)
+      → Takes P Q old new r
+  makes_any Q does old new (Ok any) runs survives =
+      let it = makes Q does old new (Ok tt) (λ clean. ((runs clean).0, (runs clean).1)) survives in
+      record { stays = it.stays; turns = it.turns }
+  makes_any Q does old new (Err e) runs survives =
+      let it = makes Q does old new (Err e) runs survives in
+      record { stays = it.stays; turns = tt }
+
+  -- what it says
+  pub says_any : (found : C → Bool) → ((c : C) (old new : State) (n : ℕ) → P c old.now
+      → Writes old new None command (statement_of sql (understood layout sql)) params n → nat_lt 0 n ≡ found c)
+      → (old new : State) (r : Result Bool Error) → (HasCleanDisk new → RanAny sql params old new r)
+      → HasCleanDisk new → IfOk r (λ any. (c : C) → InsideAs (P c) old → any ≡ found c)
+  says_any found does old new (Ok any) runs clean = λ c at.
+      let ran = runs clean in
+      ran.2 ∙ does c old new ran.0 at.holds (written old new ran.0 (c, at) ran.1)
+  says_any found does old new (Err e) runs clean = tt

@@ -1,5 +1,6 @@
 -- The content of the tables, as lists of typed rows (own profile).
 use Rattle.std.specs.Prelude.{◌≡◌, ◌<◌, ◌^◌, ℕ, pos, Bool, not, ◌&&◌, List, [], ◌∷◌, map, filter, find, if◌then◌else◌, unwrap_or, option_map, Option}
+use Rattle.std.specs.Option.{is_some}
 use Rattle.std.specs.Ordering.{is_eq, is_gt, nat_cmp, match_ordering}
 use Rattle.std.specs.Cmp.Lexicographic.{slice_cmp}
 use Rattle.std.specs.List.{AllByRecursion}
@@ -18,7 +19,7 @@ use Rattle.fuse_tree.specs.declared.rows.NodeRow.{NodeRow}
 use Rattle.fuse_tree.specs.declared.rows.EntryRow.{EntryRow}
 use Rattle.fuse_tree.specs.declared.rows.HandleRow.{HandleRow}
 use Rattle.fuse_store_tables.specs.Layout.{store_schema}
-use Rattle.fuse_store_tables.specs.Blocks.{Block, block_row, is_from, is_at, new_block}
+use Rattle.fuse_store_tables.specs.Blocks.{Block, block_row, is_from, block_at, new_block, set_at}
 
 pub record Counter : Type 0 where
   pub key : ℕ
@@ -234,11 +235,16 @@ is_handle_of node h = is_eq (nat_cmp h.node node)
 abbrev pub with_block : ℕ → ℕ → List ℕ → Content → Content
 with_block node block bytes c = record c { blocks = put_by (λ b. b.slot) (new_block node block bytes c.blocks) c.blocks }
 
-abbrev pub without_block : ℕ → ℕ → Content → Content
-without_block node block c = record c { blocks = filter (λ b. not (is_at node block b)) c.blocks }
+abbrev pub set_block : ℕ → ℕ → List ℕ → Content → Content
+set_block node block bytes c = record c { blocks = set_at node block bytes c.blocks }
+
+-- in place of the bytes before, or as a new block
+abbrev pub put_at : ℕ → ℕ → List ℕ → List Block → List Block
+put_at node block bytes bs =
+    if is_some (block_at node block bs) then set_at node block bytes bs else put_by (λ b. b.slot) (new_block node block bytes bs) bs
 
 abbrev pub put_block : ℕ → ℕ → List ℕ → Content → Content
-put_block node block bytes c = with_block node block bytes (without_block node block c)
+put_block node block bytes c = record c { blocks = put_at node block bytes c.blocks }
 
 abbrev pub without_blocks_from : ℕ → ℕ → Content → Content
 without_blocks_from node from c = record c { blocks = filter (λ b. not (is_from node from b)) c.blocks }

@@ -1,24 +1,24 @@
 // The table of blocks.
 ghost use Rattle.std.specs.Prelude.{◌≡◌, ◌<◌, ◌^◌, [], ◌∷◌, pos, map, IfOk, OnOk, OnErr};
-ghost use Rattle.std.specs.Option.{option_to_list};
+ghost use Rattle.std.specs.Option.{is_some, option_to_list};
 ghost use Rattle.sqlite.specs.declared.types.Value.TheVariants.{Int, Blob};
 ghost use Rattle.sqlite.specs.State.{HasCleanDisk};
 ghost use Rattle.sqlite.specs.Held.{state};
 ghost use Rattle.sqlite.specs.Values.{bound};
 ghost use Rattle.fuse_store_tables.specs.Moves.{Inside, Makes, Looked, Stays};
 ghost use Rattle.fuse_store_tables.specs.Blocks.{block_at, shown_block};
-ghost use Rattle.fuse_store_tables.specs.Content.{Content, with_block, without_block, put_block};
+ghost use Rattle.fuse_store_tables.specs.Content.{Content, with_block, set_block, put_block};
 ghost use Rattle.fuse_store_tables.specs.Content.{without_blocks_from};
 ghost use Rattle.fuse_store_tables.specs.inner.Performing.{StaysWithin};
 
-use crate::statements::run;
+use crate::statements::{run, run_any};
 use crate::values::pair;
 use sqlite::types::{ToSql, ValueRef};
 use sqlite::{Alter, Connection, Error, Row};
 
 const INSERT: &str = "INSERT INTO blocks VALUES (?1, ?2, ?3)";
 
-const DELETE: &str = "DELETE FROM blocks WHERE node = ?1 AND block = ?2";
+const UPDATE: &str = "UPDATE blocks SET bytes = ?3 WHERE node = ?1 AND block = ?2";
 
 const DELETE_FROM: &str = "DELETE FROM blocks WHERE node = ?1 AND block >= ?2";
 
@@ -53,15 +53,22 @@ pub fn insert_block<S: Alter>(
     run(conn, INSERT, &values)
 }
 
-/// Deletes a block, if there is one.
-pub fn delete_block<S: Alter>(conn: &mut Connection<S>, node: u64, block: u64) -> Result<(), Error>
+/// Changes the bytes of the block at this place, and says whether there is one.
+pub fn update_block<S: Alter>(
+    conn: &mut Connection<S>,
+    node: u64,
+    block: u64,
+    bytes: &[u8],
+) -> Result<bool, Error>
     requires node { node < 2 ^ 63 }
     requires block { block < 2 ^ 63 }
-    ensures { Makes (without_block node block) (state S.Store conn.old) (state S.Store conn.new)
-        result }
+    ensures made { Makes (set_block node block bytes.now) (state S.Store conn.old)
+        (state S.Store conn.new) result }
+    ensures found { HasCleanDisk (state S.Store conn.new) → IfOk result (λ found. (c : Content)
+        → Inside c (state S.Store conn.old) → found ≡ is_some (block_at node block c.blocks)) }
 {
-    let values = pair(node, block);
-    run(conn, DELETE, &values)
+    let values = block_values(node, block, bytes);
+    run_any(conn, UPDATE, &values)
 }
 
 /// Writes the bytes of a block, in place of those before or as a new block.
@@ -76,8 +83,11 @@ pub fn write_block<S: Alter>(
     ensures { Makes (put_block node block bytes.now) (state S.Store conn.old)
         (state S.Store conn.new) result }
 {
-    delete_block(conn, node, block)?;
-    insert_block(conn, node, block, bytes)
+    match update_block(conn, node, block, bytes) {
+        Ok(true) => Ok(()),
+        Ok(false) => insert_block(conn, node, block, bytes),
+        Err(error) => Err(error),
+    }
 }
 
 /// Deletes the blocks of a node from this number on, and ends no transaction.

@@ -21,7 +21,7 @@ mod statements;
 mod used;
 mod values;
 
-pub use blocks::{delete_block, delete_blocks_from, insert_block, select_block, write_block};
+pub use blocks::{delete_blocks_from, insert_block, select_block, update_block, write_block};
 pub use columns::{bytes_at, node_at, number_at, small_at};
 pub use counters::{AGREED, HANDLES, NEXT_LOT, NEXT_NODE, USED, select_counters, update_counter};
 pub use creation::{make_store, try_store};
@@ -29,7 +29,7 @@ pub use entries::{delete_entry, insert_entry, select_after, select_named};
 pub use fresh::set_up_fresh;
 pub use handles::{delete_handle, insert_handle, select_handle, select_handles_of};
 pub use mount::begin_mount;
-pub use nodes::{delete_node, insert_node, select_node, sum_sizes, update_node};
+pub use nodes::{delete_node, insert_node, put_node, select_node, sum_sizes};
 pub use records::{count_kept, count_lots, delete_kept, insert_kept, insert_lot, select_kept};
 pub use setup::set_up;
 pub use statements::{begin, commit, undo};

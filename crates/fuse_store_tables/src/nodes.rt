@@ -1,6 +1,6 @@
 // The table of nodes.
 ghost use Rattle.std.specs.Prelude.{◌≡◌, ◌<◌, ◌^◌, [], ◌∷◌, map, IfOk, IfErr, OnOk, OnErr};
-ghost use Rattle.std.specs.Option.{option_to_list};
+ghost use Rattle.std.specs.Option.{is_some, option_to_list};
 ghost use Rattle.std.specs.List.{sum_by};
 ghost use Rattle.sqlite.specs.State.{HasCleanDisk};
 ghost use Rattle.sqlite.specs.Held.{state};
@@ -17,7 +17,7 @@ ghost use Rattle.fuse_store_tables.specs.Clearing.{counted_to, unnamed_numbers};
 ghost use Rattle.fuse_store_tables.specs.Faults.{IsPlain};
 
 use crate::columns::the_number;
-use crate::statements::run;
+use crate::statements::{run, run_any};
 use crate::values::number;
 use fuse_keeper::StoreFault;
 use fuse_tree::NodeRow;
@@ -88,13 +88,29 @@ pub fn insert_node<S: Alter>(conn: &mut Connection<S>, row: &NodeRow) -> Result<
     write_node(conn, row)
 }
 
-/// Changes the node of this number, if there is one.
-pub fn update_node<S: Alter>(conn: &mut Connection<S>, row: &NodeRow) -> Result<(), Error>
+// Changes the node of this number, and says whether there is one.
+fn update_node<S: Alter>(conn: &mut Connection<S>, row: &NodeRow) -> Result<bool, Error>
     requires { FitsNode row.now }
-    ensures { Makes (set_node row.now) (state S.Store conn.old) (state S.Store conn.new) result }
+    ensures made { Makes (set_node row.now) (state S.Store conn.old) (state S.Store conn.new)
+        result }
+    ensures found { HasCleanDisk (state S.Store conn.new) → IfOk result (λ found. (c : Content)
+        → Inside c (state S.Store conn.old)
+        → found ≡ is_some (at_by node_key row.now.node c.nodes)) }
 {
     let values = node_values(row);
-    run(conn, UPDATE, &values)
+    run_any(conn, UPDATE, &values)
+}
+
+/// Changes the node of this number, or adds it where there is none.
+pub fn put_node<S: Alter>(conn: &mut Connection<S>, row: &NodeRow) -> Result<(), Error>
+    requires { FitsNode row.now }
+    ensures { Makes (with_node row.now) (state S.Store conn.old) (state S.Store conn.new) result }
+{
+    match update_node(conn, row) {
+        Ok(true) => Ok(()),
+        Ok(false) => insert_node(conn, row),
+        Err(error) => Err(error),
+    }
 }
 
 /// Deletes the node of this number, if there is one. Its blocks, entries and handles go before it.

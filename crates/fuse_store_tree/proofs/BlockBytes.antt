@@ -1,12 +1,13 @@
 -- What a block that is written does to the bytes of a node.
-use Rattle.std.proofs.Common.{◌≡◌, ◌<◌, ◌≤◌, ◌+◌, ◌-◌, ◌*◌, ◌/◌, ◌%◌, ◌==◌, ◌&&◌, inl, inr, ℕ, zero, suc, List, [], ◌∷◌, ◌++◌, take, drop, length, filter}
+use Rattle.std.proofs.Common.{◌≡◌, ◌<◌, ◌≤◌, ◌+◌, ◌-◌, ◌*◌, ◌/◌, ◌%◌, ◌==◌, ◌&&◌, inl, inr, ℕ, zero, suc, List, [], ◌∷◌, ◌++◌, take, drop, length, filter, Option}
 use Rattle.std.proofs.Common.{find, fold, not, nat_lt, Bool, true, false, cond, Some, None, refl, sym, ap, subst, arith, ◌∙◌}
 use Rattle.std.specs.List.{AllByRecursion}
+use Rattle.std.specs.Option.{is_some}
 use Rattle.std.proofs.lemmas.Bool.{cases_Bool}
 use Rattle.std.proofs.lemmas.Bool.Decides.{nat_tests}
 use Rattle.fuse_tree.specs.Bounds.{block_bytes}
-use Rattle.fuse_store_tables.specs.Blocks.{Block, block_at, is_at, new_block, next_slot}
-use Rattle.fuse_store_tables.specs.Content.{put_by}
+use Rattle.fuse_store_tables.specs.Blocks.{Block, block_at, is_at, new_block, next_slot, rewritten, set_at}
+use Rattle.fuse_store_tables.specs.Content.{put_by, put_at}
 use Rattle.fuse_store_tree.specs.Store.{byte_at, bytes_of, byte_in}
 use Rattle.std.proofs.lemmas.List.{get_or-take, get_or-drop}
 use Rattle.std.proofs.Math.ListN.{get_or-append}
@@ -15,6 +16,7 @@ use Rattle.fuse_store_tree.specs.inner.Reading.{whole_of}
 use Rattle.fuse_store_tree.specs.inner.Writing.{overlay, spliced}
 use Rattle.fuse_store_tree.proofs.Ranges.{whole_byte}
 use Rattle.fuse_store_tree.proofs.Described.{Rises, put_last, same_test, grouped}
+use Rattle.fuse_store_tree.proofs.Orders.{all_put}
 
 abbrev slot : Block → ℕ
 slot b = b.slot
@@ -43,20 +45,6 @@ next_above (b ∷ bs) rises =
     up [] all = tt
     up (x ∷ xs) all = (omega (arith, all.0), up xs all.1)
 
-rises_without : (p : Block → Bool) (bs : List Block) → Rises slot bs → Rises slot (filter p bs)
-rises_without p [] rises = tt
-rises_without p (b ∷ bs) rises = elim (cases_Bool (p b)) [
-  | inl here ↦ rw here (all_left bs rises.0, rises_without p bs rises.1)
-  | inr not_here ↦ rw not_here (rises_without p bs rises.1)
-]
-  where
-    all_left : (xs : List Block) → AllByRecursion (λ x. b.slot < x.slot) xs → AllByRecursion (λ x. b.slot < x.slot) (filter p xs)
-    all_left [] all = tt
-    all_left (x ∷ xs) all = elim (cases_Bool (p x)) [
-      | inl here ↦ rw here (all.0, all_left xs all.1)
-      | inr not_here ↦ rw not_here (all_left xs all.1)
-    ]
-
 pub put_new : (node block : ℕ) (bytes : List ℕ) (bs : List Block) → Rises slot bs → put_by slot (new_block node block bytes bs) bs ≡ bs
     ++ new_block node block bytes bs ∷ []
 put_new node block bytes bs rises = put_last slot (new_block node block bytes bs) bs (next_above bs rises)
@@ -75,13 +63,6 @@ find_before p (x ∷ xs) y not_here = elim (cases_Bool (p x)) [
   | inr not_found ↦ rw not_found (find_before p xs y not_here)
 ]
 
-none_left : (p : Block → Bool) (xs : List Block) → find p (filter (λ x. not (p x)) xs) ≡ None
-none_left p [] = refl
-none_left p (x ∷ xs) = elim (cases_Bool (p x)) [
-  | inl here ↦ rw here (none_left p xs)
-  | inr not_here ↦ rw not_here (rw not_here (none_left p xs))
-]
-
 pub others_left : (p q : Block → Bool) → ((b : Block) → p b ≡ true → q b ≡ false) → (xs : List Block) → find p (filter (λ x. not (q x)) xs) ≡ find p xs
 others_left p q apart [] = refl
 others_left p q apart (x ∷ xs) = elim (cases_Bool (p x)) [
@@ -94,9 +75,6 @@ others_left p q apart (x ∷ xs) = elim (cases_Bool (p x)) [
     by true e miss = e
     by false e miss = rw miss e
 
-abbrev pub put_at_place : ℕ → ℕ → List ℕ → List Block → List Block
-put_at_place node block bytes bs = let rest : List Block = filter (λ b. not (is_at node block b)) bs in put_by slot (new_block node block bytes rest) rest
-
 place_test : (node block n k : ℕ) (bytes : List ℕ) (bs : List Block) → is_at n k (new_block node block bytes bs) ≡ ((node == n) && (block == k))
 place_test node block n k bytes bs = rw (same_test node n, same_test block k) refl
 
@@ -107,24 +85,74 @@ same_place node block n k b apart is =
     told : (a x e y m w : ℕ) → ((a == e) && (x == y)) ≡ false → ((m == e) && (w == y)) ≡ true → ((m == a) && (w == x)) ≡ false
     told a x e y m w apart is = grind (arith, nat_tests)
 
+-- the block at its place, once its bytes are changed
+set_here : (node block : ℕ) (bytes : List ℕ) (bs : List Block) → is_some (block_at node block bs) ≡ true
+    → bytes_of (block_at node block (set_at node block bytes bs)) ≡ bytes
+set_here node block bytes [] there = absurd cc
+set_here node block bytes (b ∷ bs) there = elim (cases_Bool (is_at node block b)) [
+  | inl here ↦ rw here (rw here refl)
+  | inr not_here ↦ rw not_here (rw not_here (set_here node block bytes bs (rw not_here at there)))
+]
+
+set_apart : (node block : ℕ) (bytes : List ℕ) (n k : ℕ) → ((node == n) && (block == k)) ≡ false → (bs : List Block)
+    → bytes_of (block_at n k (set_at node block bytes bs)) ≡ bytes_of (block_at n k bs)
+set_apart node block bytes n k apart [] = refl
+set_apart node block bytes n k apart (b ∷ bs) = elim (cases_Bool (is_at n k b)) [
+  | inl its ↦ rw (its, same_place node block n k b apart its) (rw its refl)
+  | inr other ↦ rw other (by (is_at node block b) other (set_apart node block bytes n k apart bs))
+]
+  where
+    by : (t : Bool) → is_at n k b ≡ false → bytes_of (block_at n k (set_at node block bytes bs)) ≡ bytes_of (block_at n k bs) → bytes_of (cond (is_at n k (cond t (rewritten bytes b) b)) (Some (cond t (rewritten bytes b) b)) (block_at n k
+        (set_at node block bytes bs))) ≡ bytes_of (block_at n k bs)
+    by true other more = rw other more
+    by false other more = rw other more
+
 -- the block at any place, once one is written
 pub block_put : (node block : ℕ) (bytes : List ℕ) (bs : List Block) → Rises slot bs → (n k : ℕ)
-    → bytes_of (block_at n k (put_at_place node block bytes bs)) ≡ cond ((node == n) && (block == k)) bytes (bytes_of (block_at n k bs))
-block_put node block bytes bs rises n k =
-    let rest = filter (λ b. not (is_at node block b)) bs in
-    let behind = put_new node block bytes rest (rises_without (λ b. not (is_at node block b)) bs rises) in
-    ap (λ l. bytes_of (block_at n k l)) behind ∙ elim (cases_Bool ((node == n) && (block == k))) [
-      | inl here ↦
-          let at = same_both node block n k here in
-          rw here (ap bytes_of (find_last (is_at n k) rest (new_block node block bytes rest) (subst (λ m. find (is_at m k) rest ≡ None) at.0
-          (subst (λ m. find (is_at node m) rest ≡ None) at.1 (none_left (is_at node block) bs))) (place_test node block n k bytes rest ∙ here)))
-      | inr not_here ↦
-          rw not_here (ap bytes_of (find_before (is_at n k) rest (new_block node block bytes rest) (place_test node block n k bytes rest ∙ not_here)
-          ∙ others_left (is_at n k) (is_at node block) (λ b is. same_place node block n k b not_here is) bs))
-    ]
+    → bytes_of (block_at n k (put_at node block bytes bs)) ≡ cond ((node == n) && (block == k)) bytes (bytes_of (block_at n k bs))
+block_put node block bytes bs rises n k = elim (cases_Bool (is_some (block_at node block bs))) [
+  | inl there ↦ rw there (elim (cases_Bool ((node == n) && (block == k))) [
+    | inl here ↦
+        let at = same_both node block n k here in
+        rw here (subst (λ m. bytes_of (block_at m k (set_at node block bytes bs)) ≡ bytes) at.0
+        (subst (λ m. bytes_of (block_at node m (set_at node block bytes bs)) ≡ bytes) at.1 (set_here node block bytes bs there)))
+    | inr not_here ↦ rw not_here (set_apart node block bytes n k not_here bs)
+  ])
+  | inr missing ↦ rw missing (ap (λ l. bytes_of (block_at n k l)) (put_new node block bytes bs rises)
+      ∙ elim (cases_Bool ((node == n) && (block == k))) [
+        | inl here ↦
+            let at = same_both node block n k here in
+            let none = no_block (block_at node block bs) missing in
+            rw here (ap bytes_of (find_last (is_at n k) bs (new_block node block bytes bs) (subst (λ m. block_at m k bs ≡ None) at.0
+            (subst (λ m. block_at node m bs ≡ None) at.1 none)) (place_test node block n k bytes bs ∙ here)))
+        | inr not_here ↦
+            rw not_here (ap bytes_of (find_before (is_at n k) bs (new_block node block bytes bs) (place_test node block n k bytes bs ∙ not_here)))
+      ])
+]
   where
     same_both : (a x e y : ℕ) → ((a == e) && (x == y)) ≡ true → (a ≡ e) × (x ≡ y)
     same_both a x e y h = (grind (arith, nat_tests), grind (arith, nat_tests))
+
+    no_block : (o : Option Block) → is_some o ≡ false → o ≡ None
+    no_block None is = refl
+    no_block (Some b) is = absurd cc
+
+-- what holds of every block, once one is written
+pub all_put_at : (P : Block → Type 0) (node block : ℕ) (bytes : List ℕ) (bs : List Block) → P (new_block node block bytes bs)
+    → ((b : Block) → P b → P (rewritten bytes b)) → AllByRecursion P bs → AllByRecursion P (put_at node block bytes bs)
+all_put_at P node block bytes bs new set all = by (is_some (block_at node block bs))
+  where
+    all_set : (xs : List Block) → AllByRecursion P xs → AllByRecursion P (set_at node block bytes xs)
+    all_set [] old = tt
+    all_set (x ∷ xs) old = (one (is_at node block x), all_set xs old.1)
+      where
+        one : (t : Bool) → P (cond t (rewritten bytes x) x)
+        one true = set x old.0
+        one false = old.0
+
+    by : (t : Bool) → AllByRecursion P (cond t (set_at node block bytes bs) (put_by slot (new_block node block bytes bs) bs))
+    by true = all_set bs all
+    by false = all_put slot P (new_block node block bytes bs) bs new all
 
 -- ---- bytes within a block
 
@@ -205,7 +233,7 @@ not_within here m i within apart = elim (cases_Bool (nat_lt i here)) [
 -- a part of one block written: over the bytes of the node
 pub part_put : (node here : ℕ) (part : List ℕ) (bs : List Block) (old : List ℕ) → Rises slot bs → old ≡ whole_of (block_at node (here / block_bytes) bs)
     → length old ≡ block_bytes → here % block_bytes + length part ≤ block_bytes
-    → (n i : ℕ) → byte_in (put_at_place node (here / block_bytes) (spliced old (here % block_bytes) part) bs) n i ≡ overlay node here part (byte_in bs) n i
+    → (n i : ℕ) → byte_in (put_at node (here / block_bytes) (spliced old (here % block_bytes) part) bs) n i ≡ overlay node here part (byte_in bs) n i
 part_put node here part bs old rises is whole within n i =
     ap (λ l. byte_at l (i % block_bytes)) (block_put node (here / block_bytes) (spliced old (here % block_bytes) part) bs rises n (i / block_bytes))
     ∙ elim (cases_Bool (node == n)) [

@@ -1,16 +1,16 @@
 -- Looks, whatever is looked for.
 use Rattle.std.specs.declared.cmp.Ordering.{Ordering}
 use Rattle.std.proofs.Common.{Less, Equal, Greater, ◌≡◌, ◌≤◌, ◌<◌, ◌^◌, inl, inr, ℕ, List, [], ◌∷◌, Bool, true, false, Some, None, Option, IfSome, Ok}
-use Rattle.std.proofs.Common.{Err, Result, OnOk, OnErr, IfOk, IfErr, ◌&&◌, map, filter, find, take, refl, arith}
+use Rattle.std.proofs.Common.{Err, Result, OnOk, OnErr, IfOk, IfErr, ◌&&◌, ◌==◌, length, map, not, filter, find, take, refl, arith}
 use Rattle.std.specs.List.{AllByRecursion}
 use Rattle.std.specs.Ordering.{is_eq, nat_cmp}
-use Rattle.std.specs.Option.{option_to_list}
+use Rattle.std.specs.Option.{option_to_list, is_some}
 use Rattle.std.proofs.lemmas.Map.Lookups.{exact_bytes}
 use Rattle.sqlite.specs.Order.{Row}
 use Rattle.fuse_tree.specs.declared.rows.EntryRow.{EntryRow}
 use Rattle.fuse_store_tree.specs.Fits.{IsWhole}
 use Rattle.fuse_tree.specs.Columns.{FitsEntry}
-use Rattle.fuse_store_tables.specs.Blocks.{Block, block_at, is_at}
+use Rattle.fuse_store_tables.specs.Blocks.{Block, block_at, is_at, shown_block}
 use Rattle.std.proofs.lemmas.Bool.{cases_Bool}
 use Rattle.std.proofs.lemmas.Bool.Decides.{nat_tests}
 use Rattle.fuse_store_tables.specs.Content.{has_by, at_by, has_name}
@@ -89,6 +89,11 @@ block_is node block (b ∷ bs) all = elim (cases_Bool (is_at node block b)) [
   | inl here ↦ rw here (all.0)
   | inr not_here ↦ rw not_here (block_is node block bs all.1)
 ]
+
+-- whether a look-up found a block
+pub found_at : (rows : List Row) (o : Option Block) → rows ≡ map shown_block (option_to_list o) → not (length rows == 0) ≡ is_some o
+found_at rows None is = rw is refl
+found_at rows (Some b) is = rw is refl
 
 pub always_err : {X F : Type 0} (r : Result X F) (P : Type 0) → P → OnErr r P
 always_err (Ok x) P p = tt

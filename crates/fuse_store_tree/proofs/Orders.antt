@@ -5,7 +5,7 @@ use Rattle.std.specs.List.{AllByRecursion, list_any}
 use Rattle.std.specs.Ordering.{is_eq, nat_cmp, match_ordering}
 use Rattle.std.specs.declared.cmp.Ordering.{Ordering}
 use Rattle.std.proofs.lemmas.Bool.Decides.{nat_tests}
-use Rattle.fuse_store_tables.specs.Content.{put_by, has_by, set_by, without_by}
+use Rattle.fuse_store_tables.specs.Content.{put_by, has_by, without_by}
 use Rattle.fuse_store_tree.specs.Store.{in_order}
 use Rattle.fuse_store_tree.proofs.Described.{Rises}
 
@@ -179,29 +179,6 @@ module _ {X : Type 0} (key : X → ℕ) where
 
     pub one_replaced : (ys : List X) → list_any (has_by key (key new)) ys ≡ true → put new (in_order key ys) ≡ in_order key (map repl ys)
     one_replaced ys there = replaced [] ys there
-
-    -- an UPDATE of the one that is there puts the new one in its place
-    pub set_is_put : (f : X → X) → ((y : X) → key y ≡ key new → f y ≡ new) → (xs : List X) → Rises key xs → list_any (has_by key (key new)) xs ≡ true
-        → set_by key (key new) f xs ≡ put new xs
-    set_is_put f same [] rises there = absurd cc
-    set_is_put f same (y ∷ ys) rises there = by (nat_cmp (key y) (key new)) refl there (λ e. set_is_put f same ys rises.1 e)
-      where
-        others : (zs : List X) → AllByRecursion (λ z. key new < key z) zs → set_by key (key new) f zs ≡ zs
-        others [] above = refl
-        others (z ∷ zs) above = ap (λ o. cond (is_eq o) (f z) z ∷ set_by key (key new) f zs) (above_is (key z) (key new) above.0)
-            ∙ ap (λ l. z ∷ l) (others zs above.1)
-
-        none : (zs : List X) → AllByRecursion (λ z. key new < key z) zs → list_any (has_by key (key new)) zs ≡ false
-        none [] above = refl
-        none (z ∷ zs) above = ap (λ o. is_eq o || list_any (has_by key (key new)) zs) (above_is (key z) (key new) above.0) ∙ none zs above.1
-
-        by : (o : Ordering) → nat_cmp (key y) (key new) ≡ o → (is_eq o || list_any (has_by key (key new)) ys) ≡ true
-            → (list_any (has_by key (key new)) ys ≡ true → set_by key (key new) f ys ≡ put new ys)
-            → cond (is_eq o) (f y) y ∷ set_by key (key new) f ys ≡ match_ordering o (y ∷ put new ys) (new ∷ ys) (new ∷ y ∷ ys)
-        by Less is e more = ap (λ l. y ∷ l) (more e)
-        by Equal is e more = let k = equal_is (key y) (key new) is in ap (λ x. x ∷ set_by key (key new) f ys) (same y k)
-            ∙ ap (λ l. new ∷ l) (others ys (same_above (key y) (key new) ys k rises.0))
-        by Greater is e more = let k = greater_is (key y) (key new) is in absurd (let n = none ys (higher (key new) (key y) ys k rises.0) in cc)
 
   -- ---- one gone
 

@@ -14,16 +14,16 @@ use Rattle.fuse_tree.specs.declared.rows.HandleRow.{HandleRow}
 use Rattle.fuse_tree.specs.declared.rows.Counters.{Counters as CountersRow}
 use Rattle.fuse_tree.specs.declared.rows.Room.{Room}
 use Rattle.fuse_tree.specs.declared.rows.Change.TheVariants as changes
-use Rattle.fuse_store_tables.specs.Content.{at_by, node_key, with_node, set_node, renumbered, has_by, Content, put_by}
+use Rattle.fuse_store_tables.specs.Content.{node_key, with_node, has_by, Content, put_by}
 use Rattle.fuse_store_tables.specs.Content.{without_by, cookie_of, fh_of, with_entry, with_entry_gone, with_handle, without_handle, set_counter}
 use Rattle.fuse_store_tree.specs.Fits.{KeepsNode}
 use Rattle.fuse_tree.specs.Columns.{FitsEntry, FitsHandle}
 use Rattle.fuse_store_tree.specs.Store.{Store, in_order, byte_at, counters_of, FitsSettings}
 use Rattle.fuse_store_tree.specs.inner.Reading.{Describes}
 use Rattle.fuse_store_tree.specs.inner.Writing.{room_over, with_change, with_used}
-use Rattle.fuse_store_tree.proofs.Described.{Rises, same_test, filter_same}
+use Rattle.fuse_store_tree.proofs.Described.{same_test, filter_same}
 use Rattle.fuse_store_tree.proofs.Within.{within_more}
-use Rattle.fuse_store_tree.proofs.Orders.{all_put, all_filter, one_more, one_gone, one_replaced, repl, rises_in_order, set_is_put}
+use Rattle.fuse_store_tree.proofs.Orders.{all_put, all_filter, one_more, one_gone, one_replaced, repl}
 
 -- ---- nodes
 
@@ -118,24 +118,6 @@ node_put row fits s c at = record {
     kept = at.fits.kept;
   };
 }
-
-found_any : (number : ℕ) (ns : List NodeRow) (n : NodeRow) → Some n ≡ at_by node_key number ns → list_any (has_by node_key number) ns ≡ true
-found_any number [] n is = absurd cc
-found_any number (x ∷ ns) n is = elim (cases_Bool (has_by node_key number x)) [
-  | inl here ↦ rw here refl
-  | inr not_here ↦ rw not_here (found_any number ns n (rw not_here at is))
-]
-
-same_node : (row x : NodeRow) → x.node ≡ row.node → renumbered row x ≡ row
-same_node row x is = ap (λ n. record row { node = n }) is
-
--- the row of a node that is there is changed in its place
-pub node_set : (row n : NodeRow) → KeepsNode row → (s : Store) (c : Content) → Describes s c → Some n ≡ at_by node_key row.node c.nodes
-    → Describes (with_change (changes.Node row) s) (set_node row c)
-node_set row n fits s c at found =
-    let rises = subst (Rises node_key) (sym at.nodes) (rises_in_order node_key (map (λ f. f.row) s.rows.nodes)) in
-    let same = set_is_put node_key row (renumbered row) (λ x is. same_node row x is) c.nodes rises (found_any row.node c.nodes n found) in
-    subst (λ ns. Describes (with_change (changes.Node row) s) (record c { nodes = ns })) (sym same) (node_put row fits s c at)
 
 -- ---- entries
 

@@ -1,22 +1,25 @@
 -- Bytes that are written, as the tables describe them.
-use Rattle.std.proofs.Common.{◌≡◌, ◌≤◌, inl, inr, ℕ, List, [], ◌∷◌, ◌++◌, ◌==◌, map, filter, Bool, true, false, not, cond, Some}
+use Rattle.std.proofs.Common.{◌≡◌, ◌≤◌, inl, inr, ℕ, List, [], ◌∷◌, ◌++◌, ◌==◌, map, Bool, true, false, not, cond, Some}
 use Rattle.std.proofs.Common.{None, Ok, refl, sym, ap, subst, arith, ◌∙◌, ◌+◌, ◌-◌, ◌/◌, ◌%◌, ◌&&◌, nat_lt, length, take, drop, find, ◌<◌, ◌*◌, max}
 use Rattle.std.specs.List.{AllByRecursion, list_any}
-use Rattle.std.proofs.lemmas.List.{length-take-le, length-append}
+use Rattle.std.specs.Option.{is_some}
+use Rattle.std.specs.Prelude.{IfSome, Option, Result, OnOk, OnErr, Err}
+use Rattle.fuse_keeper.specs.declared.fault.StoreFault.{StoreFault}
+use Rattle.std.proofs.lemmas.List.{length-take-le, length-append, length-replicate, drop_all, append-nil}
 use Rattle.sqlite_trees.specs.Tree.{IsTable}
 use Rattle.fuse_tree.specs.Bounds.{block_bytes}
-use Rattle.fuse_store_tables.specs.Blocks.{Block, block_at, is_at, new_block}
+use Rattle.fuse_store_tables.specs.Blocks.{Block, block_at, is_at}
 use Rattle.fuse_store_tree.specs.Fits.{IsWhole, Fits}
 use Rattle.fuse_store_tables.specs.Content.{put_block, node_key, has_by, Content, Holds}
 use Rattle.fuse_store_tree.specs.Store.{byte_in, bytes_of, rows_bytes, rows_ends, bodies_of, Bodies, AreWithin}
-use Rattle.fuse_store_tree.specs.inner.Writing.{overlay, overlay_in, grown, spliced, with_change}
+use Rattle.fuse_store_tree.specs.inner.Writing.{overlay, overlay_in, grown, spliced, put_found, with_change}
 use Rattle.fuse_store_tree.specs.inner.Reading.{whole_of, Describes}
 use Rattle.fuse_store_tree.specs.Store.{Store, DescribesAs, in_order, byte_at}
 use Rattle.fuse_store_tree.specs.inner.Changing.{Overlaid, Changed, KeepsBytes}
 use Rattle.fuse_store_tree.proofs.Keys.{slots_rise}
-use Rattle.fuse_store_tree.proofs.BlockBytes.{part_put}
+use Rattle.fuse_store_tree.proofs.BlockBytes.{part_put, all_put_at}
 use Rattle.fuse_store_tree.proofs.Overlays.{overlay_none, overlay_more, byte_written, written_length}
-use Rattle.fuse_store_tree.proofs.Looks.{key_is, both_are}
+use Rattle.fuse_store_tree.proofs.Looks.{key_is, both_are, block_is}
 use Rattle.fuse_store_tree.proofs.Parents.{blocks_owned}
 use Rattle.fuse_tree.specs.Rows.{at_node, written, content_of, full_at}
 use Rattle.fuse_store_tree.specs.inner.Laws.{looked_still}
@@ -32,7 +35,7 @@ use Rattle.fuse_tree.specs.declared.rows.Change.TheVariants as changes
 use Rattle.fuse_store_tables.specs.Moves.{Inside, Makes, Looked}
 use Rattle.fuse_store_tables.specs.inner.Following.{earlier}
 use Rattle.fuse_store_tree.proofs.Described.{Rises, same_test}
-use Rattle.fuse_store_tree.proofs.Orders.{all_put, all_in_order, all_filter}
+use Rattle.fuse_store_tree.proofs.Orders.{all_in_order}
 use Rattle.fuse_store_tree.proofs.Steps.{bytes_keep, held_of, bytes_then, looked_bytes}
 use Rattle.fuse_store_tree.proofs.RowChanges.{same_number}
 use Rattle.fuse_store_tree.proofs.Within.{within_known, within_more, grown_more, grown_here, grown_twice}
@@ -58,54 +61,102 @@ spliced_length old part start within =
       within,
     )
 
-pub piece_written : {X : Type 0} (a b d : State) (x : X) (node here : ℕ) (part old made_bytes : List ℕ) → Looked a b
-    → Makes {X = X} {E = Error} (put_block node (here / block_bytes) made_bytes) b d (Ok x)
-    → (HasCleanDisk b → (c : Content) → Inside c a → Fits c → old ≡ whole_of (block_at node (here / block_bytes) c.blocks)) → length old ≡ block_bytes
-    → made_bytes ≡ spliced old (here % block_bytes) part → here % block_bytes + length part ≤ block_bytes → 1 ≤ length part → Overlaid node here part a d
-piece_written a b d x node here part old made_bytes p q found whole is within some = record {
+-- a part of one block written over, as the tables describe it
+described_over : (node here : ℕ) (part old made_bytes : List ℕ) (x : Store) (g : Bodies) (c : Content) → Rises (λ b. b.slot) c.blocks
+    → old ≡ whole_of (block_at node (here / block_bytes) c.blocks) → length old ≡ block_bytes → made_bytes ≡ spliced old (here % block_bytes) part
+    → here % block_bytes + length part ≤ block_bytes → 1 ≤ length part → DescribesAs x g c
+    → DescribesAs x (overlay_in node here part g) (put_block node (here / block_bytes) made_bytes c)
+described_over node here part old made_bytes x g c rises found whole is within some was =
+    let full : length made_bytes ≡ block_bytes = ap length is ∙ spliced_length old part (here % block_bytes) (omega (arith, whole, within)) ∙ whole in
+    record {
+      counters = was.counters;
+      nodes = was.nodes;
+      entries = was.entries;
+      handles = was.handles;
+      answers = was.answers;
+      lots = was.lots;
+      kept = was.kept;
+      bytes = λ n i.
+          ap (λ l. byte_in (put_block node (here / block_bytes) l c).blocks n i) is ∙ part_put node here part c.blocks old rises found whole within n i
+          ∙ same_overlay node here part (byte_in c.blocks) g.byte was.bytes n i;
+      within = all_put_at (λ b. b.block * block_bytes < grown node (here + length part) g.ends b.node) node (here / block_bytes) made_bytes c.blocks
+          (grown_here node (here + length part) g.ends (here / block_bytes * block_bytes) (omega (arith, some))) (λ b low. low)
+          (within_more g.ends (grown node (here + length part) g.ends) (λ n k low. grown_more node (here + length part) g.ends n (k * block_bytes) low)
+          c.blocks was.within);
+      settings = was.settings;
+      fits = record {
+        nodes = was.fits.nodes;
+        entries = was.fits.entries;
+        handles = was.fits.handles;
+        blocks = all_put_at IsWhole node (here / block_bytes) made_bytes c.blocks full (λ b long. full) was.fits.blocks;
+        kept = was.fits.kept;
+      };
+    }
+
+put_as_found : (stored : Bool) (node block : ℕ) (bytes : List ℕ) (c : Content) → stored ≡ is_some (block_at node block c.blocks)
+    → put_found stored node block bytes c ≡ put_block node block bytes c
+put_as_found true node block bytes c is = rw (sym is) refl
+put_as_found false node block bytes c is = rw (sym is) refl
+
+-- after a read of the block: it is changed where it was there, and else added
+pub piece_written : {X : Type 0} (a b d : State) (r : Result X StoreFault) (node here : ℕ) (part old : List ℕ) (stored : Bool) → Looked a b
+    → Makes (put_found stored node (here / block_bytes) (spliced old (here % block_bytes) part)) b d r
+    → (HasCleanDisk b → (c : Content) → Inside c a → Fits c → old ≡ whole_of (block_at node (here / block_bytes) c.blocks))
+    → (HasCleanDisk b → (c : Content) → Inside c a → stored ≡ is_some (block_at node (here / block_bytes) c.blocks)) → length old ≡ block_bytes
+    → here % block_bytes + length part ≤ block_bytes → 1 ≤ length part → OnOk r (Overlaid node here part a d)
+piece_written a b d (Err e) node here part old stored p q found there whole within some = tt
+piece_written a b d (Ok x) node here part old stored p q found there whole within some = record {
   stays = looked_bytes a b d p (bytes_keep b d q.stays);
   turns = λ clean w at.
       let mid = earlier b d _ q.stays.survives clean in
       let c = at.holds.0 in
+      let made_bytes = spliced old (here % block_bytes) part in
       let inside : Inside c a = record { is_open = at.is_open; in_transaction = at.in_transaction; holds = at.holds.1 } in
-      let was = at.holds.2 in
-      let now = q.turns clean c (p.same mid c inside) in
-      let rises = blocks_rise c a.now at.holds.1 in
-      let full : length made_bytes ≡ block_bytes = ap length is ∙ spliced_length old part (here % block_bytes) (omega (arith, whole, within)) ∙ whole in
+      let now = subst (λ k. Inside k d) (put_as_found stored node (here / block_bytes) made_bytes c (there mid c inside)) (q.turns clean c (p.same mid c inside)) in
       record {
         is_open = now.is_open;
         in_transaction = now.in_transaction;
         holds = (
           put_block node (here / block_bytes) made_bytes c,
           now.holds,
-          record {
-            counters = was.counters;
-            nodes = was.nodes;
-            entries = was.entries;
-            handles = was.handles;
-            answers = was.answers;
-            lots = was.lots;
-            kept = was.kept;
-            bytes = λ n i.
-                ap (λ l. byte_in (put_block node (here / block_bytes) l c).blocks n i) is ∙ part_put node here part c.blocks old rises
-                (found mid c inside was.fits) whole within n i
-                ∙ same_overlay node here part (byte_in c.blocks) w.1.byte was.bytes n i;
-            within = all_put (λ b. b.slot) (λ b. b.block * block_bytes < grown node (here + length part) w.1.ends b.node)
-                (new_block node (here / block_bytes) made_bytes (filter (λ b. not (is_at node (here / block_bytes) b)) c.blocks)) _
-                (grown_here node (here + length part) w.1.ends (here / block_bytes * block_bytes) (omega (arith, some)))
-                (all_filter (λ b. b.slot) (λ b. b.block * block_bytes < grown node (here + length part) w.1.ends b.node) _ c.blocks
-                (within_more w.1.ends (grown node (here + length part) w.1.ends) (λ n k low.
-                grown_more node (here + length part) w.1.ends n (k * block_bytes) low) c.blocks was.within));
-            settings = was.settings;
-            fits = record {
-              nodes = was.fits.nodes;
-              entries = was.fits.entries;
-              handles = was.fits.handles;
-              blocks = all_put (λ b. b.slot) IsWhole (new_block node (here / block_bytes) made_bytes (filter (λ b. not (is_at node (here / block_bytes) b))
-                  c.blocks)) _ full (all_filter (λ b. b.slot) IsWhole _ c.blocks was.fits.blocks);
-              kept = was.fits.kept;
-            };
-          },
+          described_over node here part old made_bytes w.0 w.1 c (blocks_rise c a.now at.holds.1) (found mid c inside at.holds.2.fits) whole refl within some
+              at.holds.2,
+        );
+      };
+}
+
+pub piece_keeps : {X : Type 0} (f : Content → Content) (a b d : State) (r : Result X StoreFault) → Looked a b → Makes f b d r → OnErr r (KeepsBytes a d)
+piece_keeps f a b d (Ok x) p q = tt
+piece_keeps f a b d (Err e) p q = looked_bytes a b d p (bytes_keep b d q.stays)
+
+whole_spliced : (old part : List ℕ) → length part ≡ length old → part ≡ spliced old 0 part
+whole_spliced old part same = sym (ap (λ rest. part ++ rest) (drop_all (0 + length part) old (omega (arith, same))) ∙ append-nil part)
+
+whole_long : (o : Option Block) → IfSome o IsWhole → length (whole_of o) ≡ block_bytes
+whole_long None h = length-replicate {A = ℕ} block_bytes 0
+whole_long (Some b) h = h
+
+-- a whole block, without a read of the one before
+pub whole_written : {X : Type 0} (a d : State) (x : X) (node here : ℕ) (part : List ℕ)
+    → Makes {X = X} {E = Error} (put_block node (here / block_bytes) part) a d (Ok x) → length part ≡ block_bytes
+    → here % block_bytes + length part ≤ block_bytes → Overlaid node here part a d
+whole_written a d x node here part q full within = record {
+  stays = bytes_keep a d q.stays;
+  turns = λ clean w at.
+      let c = at.holds.0 in
+      let now = q.turns clean c (record { is_open = at.is_open; in_transaction = at.in_transaction; holds = at.holds.1 }) in
+      let old = whole_of (block_at node (here / block_bytes) c.blocks) in
+      let long : length old ≡ block_bytes = whole_long (block_at node (here / block_bytes) c.blocks)
+      (block_is node (here / block_bytes) c.blocks at.holds.2.fits.blocks) in
+      let start : 0 ≡ here % block_bytes = omega (arith, full, within) in
+      record {
+        is_open = now.is_open;
+        in_transaction = now.in_transaction;
+        holds = (
+          put_block node (here / block_bytes) part c,
+          now.holds,
+          described_over node here part old part w.0 w.1 c (blocks_rise c a.now at.holds.1) refl long
+              (subst (λ s. part ≡ spliced old s part) start (whole_spliced old part (full ∙ sym long))) within (omega (arith, full)) at.holds.2,
         );
       };
 }

@@ -1,39 +1,25 @@
 -- Zeros written within one block, and none where there is no block.
-use Rattle.std.proofs.Common.{◌≡◌, ◌≤◌, ◌<◌, ◌+◌, ◌-◌, ◌*◌, ◌/◌, ◌%◌, ◌==◌, ◌&&◌, inl, inr, ℕ, List, map, length, replicate, not, nat_lt, true, false}
-use Rattle.std.proofs.Common.{Option, Some, None, Ok, Err, Result, IfErr, OnErr, refl, sym, ap, subst, arith, ◌∙◌, Bool, cond, max}
-use Rattle.std.specs.Option.{is_some, option_to_list}
+use Rattle.std.proofs.Common.{◌≡◌, ◌≤◌, ◌<◌, ◌+◌, ◌-◌, ◌*◌, ◌/◌, ◌%◌, ◌==◌, ◌&&◌, inl, inr, ℕ, List, length, replicate, not, nat_lt, true, false}
+use Rattle.std.proofs.Common.{Option, Some, None, refl, sym, ap, subst, arith, ◌∙◌, Bool, cond, max}
+use Rattle.std.specs.Option.{is_some}
 use Rattle.std.proofs.lemmas.Bool.{cases_Bool}
-use Rattle.sqlite.specs.Order.{Row}
 use Rattle.sqlite.specs.State.{State, HasCleanDisk}
-use Rattle.fuse_keeper.specs.declared.fault.StoreFault.{StoreFault}
 use Rattle.fuse_tree.specs.Bounds.{block_bytes}
-use Rattle.fuse_store_tables.specs.Blocks.{Block, block_at, shown_block}
+use Rattle.fuse_store_tables.specs.Blocks.{Block, block_at}
 use Rattle.fuse_store_tables.specs.Content.{Content}
-use Rattle.fuse_store_tables.specs.Faults.{IsOutside}
-use Rattle.fuse_store_tables.specs.inner.Following.{earlier}
 use Rattle.fuse_store_tables.specs.Moves.{Inside, Looked}
-use Rattle.fuse_store_tree.specs.inner.Changing.{KeepsBytes, Overlaid, Zeroed}
-use Rattle.fuse_store_tree.specs.Fits.{Fits}
+use Rattle.fuse_store_tree.specs.inner.Changing.{Overlaid, Zeroed}
 use Rattle.fuse_store_tree.specs.Store.{byte_at, bytes_of, byte_in}
 use Rattle.fuse_store_tree.specs.inner.Writing.{overlay, overlay_in, zeros_in, grown}
 use Rattle.fuse_store_tree.proofs.BlockBytes.{lower, upper}
 use Rattle.fuse_store_tree.proofs.Overlays.{zero_at}
 use Rattle.fuse_store_tree.proofs.RowChanges.{same_number}
-use Rattle.fuse_store_tree.proofs.Steps.{bytes_keep, looked_bytes}
+use Rattle.fuse_store_tree.proofs.Steps.{bytes_keep}
 use Rattle.fuse_store_tree.proofs.Within.{within_found}
 use Rattle.fuse_store_tree.proofs.Writes.{same_overlay, describes_same}
 
 pub all_zero : (zeros : List ℕ) (n : ℕ) → zeros ≡ replicate n 0 → (i : ℕ) → byte_at zeros i ≡ 0
 all_zero zeros n are i = ap (λ l. byte_at l i) are ∙ zero_at n i
-
--- whether a look-up found a block
-pub found_none : (rows : List Row) (o : Option Block) → (length rows == 0) ≡ true → rows ≡ map shown_block (option_to_list o) → false ≡ is_some o
-found_none rows None empty is = refl
-found_none rows (Some b) empty is = absurd (let e = subst (λ n. (n == 0) ≡ true) (ap length is) empty in cc)
-
-pub found_some : (rows : List Row) (o : Option Block) → (length rows == 0) ≡ false → rows ≡ map shown_block (option_to_list o) → true ≡ is_some o
-found_some rows None empty is = absurd (let e = subst (λ n. (n == 0) ≡ false) (ap length is) empty in cc)
-found_some rows (Some b) empty is = refl
 
 no_block : (o : Option Block) → false ≡ is_some o → (i : ℕ) → byte_at (bytes_of o) i ≡ 0
 no_block None none i = refl
@@ -94,18 +80,16 @@ no_later : (here m y k : ℕ) → here / block_bytes * block_bytes < y → here 
 no_later here m y k there within true low = omega (arith, there, within, low)
 no_later here m y k there within false low = low
 
-pub zeros_over : (node here : ℕ) (zeros : List ℕ) (a b d : State) → Looked a b
-    → (HasCleanDisk b → (c : Content) → Inside c a → true ≡ is_some (block_at node (here / block_bytes) c.blocks))
-    → here % block_bytes + length zeros ≤ block_bytes → Overlaid node here zeros b d → Zeroed node here zeros a d
-zeros_over node here zeros a b d p found within q = record {
-  stays = looked_bytes a b d p q.stays;
+pub zeros_over : (node here : ℕ) (zeros : List ℕ) (a d : State)
+    → (HasCleanDisk d → (c : Content) → Inside c a → true ≡ is_some (block_at node (here / block_bytes) c.blocks))
+    → here % block_bytes + length zeros ≤ block_bytes → Overlaid node here zeros a d → Zeroed node here zeros a d
+zeros_over node here zeros a d found within q = record {
+  stays = q.stays;
   turns = λ clean w at.
-      let mid = earlier b d _ q.stays.survives clean in
       let c = at.holds.0 in
       let inside : Inside c a = record { is_open = at.is_open; in_transaction = at.in_transaction; holds = at.holds.1 } in
-      let now = p.same mid c inside in
-      let there = within_found w.1.ends node (here / block_bytes) c.blocks at.holds.2.within (found mid c inside) in
-      let last = q.turns clean w (record { is_open = now.is_open; in_transaction = now.in_transaction; holds = (c, now.holds, at.holds.2) }) in
+      let there = within_found w.1.ends node (here / block_bytes) c.blocks at.holds.2.within (found clean c inside) in
+      let last = q.turns clean w at in
       record {
         is_open = last.is_open;
         in_transaction = last.in_transaction;
@@ -126,9 +110,3 @@ zeros_over node here zeros a b d p found within q = record {
           no_later here (length zeros) (e n) k (subst (λ z. here / block_bytes * block_bytes < e z) (sym m) there) within (n == node) low
       | inr other ↦ rw other at low
     ]
-
-pub looked_sure : {X : Type 0} (a b d : State) (r : Result X StoreFault) → Looked a b → OnErr r (KeepsBytes b d)
-    → (HasCleanDisk d → IfErr r (λ f. (c : Content) → Inside c b → Fits c → IsOutside f)) → HasCleanDisk d
-    → IfErr r (λ f. (c : Content) → Inside c a → Fits c → IsOutside f)
-looked_sure a b d (Ok x) p keeps sure clean = tt
-looked_sure a b d (Err e) p keeps sure clean = λ c at fits. sure clean c (p.same (earlier b d _ keeps.survives clean) c at) fits

@@ -35,6 +35,13 @@ fn zeros(alloc: Global) -> Result<Vec<u8>, StoreFault>
     Ok(zeros)
 }
 
+/// The bytes of a block, zeros where none is stored.
+#[derive(Drop)]
+pub(crate) struct FoundBlock {
+    pub(crate) bytes: Vec<u8>,
+    pub(crate) stored: bool,
+}
+
 // The bytes of the block in the row that was found.
 fn read_block(alloc: Global, rows: &[Row]) -> Result<Vec<u8>, StoreFault>
     ensures value { IfOk result (λ v. (o : Option Block) → IfSome o IsWhole
@@ -56,51 +63,33 @@ fn read_block(alloc: Global, rows: &[Row]) -> Result<Vec<u8>, StoreFault>
     }
 }
 
-/// Whether there is a block.
-pub(crate) fn has_block<S: Alter>(
-    conn: &mut Connection<S>,
-    node: u64,
-    block: u64,
-) -> Result<bool, StoreFault>
-    requires node { node < 2 ^ 63 }
-    requires block { block < 2 ^ 63 }
-    ensures looks { OnOk result (Looked (state S.Store conn.old) (state S.Store conn.new)) }
-    ensures fails { OnErr result (Stays (state S.Store conn.old) (state S.Store conn.new)) }
-    ensures value { HasCleanDisk (state S.Store conn.new) → IfOk result (λ r. (c : Content)
-        → Inside c (state S.Store conn.old)
-        → r ≡ is_some (block_at node block c.blocks)) }
-    ensures fault { IfErr result IsOutside }
-    ensures plain { IfErr result IsPlain }
-{
-    let rows = select_block(conn, node, block)?;
-    if rows.as_slice().is_empty() {
-        Ok(false)
-    } else {
-        Ok(true)
-    }
-}
-
-/// The bytes of a block, zeros where there is none.
+/// A block, and whether it is stored.
 pub(crate) fn find_block<S: Alter>(
     conn: &mut Connection<S>,
     alloc: Global,
     node: u64,
     block: u64,
-) -> Result<Vec<u8>, StoreFault>
+) -> Result<FoundBlock, StoreFault>
     requires node { node < 2 ^ 63 }
     requires block { block < 2 ^ 63 }
     ensures looks { OnOk result (Looked (state S.Store conn.old) (state S.Store conn.new)) }
     ensures fails { OnErr result (Stays (state S.Store conn.old) (state S.Store conn.new)) }
-    ensures value { HasCleanDisk (state S.Store conn.new) → IfOk result (λ v. (c : Content)
+    ensures value { HasCleanDisk (state S.Store conn.new) → IfOk result (λ f. (c : Content)
         → Inside c (state S.Store conn.old) → Fits c
-        → v.items ≡ whole_of (block_at node block c.blocks)) }
-    ensures whole { IfOk result (λ v. length v.items ≡ block_bytes) }
+        → f.bytes.items ≡ whole_of (block_at node block c.blocks)) }
+    ensures stored { HasCleanDisk (state S.Store conn.new) → IfOk result (λ f. (c : Content)
+        → Inside c (state S.Store conn.old) → f.stored ≡ is_some (block_at node block c.blocks)) }
+    ensures whole { IfOk result (λ f. length f.bytes.items ≡ block_bytes) }
     ensures fault { HasCleanDisk (state S.Store conn.new) → IfErr result (λ f. (c : Content)
         → Inside c (state S.Store conn.old) → Fits c → IsOutside f) }
     ensures plain { IfErr result IsPlain }
 {
     let rows = select_block(conn, node, block)?;
-    read_block(alloc, rows.as_slice())
+    let stored = !rows.as_slice().is_empty();
+    match read_block(alloc, rows.as_slice()) {
+        Ok(bytes) => Ok(FoundBlock { bytes, stored }),
+        Err(fault) => Err(fault),
+    }
 }
 
 // Appends a part of the bytes.
@@ -144,7 +133,7 @@ fn append_piece<S: Alter>(
 {
     let block = find_block(conn, alloc, node, here / u64::from(BLOCK_SIZE))?;
     let start = (here % u64::from(BLOCK_SIZE)) as usize;
-    append_part(out, block.as_slice(), start, count as usize)
+    append_part(out, block.bytes.as_slice(), start, count as usize)
 }
 
 // The number of these bytes in the first block.

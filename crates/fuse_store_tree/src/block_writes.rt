@@ -1,5 +1,5 @@
 // Writes of the bytes of files, block by block.
-ghost use Rattle.std.specs.Prelude.{◌≡◌, ◌<◌, ◌≤◌, ◌^◌, ◌+◌, ◌%◌, ℕ, length};
+ghost use Rattle.std.specs.Prelude.{◌≡◌, ◌<◌, ◌≤◌, ◌^◌, ◌+◌, ◌/◌, ◌%◌, ℕ, length};
 ghost use Rattle.std.specs.Prelude.{IfOk, IfErr, OnOk, OnErr};
 ghost use Rattle.sqlite.specs.State.{HasCleanDisk};
 ghost use Rattle.sqlite.specs.Held.{state};
@@ -10,14 +10,14 @@ ghost use Rattle.fuse_store_tree.specs.inner.Changing.{Overlaid, Zeroed};
 ghost use Rattle.fuse_tree.specs.declared.rows.Change.TheVariants as changes;
 ghost use Rattle.fuse_store_tables.specs.Content.{Content};
 ghost use Rattle.fuse_store_tree.specs.Fits.{Fits};
-ghost use Rattle.fuse_store_tables.specs.Moves.{Inside};
+ghost use Rattle.fuse_store_tables.specs.Moves.{Inside, Makes};
 ghost use Rattle.fuse_store_tables.specs.inner.Performing.{IsSure};
 ghost use Rattle.fuse_store_tree.specs.Store.{Held, HeldAs, byte_at};
-ghost use Rattle.fuse_store_tree.specs.inner.Writing.{spliced, with_change};
+ghost use Rattle.fuse_store_tree.specs.inner.Writing.{spliced, put_found, with_change};
 
-use crate::block_reads::{find_block, first_count, has_block};
+use crate::block_reads::{FoundBlock, find_block, first_count};
 use fuse_keeper::StoreFault;
-use fuse_store_tables::write_block;
+use fuse_store_tables::{insert_block, update_block, write_block};
 use fuse_tree::BLOCK_SIZE;
 use sqlite::{Alter, Connection};
 use std::alloc::Global;
@@ -34,6 +34,116 @@ fn splice(alloc: Global, old: &[u8], start: usize, part: &[u8]) -> Result<Vec<u8
     made.extend_from_slice(part)?;
     made.extend_from_slice(&old[end..])?;
     Ok(made)
+}
+
+// Changes a block that is stored, or adds it.
+fn put_block<S: Alter>(
+    conn: &mut Connection<S>,
+    node: u64,
+    block: u64,
+    stored: bool,
+    bytes: &[u8],
+) -> Result<(), StoreFault>
+    requires node { node < 2 ^ 63 }
+    requires block { block < 2 ^ 63 }
+    ensures made { Makes (put_found stored node block bytes.now) (state S.Store conn.old)
+        (state S.Store conn.new) result }
+    ensures fault { IfErr result IsOutside }
+    ensures plain { IfErr result IsPlain }
+{
+    if stored {
+        match update_block(conn, node, block, bytes) {
+            Ok(_) => Ok(()),
+            Err(error) => Err(StoreFault::from(error)),
+        }
+    } else {
+        match insert_block(conn, node, block, bytes) {
+            Ok(()) => Ok(()),
+            Err(error) => Err(StoreFault::from(error)),
+        }
+    }
+}
+
+// Writes bytes over a part of a block that was read.
+fn write_over<S: Alter>(
+    conn: &mut Connection<S>,
+    alloc: Global,
+    node: u64,
+    here: u64,
+    part: &[u8],
+    found: &FoundBlock,
+) -> Result<(), StoreFault>
+    requires node { node < 2 ^ 63 }
+    requires here { here < 2 ^ 63 }
+    requires whole { length found.now.bytes.items ≡ block_bytes }
+    requires within { here % block_bytes + length part.now ≤ block_bytes }
+    ensures made { Makes (put_found found.now.stored node (here / block_bytes)
+        (spliced found.now.bytes.items (here % block_bytes) part.now)) (state S.Store conn.old)
+        (state S.Store conn.new) result }
+    ensures fault { IfErr result IsOutside }
+    ensures plain { IfErr result IsPlain }
+{
+    let start = (here % u64::from(BLOCK_SIZE)) as usize;
+    let made = match splice(alloc, found.bytes.as_slice(), start, part) {
+        Ok(made) => made,
+        Err(fault) => return Err(fault),
+    };
+    put_block(
+        conn,
+        node,
+        here / u64::from(BLOCK_SIZE),
+        found.stored,
+        made.as_slice(),
+    )
+}
+
+// Writes bytes within one block, over those that it has.
+fn write_part<S: Alter>(
+    conn: &mut Connection<S>,
+    alloc: Global,
+    node: u64,
+    here: u64,
+    part: &[u8],
+) -> Result<(), StoreFault>
+    requires node { node < 2 ^ 63 }
+    requires here { here < 2 ^ 63 }
+    requires some { 1 ≤ length part.now }
+    requires within { here % block_bytes + length part.now ≤ block_bytes }
+    ensures overlaid { OnOk result (Overlaid node here part.now (state S.Store conn.old)
+        (state S.Store conn.new)) }
+    ensures fails { OnErr result (KeepsBytes (state S.Store conn.old) (state S.Store conn.new)) }
+    ensures fault { HasCleanDisk (state S.Store conn.new) → IfErr result (λ f. (c : Content)
+        → Inside c (state S.Store conn.old) → Fits c → IsOutside f) }
+    ensures plain { IfErr result IsPlain }
+{
+    let found = match find_block(conn, alloc, node, here / u64::from(BLOCK_SIZE)) {
+        Ok(found) => found,
+        Err(fault) => return Err(fault),
+    };
+    write_over(conn, alloc, node, here, part, &found)
+}
+
+// Writes a whole block. The one before need not be read.
+fn write_whole<S: Alter>(
+    conn: &mut Connection<S>,
+    node: u64,
+    here: u64,
+    bytes: &[u8],
+) -> Result<(), StoreFault>
+    requires node { node < 2 ^ 63 }
+    requires here { here < 2 ^ 63 }
+    requires whole { length bytes.now ≡ block_bytes }
+    requires within { here % block_bytes + length bytes.now ≤ block_bytes }
+    ensures overlaid { OnOk result (Overlaid node here bytes.now (state S.Store conn.old)
+        (state S.Store conn.new)) }
+    ensures fails { OnErr result (KeepsBytes (state S.Store conn.old) (state S.Store conn.new)) }
+    ensures fault { IfErr result IsOutside }
+    ensures plain { IfErr result IsPlain }
+{
+    match write_block(conn, node, here / u64::from(BLOCK_SIZE), bytes) {
+        Ok(()) => Ok(()),
+        Err(error) => Err(StoreFault::from(error)),
+    }
 }
 
 /// Writes bytes within one block.
@@ -55,19 +165,10 @@ pub(crate) fn write_piece<S: Alter>(
         → Inside c (state S.Store conn.old) → Fits c → IsOutside f) }
     ensures plain { IfErr result IsPlain }
 {
-    let block = here / u64::from(BLOCK_SIZE);
-    let old = match find_block(conn, alloc, node, block) {
-        Ok(old) => old,
-        Err(fault) => return Err(fault),
-    };
-    let start = (here % u64::from(BLOCK_SIZE)) as usize;
-    let made = match splice(alloc, old.as_slice(), start, part) {
-        Ok(made) => made,
-        Err(fault) => return Err(fault),
-    };
-    match write_block(conn, node, block, made.as_slice()) {
-        Ok(()) => Ok(()),
-        Err(error) => Err(StoreFault::from(error)),
+    if part.len() == BLOCK_SIZE as usize {
+        write_whole(conn, node, here, part)
+    } else {
+        write_part(conn, alloc, node, here, part)
     }
 }
 
@@ -91,12 +192,12 @@ pub(crate) fn write_zeros<S: Alter>(
         → Inside c (state S.Store conn.old) → Fits c → IsOutside f) }
     ensures plain { IfErr result IsPlain }
 {
-    let found = match has_block(conn, node, here / u64::from(BLOCK_SIZE)) {
+    let found = match find_block(conn, alloc, node, here / u64::from(BLOCK_SIZE)) {
         Ok(found) => found,
         Err(fault) => return Err(fault),
     };
-    if found {
-        write_piece(conn, alloc, node, here, zeros)
+    if found.stored {
+        write_over(conn, alloc, node, here, zeros, &found)
     } else {
         Ok(())
     }

@@ -12,12 +12,11 @@ ghost use Rattle.fuse_tree.specs.Columns.{FitsRoom};
 ghost use Rattle.fuse_store_tables.specs.Moves.{Inside, Makes};
 ghost use Rattle.fuse_store_tree.specs.inner.Writing.{with_change, with_used};
 
-use crate::rows::find_node;
 use fuse_init::Settings;
 use fuse_keeper::StoreFault;
 use fuse_store_tables::{
     AGREED, HANDLES, NEXT_NODE, USED, delete_entry, delete_handle, insert_entry, insert_handle,
-    insert_node, update_counter, update_node,
+    update_counter,
 };
 use fuse_tree::{Counters, EntryRow, HandleRow, NodeRow, Room};
 use sqlite::{Alter, Connection, Error};
@@ -252,20 +251,12 @@ pub(crate) fn put_node<S: Alter>(conn: &mut Connection<S>, row: &NodeRow) -> Res
     ensures changed { OnOk result (Changed (with_change (changes.Node row.now))
         (state S.Store conn.old) (state S.Store conn.new)) }
     ensures fails { OnErr result (Keeps (state S.Store conn.old) (state S.Store conn.new)) }
-    ensures fault { HasCleanDisk (state S.Store conn.new) → IfErr result (λ f. (c : Content)
-        → Inside c (state S.Store conn.old) → IsOutside f) }
+    ensures fault { IfErr result (λ f. IsOutside f) }
     ensures plain { IfErr result IsPlain }
 {
     law_of_seconds(row);
-    match find_node(conn, row.node) {
-        Ok(Some(_)) => match update_node(conn, row) {
-            Ok(()) => Ok(()),
-            Err(error) => Err(StoreFault::from(error)),
-        },
-        Ok(None) => match insert_node(conn, row) {
-            Ok(()) => Ok(()),
-            Err(error) => Err(StoreFault::from(error)),
-        },
-        Err(fault) => Err(fault),
+    match fuse_store_tables::put_node(conn, row) {
+        Ok(()) => Ok(()),
+        Err(error) => Err(StoreFault::from(error)),
     }
 }

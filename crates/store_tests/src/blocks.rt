@@ -1,7 +1,7 @@
-//! Statements on a block that no request uses alone.
+//! Statements on a block of any length.
 use crate::stores::number;
 use fuse_keeper::StoreFault;
-use fuse_store_tables::{delete_block, insert_block, make_store};
+use fuse_store_tables::{insert_block, make_store, write_block};
 use fuse_wire::Moment;
 use sqlite::{Connection, MemStore};
 use std::alloc::Global;
@@ -23,12 +23,19 @@ fn insert(conn: &mut Connection<MemStore>) -> Result<(), StoreFault> {
     Ok(())
 }
 
+// In place of one that is there, and as a new one.
+fn write(conn: &mut Connection<MemStore>) -> Result<(), StoreFault> {
+    write_block(conn, 1, 2, b"two")?;
+    write_block(conn, 1, 9, b"one")?;
+    Ok(())
+}
+
 #[test]
-fn a_block_comes_and_goes(rt: HostRuntime) -> Result<(), StoreFault> {
+fn a_block_is_written_over_or_added(rt: HostRuntime) -> Result<(), StoreFault> {
     let mut conn = begun(rt.alloc())?;
     insert(&mut conn)?;
     let both = number(&mut conn, BLOCKS)?;
-    delete_block(&mut conn, 1, 2)?;
-    assert_eq!(rt; [both, number(&mut conn, BLOCKS)?], [207, 105]);
+    write(&mut conn)?;
+    assert_eq!(rt; [both, number(&mut conn, BLOCKS)?], [207, 214]);
     Ok(())
 }

@@ -1,5 +1,5 @@
 -- A statement, and a whole transaction whose rollback is the caller's (own profile).
-use Rattle.std.specs.Prelude.{◌≡◌, ◌≢◌, true, ℕ, List, Result, Ok, Err, OnOk, OnErr, IfErr}
+use Rattle.std.specs.Prelude.{◌≡◌, ◌≢◌, Bool, true, ℕ, nat_lt, List, Result, Ok, Err, OnOk, OnErr, IfErr}
 use Rattle.sqlite.specs.Order.{Row}
 use Rattle.sqlite.specs.Effect.{Database}
 use Rattle.sqlite.specs.declared.error.Error.{Error}
@@ -14,6 +14,11 @@ pub use Rattle.fuse_store_tables.specs.Moves.{CommitsNothing, OnlyReads}
 abbrev pub Ran : List ℕ → Row → State → State → Result (Unit {0}) Error → Type 0
 Ran sql values old new (Ok _) = (changed : ℕ) × Executes sql values old new (Ok changed)
 Ran sql values old new (Err e) = Executes sql values old new (Err e)
+
+-- the same, and this says whether a row was changed
+abbrev pub RanAny : List ℕ → Row → State → State → Result Bool Error → Type 0
+RanAny sql values old new (Ok any) = (changed : ℕ) × Executes sql values old new (Ok changed) × (any ≡ nat_lt 0 changed)
+RanAny sql values old new (Err e) = Executes sql values old new (Err e)
 
 -- a call that is a whole transaction
 pub record PerformsAs {C X E : Type 0} (P Q : C → Database → Type 0) (old new : State) (result : Result X E) : Type 0 where

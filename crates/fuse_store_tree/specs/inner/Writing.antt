@@ -1,15 +1,19 @@
 -- How rows are written into the tables (own profile).
-use Rattle.std.specs.Prelude.{◌==◌, if◌then◌else◌, ◌+◌, ◌++◌, ◌&&◌, take, drop, length, not, nat_lt, ◌-◌, min, max, ℕ, List, [], ◌∷◌, Option, Some, None}
+use Rattle.std.specs.Prelude.{◌==◌, if◌then◌else◌, ◌+◌, ◌++◌, ◌&&◌, take, drop, length, not, nat_lt, ◌-◌, min, max, ℕ, Bool, List, [], ◌∷◌, Option, Some, None}
 use Rattle.fuse_tree.specs.declared.rows.Room.{Room}
 use Rattle.fuse_tree.specs.declared.rows.Change.{Change}
 use Rattle.fuse_tree.specs.declared.rows.Change.TheVariants as changes
 use Rattle.fuse_tree.specs.Rows.{Rows, apply_one}
-use Rattle.fuse_store_tables.specs.Content.{Content, Counter, counter_key, set_by, valued}
+use Rattle.fuse_store_tables.specs.Content.{Content, Counter, counter_key, set_by, valued, set_block, with_block}
 use Rattle.fuse_store_tree.specs.Store.{Store, Bodies, byte_at}
 
 -- a list with a part written over it
 abbrev pub spliced : List ℕ → ℕ → List ℕ → List ℕ
 spliced old start part = take start old ++ part ++ drop (start + length part) old
+
+-- a block that was there is changed, and else it is added
+abbrev pub put_found : Bool → ℕ → ℕ → List ℕ → Content → Content
+put_found stored node block bytes c = if stored then set_block node block bytes c else with_block node block bytes c
 
 -- the bytes of nodes with some of one node's written over
 abbrev pub overlay : ℕ → ℕ → List ℕ → (ℕ → ℕ → ℕ) → ℕ → ℕ → ℕ

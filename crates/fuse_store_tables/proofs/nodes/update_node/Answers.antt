@@ -1,9 +1,14 @@
 use Rattle.sqlite.specs.Held.{state}
-use Rattle.fuse_store_tables.proofs.NodeRows.{sets}
+use Rattle.fuse_store_tables.proofs.NodeRows.{sets, sets_some}
 use Rattle.fuse_store_tables.proofs.nodes.update_node.Goals as goal
 
-pub returns : goal.returns
-returns g c =
-    sets c.args.row.now (state g.S.Store c.args.conn.now) (state g.S.Store c.run.new.conn) c.run.result (rw c.node_values-values.ensures at
-    c.run.ensures.runs)
-    (rw c.node_values-values.ensures at c.run.ensures.survives)
+pub returns-clause-made : goal.returns-clause-made
+returns-clause-made g c =
+    sets c.args.row.now (state g.S.Store c.args.conn.now) (state g.S.Store c.run_any.new.conn) c.run_any.result (rw c.node_values-values.ensures at
+    c.run_any.ensures.runs)
+    (rw c.node_values-values.ensures at c.run_any.ensures.survives)
+
+pub returns-clause-found : goal.returns-clause-found
+returns-clause-found g c =
+    sets_some c.args.row.now (state g.S.Store c.args.conn.now) (state g.S.Store c.run_any.new.conn) c.run_any.result (rw c.node_values-values.ensures at
+    c.run_any.ensures.runs)
