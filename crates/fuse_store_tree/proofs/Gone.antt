@@ -7,7 +7,6 @@ use Rattle.sqlite.specs.declared.error.Error.{Error}
 use Rattle.sqlite.specs.State.{State}
 use Rattle.fuse_tree.specs.Bounds.{block_bytes}
 use Rattle.fuse_tree.specs.declared.rows.Full.{Full}
-use Rattle.fuse_tree.specs.declared.rows.NodeRow.{NodeRow}
 use Rattle.fuse_tree.specs.declared.rows.Change.TheVariants as changes
 use Rattle.fuse_tree.specs.Rows.{content_of}
 use Rattle.fuse_store_tables.specs.Content.{Content, node_key, without_by, without_node}
