@@ -11,16 +11,14 @@ use Rattle.fuse_tree.specs.declared.rows.Change.TheVariants as changes
 use Rattle.fuse_tree.specs.State.{State as TreeState, Tree}
 use Rattle.fuse_tree.specs.Rows.{IsRowed, rowed, at_node, sized}
 use Rattle.fuse_store_tables.specs.Content.{Content, node_key, at_by}
-use Rattle.fuse_store_tables.specs.Moves.{Inside, InsideAs, IsReady, Looked}
+use Rattle.fuse_store_tables.specs.Moves.{Inside, InsideAs, Looked}
 use Rattle.fuse_store_tables.specs.inner.Following.{earlier}
 use Rattle.fuse_store_tree.specs.Fits.{Fits}
 use Rattle.fuse_store_tree.specs.Store.{Store, Held}
-use Rattle.fuse_store_tree.specs.Holding.{HeldFor, store_of}
-use Rattle.fuse_store_tree.specs.inner.Changing.{Changed, Keeps, LeavesTrees}
+use Rattle.fuse_store_tree.specs.inner.Changing.{Changed, LeavesTrees}
 use Rattle.fuse_store_tree.specs.inner.Writing.{with_change}
 use Rattle.fuse_store_tree.proofs.Described.{Rises, rows_rise, rows_full, row_told, inside_of, IsFull}
-use Rattle.fuse_store_tree.proofs.Steps.{keeps_of, keeps_then, looked_keeps}
-use Rattle.fuse_store_tree.proofs.Turning.{told_in}
+use Rattle.fuse_store_tree.proofs.Steps.{keeps_of, looked_keeps}
 
 no_more : (xs : List ℕ) → take (length xs) xs ++ [] ≡ xs
 no_more [] = refl
@@ -87,9 +85,6 @@ sized_trees a b d node row o p value is q = record {
       (q.turns clean x (looked_held a b p mid x at));
 }
 
-pub trees_keeps : (a b d : State) → LeavesTrees a b → Keeps b d → Keeps a d
-trees_keeps a b d p q = keeps_then a b d p.stays (λ clean s at. p.held clean (s, at)) q
-
 pub trees_then : (a b d : State) → Looked a b → LeavesTrees b d → LeavesTrees a d
 trees_then a b d p q = record {
   stays = looked_keeps a b d p q.stays;
@@ -102,14 +97,3 @@ trees_then a b d p q = record {
 pub tree_rowed : (s : TreeState) → Tree s → IsRowed (rowed s)
 unfolding IsRowed
 tree_rowed s tree = (s, tree, refl)
-
-pub trees_ready : (a b : State) → LeavesTrees a b → HasCleanDisk b → IsReady HeldFor a → IsReady HeldFor b
-trees_ready a b p clean (y, at) =
-    let now = p.same clean (store_of y) (tree_rowed y.tree at.holds.tree) (told_in y a at) in (
-      y,
-      record {
-        is_open = now.is_open;
-        in_transaction = now.in_transaction;
-        holds = record { tree = at.holds.tree; below = at.holds.below; next = at.holds.next; held = now.holds };
-      },
-    )

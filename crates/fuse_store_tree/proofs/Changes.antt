@@ -1,49 +1,44 @@
 -- One change after another, and a plan whose changes are made.
-use Rattle.std.proofs.Common.{◌≡◌, List, [], ◌∷◌, ◌++◌, refl, sym, ap, subst, ◌∙◌}
+use Rattle.std.proofs.Common.{◌≡◌, List, [], ◌∷◌, ◌++◌, Option, refl, sym, ap, subst, ◌∙◌}
 use Rattle.fuse_tree.specs.State.{State as TreeState, Tree}
 use Rattle.fuse_tree.specs.Rows.{rowed, apply, Rows, IsRowed}
 use Rattle.fuse_tree.specs.Done.{Done}
 use Rattle.fuse_tree.specs.Plan.{Meets}
 use Rattle.fuse_tree.specs.declared.rows.Planned.{Planned}
 use Rattle.fuse_store_tree.specs.inner.Acting.{ActsInside}
-use Rattle.fuse_store_tree.specs.Looking.{sees_in}
-use Rattle.fuse_store_tree.specs.Store.{Store, Held}
+use Rattle.fuse_keeper.specs.declared.fault.StoreFault.{StoreFault}
+use Rattle.fuse_store_tables.specs.Faults.{IsOutside}
+use Rattle.fuse_store_tree.specs.declared.meta.Meta.{Meta}
+use Rattle.fuse_store_tree.specs.Looking.{sees_in, sees_known}
+use Rattle.fuse_store_tree.specs.Store.{Held}
+use Rattle.fuse_store_tree.specs.Holding.{store_of}
+use Rattle.fuse_store_tree.specs.Knowing.{Knows, HeldForKnown}
+use Rattle.fuse_store_tree.specs.inner.Knowing.{ChangedKnown, HeldKnown, KeepsKnown}
 use Rattle.fuse_store_tree.specs.inner.Writing.{made_one, made_all, with_changes, with_change}
 use Rattle.fuse_tree.specs.declared.rows.Change.{Change}
-use Rattle.fuse_store_tree.specs.inner.Laws.{looked_still}
 use Rattle.sqlite.specs.State.{State, HasCleanDisk}
-use Rattle.fuse_store_tables.specs.Moves.{InsideAs}
-use Rattle.fuse_store_tree.specs.inner.Changing.{Changed, Keeps, LeavesTrees}
-use Rattle.fuse_store_tables.specs.inner.Following.{earlier}
+use Rattle.fuse_store_tables.specs.Moves.{InsideAs, IsReady, StaysIn}
+use Rattle.fuse_store_tree.specs.inner.Changing.{LeavesTrees}
+use Rattle.fuse_store_tables.specs.inner.Following.{earlier, stays_then}
 use Rattle.fuse_store_tree.proofs.AtSize.{tree_rowed}
+use Rattle.fuse_store_tree.proofs.KnownSteps.{held_in, known_in, held_for, keeps_for_known, known_then}
 use Rattle.fuse_store_tree.proofs.Rooms.{capacity_in, capacity_told, changes_made}
-use Rattle.fuse_store_tree.proofs.Steps.{keeps_of, keeps_then}
-
-pub changed_keeps : (f : Store → Store) (a b d : State) → Changed f a b → Keeps b d → Keeps a d
-changed_keeps f a b d p q = keeps_then a b d p.stays (λ clean s at. (f s, p.turns clean s at)) q
-
-pub changed_then : (f g : Store → Store) (a b d : State) → Changed f a b → Changed g b d → Changed (λ x. g (f x)) a d
-changed_then f g a b d p q = record {
-  stays = changed_keeps f a b d p q.stays;
-  turns = λ clean s at. q.turns clean (f s)
-      (p.turns (earlier b d _ q.stays.survives clean) s at);
-}
-
-pub nothing_changed : (a : State) → Changed (λ x. x) a a
-nothing_changed a = record { stays = keeps_of a a (looked_still a).stays; turns = λ clean s at. at }
+use Rattle.fuse_store_tree.proofs.Sure.{fault_next}
+use Rattle.fuse_store_tree.proofs.Turning.{told_in, keeps_for}
 
 made_last : (rows : Rows) (cs : List Change) (c : Change) → made_all rows (cs ++ c ∷ []) ≡ made_one (made_all rows cs) c
 made_last rows [] c = refl
 made_last rows (x ∷ cs) c = made_last (made_one rows x) cs c
 
-pub changed_more : (cs : List Change) (c : Change) (a b d : State) → Changed (with_changes cs) a b → Changed (with_change c) b d
-    → Changed (with_changes (cs ++ c ∷ [])) a d
-changed_more cs c a b d p q =
-    let both = changed_then (with_changes cs) (with_change c) a b d p q in
+-- one more change
+pub known_more : (m n o : Option Meta) (cs : List Change) (c : Change) (a b d : State) → ChangedKnown m n (with_changes cs) a b
+    → ChangedKnown n o (with_change c) b d → ChangedKnown m o (with_changes (cs ++ c ∷ [])) a d
+known_more m n o cs c a b d p q =
+    let both = known_then m n o (with_changes cs) (with_change c) a b d p q in
     record {
       stays = both.stays;
-      turns = λ clean s at. subst (λ r. InsideAs (Held (record s { rows = r })) d) (sym (made_last s.rows cs c))
-          (both.turns clean s at);
+      turns = λ clean x at. subst (λ r. InsideAs (HeldKnown o (record x { rows = r })) d) (sym (made_last x.rows cs c))
+          (both.turns clean x at);
     }
 
 -- the changes of a plan are made as they are
@@ -51,15 +46,32 @@ plan_made : (s t : TreeState) (cs : List Change) → apply (rowed s) cs ≡ rowe
 plan_made s t cs is same = changes_made (rowed s) cs (ap capacity_in is ∙ capacity_told t ∙ same ∙ sym (capacity_told s))
 
 -- a plan that was made, and its changes made
-pub acted : (a b d : State) (s : TreeState) (p : Planned) (e : Done) → Tree s → e.state.capacity ≡ s.capacity → LeavesTrees a b → Changed (with_changes p.changes) b d
-    → (HasCleanDisk b → sees_in a (rowed s) → Meets s p e) → ActsInside a d s e p.answer
-acted a b d s p e tree same leaves changed meets clean x is at =
-    let mid = earlier b d _ changed.stays.survives clean in
-    let met = meets mid (x, at, is) in
-    let after = changed.turns clean x (leaves.same mid x (subst IsRowed (sym is) (tree_rowed s tree)) at) in
-    record {
-      answer_is = met.answer;
-      tree = met.tree;
-      inside = subst (λ r. InsideAs (Held (record x { rows = r })) d) (ap (λ r. made_all r p.changes) is
-          ∙ plan_made s e.state p.changes met.rows same ∙ met.rows) after;
-    }
+module _ (m n : Option Meta) (a b : State) (leaves : LeavesTrees a b) (knows : HasCleanDisk b → (rows : Rows) → sees_in a rows → Knows m rows → Knows n rows) where
+  pub acted : (o : Option Meta) (d : State) (s : TreeState) (p : Planned) (e : Done) → Tree s → e.state.capacity ≡ s.capacity
+      → ChangedKnown n o (with_changes p.changes) b d → (HasCleanDisk b → sees_known m a (rowed s) → Meets s p e) → ActsInside m o a d s e p.answer
+  acted o d s p e tree same changed meets clean x is at right =
+      let mid = earlier b d _ changed.stays.survives clean in
+      let met = meets mid ((x, at, is), subst (Knows m) is right) in
+      let there = leaves.same mid x (subst IsRowed (sym is) (tree_rowed s tree)) at in
+      let after = changed.turns clean x (known_in n x b there (knows mid x.rows (x, at, refl) right)) in
+      let made = ap (λ r. made_all r p.changes) is ∙ plan_made s e.state p.changes met.rows same ∙ met.rows in
+      record {
+        answer_is = met.answer;
+        tree = met.tree;
+        inside = subst (λ r. InsideAs (Held (record x { rows = r })) d) made (held_in o (with_changes p.changes x) d after);
+        knows = subst (Knows o) made after.holds.1;
+      }
+
+  -- what is held is ready for the changes
+  ready_then : HasCleanDisk b → IsReady (HeldForKnown m) a → IsReady (HeldKnown n) b
+  ready_then clean (y, at) =
+      let x = store_of y in
+      let held = told_in y a (held_for m y a at) in
+      (x, known_in n x b (leaves.same clean x (tree_rowed y.tree at.holds.0.tree) held) (knows clean x.rows (x, held, refl) at.holds.1))
+
+  pub acted_keeps : (d : State) → StaysIn (HeldKnown n) b d → KeepsKnown m a d
+  acted_keeps d q = stays_then (HeldForKnown m) (HeldKnown n) a b d (keeps_for_known m a b (keeps_for a b leaves.stays)) ready_then q
+
+  pub acted_sure : (d : State) (f : StoreFault) → StaysIn (HeldKnown n) b d → (HasCleanDisk d → IsReady (HeldKnown n) b → IsOutside f)
+      → HasCleanDisk d → IsReady (HeldForKnown m) a → IsOutside f
+  acted_sure d f q sure = fault_next (HeldForKnown m) (HeldKnown n) a b d f q ready_then sure

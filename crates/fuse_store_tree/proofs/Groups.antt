@@ -9,9 +9,11 @@ use Rattle.fuse_keeper.specs.Group.{entry_of, entries_of}
 use Rattle.fuse_keeper.specs.declared.keeper.Done.{Done}
 use Rattle.fuse_store_tables.specs.inner.Following.{earlier}
 use Rattle.fuse_store_tree.specs.Holding.{Holding}
-use Rattle.fuse_store_tree.specs.inner.Changing.{InsideFor, KeepsFor, Turned}
-use Rattle.fuse_store_tree.specs.Group.{without_record, without_settled, lot_for, taken, with_group, dones_of, prepared, performed, all_dones, HasLotLeft}
-use Rattle.fuse_store_tree.proofs.Turning.{turned_then, turned_same, turned_known}
+use Rattle.fuse_store_tree.specs.declared.meta.Meta.{Meta}
+use Rattle.fuse_store_tree.specs.inner.Changing.{InsideFor, Turned}
+use Rattle.fuse_store_tree.specs.inner.Knowing.{InsideKnown, KeepsKnown, TurnedKnown}
+use Rattle.fuse_store_tree.specs.Group.{without_record, without_settled, lot_for, with_lot_for, taken, with_group, dones_of, prepared, performed, all_dones, HasLotLeft}
+use Rattle.fuse_store_tree.proofs.KnownSteps.{held_for, turned_so, turned_known_same, turned_known_then}
 
 -- ---- one more request
 
@@ -29,30 +31,31 @@ one_more : (group : List (Request × Moment)) (i : ℕ) (x : Request × Moment) 
     → entries_of (take (i + 1) group) ≡ entries_of (take i group) ++ entry_of (get_or group i x) ∷ []
 one_more group i x low = ap entries_of (take_more group i x low) ∙ map-append entry_of (take i group) (get_or group i x ∷ [])
 
-pub took_more : (lot : ℕ) (group : List (Request × Moment)) (i : ℕ) (x : Request × Moment) (a b d : State) → i < length group
-    → Turned (with_group lot (entries_of (take i group))) a b → Turned (λ y. (taken lot (entry_of (get_or group i x)) y).holding) b d
-    → Turned (with_group lot (entries_of (take (i + 1) group))) a d
-took_more lot group i x a b d low p q =
+pub took_more : (m n o : Option Meta) (lot : ℕ) (group : List (Request × Moment)) (i : ℕ) (x : Request × Moment) (a b d : State) → i < length group
+    → TurnedKnown m n (with_group lot (entries_of (take i group))) a b
+    → TurnedKnown n o (λ y. (taken lot (entry_of (get_or group i x)) y).holding) b d
+    → TurnedKnown m o (with_group lot (entries_of (take (i + 1) group))) a d
+took_more m n o lot group i x a b d low p q =
     let es = entries_of (take i group) in
     let e = entry_of (get_or group i x) in
-    subst (λ l. Turned (with_group lot l) a d) (sym (one_more group i x low))
-    (turned_same (λ y. (taken lot e (with_group lot es y)).holding) (with_group lot (es ++ e ∷ [])) a d (λ y. sym (group_last lot es e y))
-    (turned_then (with_group lot es) (λ y. (taken lot e y).holding) a b d p q))
+    subst (λ l. TurnedKnown m o (with_group lot l) a d) (sym (one_more group i x low))
+    (turned_known_same m o (λ y. (taken lot e (with_group lot es y)).holding) (with_group lot (es ++ e ∷ [])) a d (λ clean y at. sym (group_last lot es e y))
+    (turned_known_then m n o (with_group lot es) (λ y. (taken lot e y).holding) a b d p q))
 
 -- the answers so far are these
-abbrev pub AreDones : ℕ → List Entry → State → State → List Done → Type 0
-AreDones lot es a b dones = HasCleanDisk b → (y : Holding) → InsideFor y a → dones ≡ dones_of lot es y
+abbrev pub AreDones : Option Meta → ℕ → List Entry → State → State → List Done → Type 0
+AreDones m lot es a b dones = HasCleanDisk b → (y : Holding) → InsideKnown m y a → dones ≡ dones_of lot es y
 
-pub dones_more : (lot : ℕ) (group : List (Request × Moment)) (i : ℕ) (x : Request × Moment) (a b d : State) (so_far all : List Done) (done : Done)
-    → i < length group → Turned (with_group lot (entries_of (take i group))) a b → AreDones lot (entries_of (take i group)) a b so_far
-    → Turned (λ y. (taken lot (entry_of (get_or group i x)) y).holding) b d
-    → (HasCleanDisk d → (y : Holding) → InsideFor y b → done ≡ (taken lot (entry_of (get_or group i x)) y).done) → all ≡ so_far ++ done ∷ []
-    → AreDones lot (entries_of (take (i + 1) group)) a d all
-dones_more lot group i x a b d so_far all done low p are q told is clean y at =
+pub dones_more : (m n o : Option Meta) (lot : ℕ) (group : List (Request × Moment)) (i : ℕ) (x : Request × Moment) (a b d : State) (so_far all : List Done)
+    (done : Done) → i < length group → TurnedKnown m n (with_group lot (entries_of (take i group))) a b
+    → AreDones m lot (entries_of (take i group)) a b so_far → TurnedKnown n o (λ y. (taken lot (entry_of (get_or group i x)) y).holding) b d
+    → (HasCleanDisk d → (y : Holding) → InsideKnown n y b → done ≡ (taken lot (entry_of (get_or group i x)) y).done) → all ≡ so_far ++ done ∷ []
+    → AreDones m lot (entries_of (take (i + 1) group)) a d all
+dones_more m n o lot group i x a b d so_far all done low p are q told is clean y at =
     let es = entries_of (take i group) in
     let e = entry_of (get_or group i x) in
     let mid = earlier b d _ q.stays.survives clean in
-    is ∙ ap (λ l. l ++ done ∷ []) (are mid y at) ∙ ap (λ n. dones_of lot es y ++ n ∷ []) (told clean (with_group lot es y) (p.turns mid y at))
+    is ∙ ap (λ l. l ++ done ∷ []) (are mid y at) ∙ ap (λ k. dones_of lot es y ++ k ∷ []) (told clean (with_group lot es y) (p.turns mid y at))
     ∙ sym (dones_last lot es e y) ∙ ap (λ l. dones_of lot l y) (sym (one_more group i x low))
 
 -- ---- before the group
@@ -68,17 +71,31 @@ lot_settled (Some n) ids y = refl
 pub left_settled : (lot : Option ℕ) (ids : List ℕ) (y : Holding) → HasLotLeft lot y → HasLotLeft lot (without_settled ids y)
 left_settled lot ids y left none = subst (λ n. n < 2 ^ 62) (sym (same_next ids y)) (left none)
 
--- a group after it, under the lot that was allocated
-pub grouped : (lot : Option ℕ) (n : ℕ) (ids : List ℕ) (es : List Entry) (a b d : State) → Turned (prepared lot ids) a b
-    → (HasCleanDisk b → (y : Holding) → InsideFor y a → n ≡ lot_for lot y) → Turned (with_group n es) b d → Turned (performed lot ids es) a d
-grouped lot n ids es a b d p value q =
-    turned_known (λ y. with_group n es (prepared lot ids y)) (performed lot ids es) a d
-    (λ clean y at. ap (λ m. with_group m es (prepared lot ids y)) (value (earlier b d _ q.stays.survives clean) y at))
-    (turned_then (prepared lot ids) (with_group n es) a b d p q)
+tree_settled : (ids : List ℕ) (y : Holding) → (without_settled ids y).tree ≡ y.tree
+tree_settled [] y = refl
+tree_settled (id ∷ ids) y = tree_settled ids (without_record id y)
 
-pub dones_are : (lot : Option ℕ) (n : ℕ) (ids : List ℕ) (es : List Entry) (a b d : State) (dones : List Done) → Turned (prepared lot ids) a b
-    → (HasCleanDisk b → (y : Holding) → InsideFor y a → n ≡ lot_for lot y) → KeepsFor b d → AreDones n es b d dones
-    → HasCleanDisk d → (y : Holding) → InsideFor y a → dones ≡ all_dones lot ids es y
-dones_are lot n ids es a b d dones p value keeps are clean y at =
+tree_with_lot : (lot : Option ℕ) (y : Holding) → (with_lot_for lot y).tree ≡ y.tree
+tree_with_lot None y = refl
+tree_with_lot (Some n) y = refl
+
+-- the tree stays
+pub prepared_known : (m : Option Meta) (lot : Option ℕ) (ids : List ℕ) (a b : State) → Turned (prepared lot ids) a b → TurnedKnown m m (prepared lot ids) a b
+prepared_known m lot ids a b p = turned_so m (prepared lot ids) a b (λ y. tree_with_lot lot (without_settled ids y) ∙ tree_settled ids y) p
+
+-- a group after it, under the lot that was allocated
+pub grouped : (m o : Option Meta) (lot : Option ℕ) (n : ℕ) (ids : List ℕ) (es : List Entry) (a b d : State) → Turned (prepared lot ids) a b
+    → (HasCleanDisk b → (y : Holding) → InsideFor y a → n ≡ lot_for lot y) → TurnedKnown m o (with_group n es) b d
+    → TurnedKnown m o (performed lot ids es) a d
+grouped m o lot n ids es a b d p value q =
+    turned_known_same m o (λ y. with_group n es (prepared lot ids y)) (performed lot ids es) a d
+    (λ clean y at. ap (λ k. with_group k es (prepared lot ids y)) (value (earlier b d _ q.stays.survives clean) y (held_for m y a at)))
+    (turned_known_then m m o (prepared lot ids) (with_group n es) a b d (prepared_known m lot ids a b p) q)
+
+pub dones_are : (m : Option Meta) (lot : Option ℕ) (n : ℕ) (ids : List ℕ) (es : List Entry) (a b d : State) (dones : List Done) → Turned (prepared lot ids) a b
+    → (HasCleanDisk b → (y : Holding) → InsideFor y a → n ≡ lot_for lot y) → KeepsKnown m b d → AreDones m n es b d dones
+    → HasCleanDisk d → (y : Holding) → InsideKnown m y a → dones ≡ all_dones lot ids es y
+dones_are m lot n ids es a b d dones p value keeps are clean y at =
     let mid = earlier b d _ keeps.survives clean in
-    are clean (prepared lot ids y) (p.turns mid y at) ∙ ap (λ m. dones_of m es (prepared lot ids y)) (value mid y at)
+    are clean (prepared lot ids y) ((prepared_known m lot ids a b p).turns mid y at)
+    ∙ ap (λ k. dones_of k es (prepared lot ids y)) (value mid y (held_for m y a at))

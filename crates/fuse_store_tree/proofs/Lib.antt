@@ -18,6 +18,8 @@ pub mod Gone
 pub mod AtSize
 pub mod Zeros
 pub mod Turning
+pub mod KnownSteps
+pub mod MovedCounters
 pub mod Records
 pub mod Groups
 pub mod Whole

@@ -9,14 +9,16 @@ use Rattle.fuse_init.specs.declared.settings.Settings.{Settings}
 use Rattle.fuse_tree.specs.declared.rows.Full.{Full}
 use Rattle.fuse_tree.specs.declared.rows.Counters.{Counters as CountersRow}
 use Rattle.fuse_tree.specs.declared.rows.Room.{Room}
-use Rattle.fuse_tree.specs.State.{State, Tree, profile_for}
+use Rattle.fuse_tree.specs.State.{State, Tree}
 use Rattle.fuse_tree.specs.Bounds.{file_limit}
 use Rattle.fuse_tree.specs.Space.{room_of}
-use Rattle.fuse_tree.specs.Rows.{Rows, IsRowed, rowed, content_of, agreement_at}
+use Rattle.fuse_tree.specs.Rows.{Rows, IsRowed, rowed, content_of}
 use Rattle.fuse_tree.specs.Plan.{RowsTellState}
 use Rattle.fuse_store_tables.specs.Content.{Content, node_key, cookie_of, fh_of}
 use Rattle.fuse_store_tree.specs.Store.{counters_of, byte_at, byte_in}
-use Rattle.fuse_store_tree.specs.inner.Reading.{counted_in, room_in, agreed_in, agreement_in, value_of}
+use Rattle.fuse_store_tree.specs.inner.Knowing.{meta_in}
+use Rattle.fuse_store_tree.specs.inner.Reading.{counted_in, room_in, agreed_in, value_of}
+use Rattle.fuse_store_tree.specs.Knowing.{meta_of}
 use Rattle.fuse_store_tree.proofs.Described.{Rises, order_kept, rows_rise, rows_full}
 use Rattle.fuse_store_tree.specs.Holding.{Holding, HeldFor, TreesAreInOrder}
 use Rattle.fuse_store_tree.proofs.Decoding.{same_counters, same_nodes, same_entries, same_handles, same_blocks, same_lots, same_kept}
@@ -92,10 +94,10 @@ pub room_told : (s : State) (lot : ℕ) → room_in (counters_of (rowed s).count
 unfolding rowed
 room_told s lot = room_back (rowed s).counters (rowed s).settings lot
 
-pub agreement_back : (rows : Rows) (lot : ℕ) → agreement_in (counters_of rows.counters rows.settings lot) ≡ agreement_at rows
-agreement_back rows lot =
-    ap (λ o. record { profile = profile_for o; settings = agreed_in (counters_of rows.counters rows.settings lot) }) (room_back rows.counters rows.settings lot)
-    ∙ ap (λ o. record { profile = profile_for rows.counters.room; settings = o }) (agreed_back rows.counters rows.settings lot)
+pub meta_back : (rows : Rows) (lot : ℕ) → meta_in (counters_of rows.counters rows.settings lot) ≡ meta_of rows
+meta_back rows lot =
+    ap (λ n. record { counters = n; settings = agreed_in (counters_of rows.counters rows.settings lot) }) (counted_back rows.counters rows.settings lot)
+    ∙ ap (λ o. record { counters = rows.counters; settings = o }) (agreed_back rows.counters rows.settings lot)
 
 -- ---- rows
 

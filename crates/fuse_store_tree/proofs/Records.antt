@@ -21,7 +21,9 @@ use Rattle.fuse_store_tree.specs.Fits.{Fits, KeepsRecord}
 use Rattle.fuse_store_tree.specs.Store.{Store, records_of, counters_of}
 use Rattle.fuse_store_tree.specs.inner.Reading.{Describes, value_of}
 use Rattle.fuse_store_tree.specs.inner.Acting.{ActsInside}
-use Rattle.fuse_store_tree.specs.inner.Changing.{Keeps, InsideFor, Turned}
+use Rattle.fuse_store_tree.specs.declared.meta.Meta.{Meta}
+use Rattle.fuse_store_tree.specs.inner.Changing.{InsideFor, Turned}
+use Rattle.fuse_store_tree.specs.inner.Knowing.{InsideKnown, KeepsKnown, TurnedKnown}
 use Rattle.fuse_store_tree.specs.inner.Laws.{looked_still}
 use Rattle.fuse_store_tree.proofs.Steps.{made, made_known}
 use Rattle.fuse_store_tree.proofs.Looks.{key_differs, all_map}
@@ -29,7 +31,8 @@ use Rattle.fuse_store_tree.proofs.Orders.{all_put, all_filter}
 use Rattle.fuse_store_tree.specs.Holding.{Holding, AreBelow, store_of}
 use Rattle.fuse_store_tree.specs.Group.{without_record, without_settled, with_record, with_new_lot, with_act, said_of, acted_on, taken, taken_by, answered}
 use Rattle.fuse_store_tree.specs.Group.{repeats}
-use Rattle.fuse_store_tree.proofs.Turning.{lifted, looked_for, turned_known, turned_then, turned_same, keeps_for, told_in, content_in}
+use Rattle.fuse_store_tree.proofs.Turning.{lifted, looked_for, turned_known, turned_then, turned_same, told_in, content_in}
+use Rattle.fuse_store_tree.proofs.KnownSteps.{held_for, looked_known, turned_so, turned_known_same, turned_known_then}
 
 -- ---- a record goes
 
@@ -103,16 +106,17 @@ recorded id lot said a b x low fits small p =
 
 -- ---- a request acts
 
-pub acts : (e : Entry) (a b : State) (answer : Said) → Keeps a b → ((s : TreeState) → Tree s → ActsInside a b s (done s e.asked e.moment) answer)
-    → Turned (with_act e) a b
-acts e a b answer keeps acted = record {
-  stays = keeps_for a b keeps;
+pub acts : (m n : Option Meta) (e : Entry) (a b : State) (answer : Said) → KeepsKnown m a b
+    → ((s : TreeState) → Tree s → ActsInside m n a b s (done s e.asked e.moment) answer) → TurnedKnown m n (with_act e) a b
+acts m n e a b answer keeps acted = record {
+  stays = keeps;
   turns = λ clean y at.
-      let did = acted y.tree at.holds.tree clean (store_of y) refl (told_in y a at) in
+      let held = held_for m y a at in
+      let did = acted y.tree held.holds.tree clean (store_of y) refl (told_in y a held) at.holds.1 in
       record {
         is_open = did.inside.is_open;
         in_transaction = did.inside.in_transaction;
-        holds = record { tree = did.tree; below = at.holds.below; next = at.holds.next; held = did.inside.holds };
+        holds = (record { tree = did.tree; below = held.holds.below; next = held.holds.next; held = did.inside.holds }, did.knows);
       };
 }
 
@@ -201,43 +205,49 @@ IsFound id e a r o = IsKnown id a r × (id ≡ entry_id e) × (r ≡ o)
 found_is : (id : ℕ) (e : Entry) (a : State) (r o : Option Said) → IsFound id e a r o → (y : Holding) → InsideFor y a → o ≡ records_of y.kept (entry_id e)
 found_is id e a r o f y at = sym f.2 ∙ known_is id a r f.0 y at ∙ ap (records_of y.kept) f.1
 
-pub took_known : (id lot : ℕ) (e : Entry) (a b : State) (r : Option Said) (known : Said) → Looked a b → (HasCleanDisk b → IsFound id e a r (Some known))
-    → Turned (λ y. (taken lot e y).holding) a b
-took_known id lot e a b r known looks found = turned_known (λ y. y) (λ y. (taken lot e y).holding) a b
-    (λ clean y at. ap (λ o. (taken_by o lot e y).holding) (found_is id e a r (Some known) (found clean) y at)) (looked_for a b looks)
+pub took_known : (m : Option Meta) (id lot : ℕ) (e : Entry) (a b : State) (r : Option Said) (known : Said) → Looked a b
+    → (HasCleanDisk b → IsFound id e a r (Some known)) → TurnedKnown m m (λ y. (taken lot e y).holding) a b
+took_known m id lot e a b r known looks found = turned_known_same m m (λ y. y) (λ y. (taken lot e y).holding) a b
+    (λ clean y at. ap (λ o. (taken_by o lot e y).holding) (found_is id e a r (Some known) (found clean) y (held_for m y a at))) (looked_known m a b looks)
 
 pub done_known : (id lot : ℕ) (e : Entry) (a : State) (r : Option Said) (known : Said) → IsFound id e a r (Some known) → (y : Holding) → InsideFor y a
     → repeats known ≡ (taken lot e y).done
 done_known id lot e a r known found y at = ap (λ o. (taken_by o lot e y).done) (found_is id e a r (Some known) found y at)
 
-pub took_new : (id lot : ℕ) (e : Entry) (a b d : State) (r : Option Said) → Looked a b → (HasCleanDisk b → IsFound id e a r None) → Turned (acted_on lot e) b d
-    → Turned (λ y. (taken lot e y).holding) a d
-took_new id lot e a b d r looks found p = turned_known (acted_on lot e) (λ y. (taken lot e y).holding) a d
-    (λ clean y at. ap (λ o. (taken_by o lot e y).holding) (found_is id e a r None (found (earlier b d _ p.stays.survives clean)) y at))
-    (turned_then (λ y. y) (acted_on lot e) a b d (looked_for a b looks) p)
+pub took_new : (m n : Option Meta) (id lot : ℕ) (e : Entry) (a b d : State) (r : Option Said) → Looked a b → (HasCleanDisk b → IsFound id e a r None)
+    → TurnedKnown m n (acted_on lot e) b d → TurnedKnown m n (λ y. (taken lot e y).holding) a d
+took_new m n id lot e a b d r looks found p = turned_known_same m n (acted_on lot e) (λ y. (taken lot e y).holding) a d
+    (λ clean y at. ap (λ o. (taken_by o lot e y).holding) (found_is id e a r None (found (earlier b d _ p.stays.survives clean)) y (held_for m y a at)))
+    (turned_known_then m m n (λ y. y) (acted_on lot e) a b d (looked_known m a b looks) p)
 
 -- the request that is executed comes after a read, whether it succeeds or not
-pub done_new : (id lot : ℕ) (e : Entry) (a b d : State) (r : Option Said) (done : Done) → Looked a b → (HasCleanDisk b → IsFound id e a r None)
-    → Turned (acted_on lot e) b d → HasCleanDisk d → ((y : Holding) → InsideFor y b → done ≡ answered (said_of e y)) → (y : Holding) → InsideFor y a
-    → done ≡ (taken lot e y).done
-done_new id lot e a b d r done looks found p clean told y at =
+pub done_new : (m n : Option Meta) (id lot : ℕ) (e : Entry) (a b d : State) (r : Option Said) (done : Done) → Looked a b
+    → (HasCleanDisk b → IsFound id e a r None) → TurnedKnown m n (acted_on lot e) b d → HasCleanDisk d
+    → ((y : Holding) → InsideKnown m y b → done ≡ answered (said_of e y)) → (y : Holding) → InsideKnown m y a → done ≡ (taken lot e y).done
+done_new m n id lot e a b d r done looks found p clean told y at =
     let mid = earlier b d _ p.stays.survives clean in
-    told y ((looked_for a b looks).turns mid y at) ∙ ap (λ o. (taken_by o lot e y).done) (found_is id e a r None (found mid) y at)
+    told y ((looked_known m a b looks).turns mid y at)
+    ∙ ap (λ o. (taken_by o lot e y).done) (found_is id e a r None (found mid) y (held_for m y a at))
 
 -- ---- a request that acted, and its record
 
-said_is : (e : Entry) (a b : State) (answer : Said) → ((s : TreeState) → Tree s → ActsInside a b s (done s e.asked e.moment) answer)
-    → HasCleanDisk b → (y : Holding) → InsideFor y a → answer ≡ said_of e y
-said_is e a b answer acted clean y at = (acted y.tree at.holds.tree clean (store_of y) refl (told_in y a at)).answer_is
+said_is : (m n : Option Meta) (e : Entry) (a b : State) (answer : Said) → ((s : TreeState) → Tree s → ActsInside m n a b s (done s e.asked e.moment) answer)
+    → HasCleanDisk b → (y : Holding) → InsideKnown m y a → answer ≡ said_of e y
+said_is m n e a b answer acted clean y at =
+    let held = held_for m y a at in
+    (acted y.tree held.holds.tree clean (store_of y) refl (told_in y a held) at.holds.1).answer_is
 
-pub acted_recorded : (id lot : ℕ) (e : Entry) (a b d : State) (answer : Said) → id ≡ entry_id e → Keeps a b
-    → ((s : TreeState) → Tree s → ActsInside a b s (done s e.asked e.moment) answer) → Turned (with_record id lot answer) b d → Turned (acted_on lot e) a d
-acted_recorded id lot e a b d answer same keeps acted p =
-    turned_known (λ y. with_record id lot answer (with_act e y)) (acted_on lot e) a d
+pub acted_recorded : (m n : Option Meta) (id lot : ℕ) (e : Entry) (a b d : State) (answer : Said) → id ≡ entry_id e → KeepsKnown m a b
+    → ((s : TreeState) → Tree s → ActsInside m n a b s (done s e.asked e.moment) answer) → Turned (with_record id lot answer) b d
+    → TurnedKnown m n (acted_on lot e) a d
+acted_recorded m n id lot e a b d answer same keeps acted p =
+    turned_known_same m n (λ y. with_record id lot answer (with_act e y)) (acted_on lot e) a d
     (λ clean y at. ap (λ i. with_record i lot answer (with_act e y)) same
-    ∙ ap (λ said. with_record (entry_id e) lot said (with_act e y)) (said_is e a b answer acted (earlier b d _ p.stays.survives clean) y at))
-    (turned_then (with_act e) (with_record id lot answer) a b d (acts e a b answer keeps acted) p)
+    ∙ ap (λ said. with_record (entry_id e) lot said (with_act e y)) (said_is m n e a b answer acted (earlier b d _ p.stays.survives clean) y at))
+    (turned_known_then m n n (with_act e) (with_record id lot answer) a b d (acts m n e a b answer keeps acted)
+    (turned_so n (with_record id lot answer) b d (λ y. refl) p))
 
-pub answer_told : (id lot : ℕ) (e : Entry) (a b d : State) (answer : Said) → ((s : TreeState) → Tree s → ActsInside a b s (done s e.asked e.moment) answer)
-    → Turned (with_record id lot answer) b d → HasCleanDisk d → (y : Holding) → InsideFor y a → answered answer ≡ answered (said_of e y)
-answer_told id lot e a b d answer acted p clean y at = ap answered (said_is e a b answer acted (earlier b d _ p.stays.survives clean) y at)
+pub answer_told : (m n : Option Meta) (id lot : ℕ) (e : Entry) (a b d : State) (answer : Said)
+    → ((s : TreeState) → Tree s → ActsInside m n a b s (done s e.asked e.moment) answer) → Turned (with_record id lot answer) b d → HasCleanDisk d
+    → (y : Holding) → InsideKnown m y a → answered answer ≡ answered (said_of e y)
+answer_told m n id lot e a b d answer acted p clean y at = ap answered (said_is m n e a b answer acted (earlier b d _ p.stays.survives clean) y at)

@@ -20,7 +20,8 @@ use Rattle.fuse_store_tree.specs.Fits.{KeepsNode}
 use Rattle.fuse_tree.specs.Columns.{FitsEntry, FitsHandle}
 use Rattle.fuse_store_tree.specs.Store.{Store, in_order, byte_at, counters_of, FitsSettings}
 use Rattle.fuse_store_tree.specs.inner.Reading.{Describes}
-use Rattle.fuse_store_tree.specs.inner.Writing.{room_over, with_change, with_used}
+use Rattle.fuse_store_tree.specs.inner.Knowing.{counters_set}
+use Rattle.fuse_store_tree.specs.inner.Writing.{room_over, with_change}
 use Rattle.fuse_store_tree.proofs.Described.{same_test, filter_same}
 use Rattle.fuse_store_tree.proofs.Within.{within_more}
 use Rattle.fuse_store_tree.proofs.Orders.{all_put, all_filter, one_more, one_gone, one_replaced, repl}
@@ -214,24 +215,20 @@ handle_goes fh s c at = record {
 
 -- ---- counters and settings
 
-abbrev set_numbers : CountersRow → Content → Content
-set_numbers n c =
-    with_used n.room (set_counter 6 n.handles (set_counter 5 n.nodes (set_counter 4 n.next_cookie (set_counter 3 n.next_fh (set_counter 2 n.next_node c)))))
-
-numbers_set : (n old : CountersRow) (s : Option Settings) (lot : ℕ) (c : Content) → (set_numbers n (record c { counters = counters_of old s lot })).counters
+numbers_set : (n old : CountersRow) (s : Option Settings) (lot : ℕ) (c : Content) → (counters_set n (record c { counters = counters_of old s lot })).counters
     ≡ counters_of (record n { room = room_over old.room n.room }) s lot
 numbers_set n old s lot c = by old.room n.room
   where
-    by : (o r : Option Room) → (set_numbers (record n { room = r }) (record c { counters = counters_of (record old { room = o }) s lot })).counters
+    by : (o r : Option Room) → (counters_set (record n { room = r }) (record c { counters = counters_of (record old { room = o }) s lot })).counters
         ≡ counters_of (record n { room = room_over o r }) s lot
     by None None = refl
     by None (Some r) = refl
     by (Some o) None = refl
     by (Some o) (Some r) = refl
 
-pub counters_change : (n : CountersRow) → (s : Store) (c : Content) → Describes s c → Describes (with_change (changes.Counters n) s) (set_numbers n c)
+pub counters_change : (n : CountersRow) → (s : Store) (c : Content) → Describes s c → Describes (with_change (changes.Counters n) s) (counters_set n c)
 counters_change n s c at = record {
-  counters = ap (λ cs. (set_numbers n (record c { counters = cs })).counters) at.counters ∙ numbers_set n s.rows.counters s.rows.settings s.next_lot c;
+  counters = ap (λ cs. (counters_set n (record c { counters = cs })).counters) at.counters ∙ numbers_set n s.rows.counters s.rows.settings s.next_lot c;
   nodes = at.nodes;
   entries = at.entries;
   handles = at.handles;

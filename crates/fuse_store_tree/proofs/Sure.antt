@@ -18,7 +18,9 @@ use Rattle.fuse_store_tables.specs.inner.Performing.{IsSure}
 use Rattle.fuse_store_tables.specs.inner.Following.{earlier}
 use Rattle.fuse_store_tree.specs.Fits.{Fits}
 use Rattle.fuse_store_tree.specs.Store.{Held, HeldAs, bodies_of}
-use Rattle.fuse_store_tree.specs.Looking.{look_fault, sees_in, MayFail}
+use Rattle.fuse_store_tree.specs.declared.meta.Meta.{Meta}
+use Rattle.fuse_store_tree.specs.Knowing.{HeldForKnown}
+use Rattle.fuse_store_tree.specs.Looking.{look_fault, sees_known, MayFail}
 use Rattle.fuse_store_tree.specs.inner.Acting.{why_no_plan}
 use Rattle.fuse_store_tree.specs.Holding.{Holding, HeldFor, store_of}
 use Rattle.fuse_store_tree.specs.inner.Changing.{InsideFor, KeepsFor, Turned, IsSureFor}
@@ -69,16 +71,28 @@ failed_so a b was is f same stays plain sure = record {
   sure = λ none clean (y, at). subst (λ o. IfSome o IsOutside) (sym same) (sure clean y at);
 }
 
--- nothing was planned: the rows being a tree's, its fault is outside
-pub no_plan : (fault : PlanFault) (was is : Option StoreFault) (a b : State) → look_fault was ≡ None
+-- nothing was planned: the rows being a tree's, and what is known of them right, its fault is outside
+pub no_plan : (fault : PlanFault) (m : Option Meta) (was is : Option StoreFault) (a b : State) → look_fault was ≡ None
     → look_fault is ≡ answered_fault {X = Planned} (Err fault) → MayFail a b was is
-    → (fault ≡ plans.NotATree → HasCleanDisk b → (s : TreeState) → Tree s → sees_in a (rowed s) → ⊥) → HasCleanDisk b → IsReady HeldFor a
+    → (fault ≡ plans.NotATree → HasCleanDisk b → (s : TreeState) → Tree s → sees_known m a (rowed s) → ⊥) → HasCleanDisk b → IsReady (HeldForKnown m) a
     → IsOutside (why_no_plan fault is)
-no_plan plans.Memory was is a b none told fails not_a_tree clean ready = tt
-no_plan plans.NotATree was is a b none told fails not_a_tree clean (y, at) =
-    absurd (not_a_tree refl clean y.tree at.holds.tree (store_of y, told_in y a at, refl))
-no_plan (plans.Look f) was None a b none told fails not_a_tree clean ready = absurd cc
-no_plan (plans.Look f) was (Some g) a b none told fails not_a_tree clean ready = fails.sure (none_before was none) clean ready
+no_plan plans.Memory m was is a b none told fails not_a_tree clean ready = tt
+no_plan plans.NotATree m was is a b none told fails not_a_tree clean (y, at) =
+    absurd (not_a_tree refl clean y.tree at.holds.0.tree (
+      (
+        store_of y,
+        told_in y a (record {
+          is_open = at.is_open;
+          in_transaction = at.in_transaction;
+          holds = at.holds.0;
+        }),
+        refl,
+      ),
+      at.holds.1,
+    ))
+no_plan (plans.Look f) m was None a b none told fails not_a_tree clean ready = absurd cc
+no_plan (plans.Look f) m was (Some g) a b none told fails not_a_tree clean (y, at) =
+    fails.sure (none_before was none) clean (y, record { is_open = at.is_open; in_transaction = at.in_transaction; holds = at.holds.0 })
 
 -- whatever is held, it is plain
 pub no_plan_plain : (fault : PlanFault) (was is : Option StoreFault) (a b : State) → look_fault was ≡ None → MayFail a b was is
@@ -93,11 +107,6 @@ pub ready_held : (a : State) → IsReady HeldFor a → IsReady Held a
 ready_held a (y, at) = (store_of y, told_in y a at)
 
 -- ---- a group
-
--- a fault after a step on a holding
-pub turned_sure : {X : Type 0} (f : Holding → Holding) (a b d : State) (r : Result X StoreFault) → Turned f a b → OnErr r (KeepsFor b d)
-    → IsSure HeldFor b d r → IsSure HeldFor a d r
-turned_sure f a b d r p keeps sure = sure_next HeldFor HeldFor a b d r keeps (λ clean (y, at). (f y, p.turns clean y at)) sure
 
 -- the same where no lot may be left
 pub left_sure : {X : Type 0} (lot : Option ℕ) (f : Holding → Holding) (a b d : State) (r : Result X StoreFault) → Turned f a b → OnErr r (KeepsFor b d)

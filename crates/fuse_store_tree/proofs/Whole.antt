@@ -1,40 +1,54 @@
 -- A group as a whole transaction.
-use Rattle.std.proofs.Common.{◌≡◌, ◌∙◌, Ok, Err, Bool, true, false, cond, sym, subst}
+use Rattle.std.proofs.Common.{◌≡◌, ◌∙◌, Option, None, Ok, Err, Result, Bool, true, false, cond, sym, subst}
 use Rattle.sqlite.specs.State.{State, HasCleanDisk}
-use Rattle.sqlite.proofs.StateLemmas.{survives_then}
+use Rattle.sqlite.proofs.StateLemmas.{survives_then, survives_weaker}
 use Rattle.sqlite.proofs.InsideLemmas.{keeps_then}
 use Rattle.sqlite.specs.declared.error.Error.{Error}
 use Rattle.fuse_keeper.specs.declared.fault.StoreFault.{StoreFault}
 use Rattle.fuse_keeper.specs.declared.fault.StoreFault.TheVariants.{Memory, Sql}
 use Rattle.fuse_keeper.specs.Faults.{fault_of, is_memory}
-use Rattle.fuse_store_tables.specs.Moves.{RestsAs, Begins, Ends, Takes, Undoes, LeavesAlone}
+use Rattle.fuse_store_tables.specs.Moves.{RestsAs, Begins, Ends, Takes, ServesAs, Undoes, LeavesAlone}
 use Rattle.fuse_store_tables.specs.Saying.{IsRefusal}
 use Rattle.fuse_store_tables.specs.inner.Performing.{CommitsNothing}
 use Rattle.fuse_store_tables.specs.inner.Following.{earlier}
 use Rattle.fuse_store_tree.specs.Holding.{Holding, HeldFor, ReportsAfter}
-use Rattle.fuse_store_tree.specs.inner.Changing.{InsideFor, KeepsFor, Turned}
+use Rattle.fuse_store_tree.specs.declared.meta.Meta.{Meta}
+use Rattle.fuse_store_tree.specs.Knowing.{HeldForKnown, ReportsKnown}
+use Rattle.fuse_store_tree.specs.inner.Changing.{InsideFor}
+use Rattle.fuse_store_tree.specs.inner.Knowing.{InsideKnown, KeepsKnown, TurnedKnown}
 
 -- what was held before the transaction, when it has begun
-pub begun_for : {X : Type 0} (a b : State) (x : X) → Begins {E = Error} a b (Ok x) → HasCleanDisk b → (y : Holding) → RestsAs (HeldFor y) a → InsideFor y b
-begun_for a b x p clean y at =
+pub begun_for : {X : Type 0} (m : Option Meta) (a b : State) (x : X) → Begins {E = Error} a b (Ok x) → HasCleanDisk b → (y : Holding)
+    → RestsAs (HeldForKnown m y) a → InsideKnown m y b
+begun_for m a b x p clean y at =
     let on = p.begun clean in
-    record { is_open = on.0; in_transaction = on.1; holds = subst (HeldFor y) (sym on.2) at.holds }
+    record { is_open = on.0; in_transaction = on.1; holds = subst (HeldForKnown m y) (sym on.2) at.holds }
 
 -- what was made, as a call within a transaction
-pub takes_for : {X : Type 0} (f : Holding → Holding) (a b : State) (x : X) → Turned f a b → Takes {E = StoreFault} HeldFor (λ y. HeldFor (f y)) a b (Ok x)
-takes_for f a b x p = record { stays = p.stays; turns = p.turns }
+pub takes_for : {X : Type 0} (m n : Option Meta) (f : Holding → Holding) (a b : State) (x : X) → TurnedKnown m n f a b
+    → Takes {E = StoreFault} (HeldForKnown m) (λ y. HeldForKnown n (f y)) a b (Ok x)
+takes_for m n f a b x p = record { stays = p.stays; turns = p.turns }
 
 -- what failed made nothing
-pub fails_for : {X : Type 0} (f : Holding → Holding) (a b : State) (e : StoreFault) → KeepsFor a b → Takes {X = X} HeldFor (λ y. HeldFor (f y)) a b (Err e)
-fails_for f a b e keeps = record { stays = keeps; turns = tt }
+pub fails_for : {X : Type 0} (m n : Option Meta) (f : Holding → Holding) (a b : State) (e : StoreFault) → KeepsKnown m a b
+    → Takes {X = X} (HeldForKnown m) (λ y. HeldForKnown n (f y)) a b (Err e)
+fails_for m n f a b e keeps = record { stays = keeps; turns = tt }
 
 -- facts within the transaction hold after it
-pub told_after : {X Y : Type 0} (P : Holding → Type 0) (a b d e : State) (x : X) (y : Y) → Begins {E = Error} a b (Ok x) → KeepsFor b d
-    → (HasCleanDisk d → (z : Holding) → InsideFor z b → P z) → Ends {E = Error} d e (Ok y) → ReportsAfter a e P
-told_after P a b d e x y p keeps told q clean z at =
+pub told_after : {X Y : Type 0} (m : Option Meta) (P : Holding → Type 0) (a b d e : State) (x : X) (y : Y) → Begins {E = Error} a b (Ok x) → KeepsKnown m b d
+    → (HasCleanDisk d → (z : Holding) → InsideKnown m z b → P z) → Ends {E = Error} d e (Ok y) → ReportsKnown m a e P
+told_after m P a b d e x y p keeps told q clean z at =
     let last = earlier d e _ q.survives clean in
     let first = earlier b d _ keeps.survives last in
-    told last z (begun_for a b x p first z at)
+    told last z (begun_for m a b x p first z at)
+
+-- the same of what is held, whatever is known of it
+pub lot_after : {X Y : Type 0} (m : Option Meta) (P : Holding → Type 0) (a b d e : State) (x : X) (y : Y) → Begins {E = Error} a b (Ok x) → KeepsKnown m b d
+    → (HasCleanDisk d → (z : Holding) → InsideFor z b → P z) → Ends {E = Error} d e (Ok y) → ReportsAfter a e P
+lot_after m P a b d e x y p keeps told q clean z at =
+    let last = earlier d e _ q.survives clean in
+    let on = p.begun (earlier b d _ keeps.survives last) in
+    told last z (record { is_open = on.0; in_transaction = on.1; holds = subst (HeldFor z) (sym on.2) at.holds })
 
 -- ---- refusals
 
@@ -47,14 +61,14 @@ unrefusing e f is refused = told (is_memory e) (subst IsRefusal is refused)
     told false none = none
 
 -- what failed within the transaction committed nothing
-pub nothing_for : {X : Type 0} (a b d : State) (x : X) → Begins {E = Error} a b (Ok x) → KeepsFor b d → (y : Holding) → RestsAs (HeldFor y) a
-    → CommitsNothing a d
-nothing_for a b d x p keeps y at = record {
+pub nothing_for : {X : Type 0} (m : Option Meta) (a b d : State) (x : X) → Begins {E = Error} a b (Ok x) → KeepsKnown m b d → (y : Holding)
+    → RestsAs (HeldForKnown m y) a → CommitsNothing a d
+nothing_for m a b d x p keeps y at = record {
   survives = survives_then a b d _ _ _ (λ _ db none. none)
-      (λ clean db none. absurd (none (y, begun_for a b x p (earlier b d _ keeps.survives clean) y at))) p.survives keeps.survives;
+      (λ clean db none. absurd (none (y, begun_for m a b x p (earlier b d _ keeps.survives clean) y at))) p.survives keeps.survives;
   kept = λ clean.
       let mid = earlier b d _ keeps.survives clean in
-      keeps_then a b d (p.kept mid) (keeps.kept clean (y, begun_for a b x p mid y at));
+      keeps_then a b d (p.kept mid) (keeps.kept clean (y, begun_for m a b x p mid y at));
 }
 
 -- and what is then rolled back is left alone
@@ -66,4 +80,26 @@ rolled_back a b d p u = record {
       let back = u.undone clean is_open in
       let kept = p.kept (earlier b d _ u.survives clean) in
       (kept.was_open back.0, back.2 ∙ kept.committed back.0, back.1 ∙ sym back.2);
+}
+
+-- ---- whatever was known before
+
+-- where nothing was known, nothing is asked of it
+pub at_rest : (y : Holding) (s : State) → RestsAs (HeldFor y) s → RestsAs (HeldForKnown None y) s
+at_rest y s at = record { is_open = at.is_open; autocommit = at.autocommit; holds = (at.holds, tt); committed = at.committed }
+
+pub rests_for : (m : Option Meta) (y : Holding) (s : State) → RestsAs (HeldForKnown m y) s → RestsAs (HeldFor y) s
+rests_for m y s at = record { is_open = at.is_open; autocommit = at.autocommit; holds = at.holds.0; committed = at.committed }
+
+pub serves_plain : {X : Type 0} (n : Option Meta) (f : Holding → Holding) (a b : State) (r : Result X StoreFault)
+    → ServesAs (HeldForKnown None) (λ y. HeldForKnown n (f y)) a b r → ServesAs HeldFor (λ y. HeldFor (f y)) a b r
+serves_plain n f a b (Ok x) p = record {
+  survives = survives_weaker a b _ _ (λ _ db left y at. let (d, held, is) = left y (at_rest y a at) in (d, held.0, is)) p.survives;
+  kept = tt;
+  done = λ clean y at. rests_for n (f y) b (p.done clean y (at_rest y a at));
+}
+serves_plain n f a b (Err e) p = record {
+  survives = survives_weaker a b _ _ (λ _ db left y at. let (d, held, is) = left y (at_rest y a at) in (d, held.0, is)) p.survives;
+  kept = λ clean is_open y at. rests_for None y b (p.kept clean is_open y (at_rest y a at));
+  done = tt;
 }

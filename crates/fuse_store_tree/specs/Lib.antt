@@ -3,6 +3,7 @@ pub mod Store
 pub mod Looking
 pub mod Holding
 pub mod Group
+pub mod Knowing
 pub mod Lots
 pub mod Performing
 pub mod inner

@@ -8,8 +8,10 @@ use Rattle.fuse_tree.specs.declared.look.LookFault.TheVariants.{Memory, Failed}
 use Rattle.fuse_tree.specs.Rows.{Rows}
 use Rattle.fuse_store_tables.specs.Faults.{IsOutside, IsPlain}
 use Rattle.fuse_store_tables.specs.Moves.{InsideAs, IsReady, Looked, Stays}
+use Rattle.fuse_store_tree.specs.declared.meta.Meta.{Meta}
 use Rattle.fuse_store_tree.specs.Store.{Store, Held}
 use Rattle.fuse_store_tree.specs.Holding.{HeldFor}
+use Rattle.fuse_store_tree.specs.Knowing.{Knows}
 
 -- the fault of a read, as `plan` gets it
 abbrev pub told_as : StoreFault → LookFault
@@ -24,10 +26,15 @@ look_fault (Some f) = Some (told_as f)
 abbrev pub sees_in : State → Rows → Type 0
 sees_in s rows = (x : Store) × InsideAs (Held x) s × (x.rows ≡ rows)
 
--- only reads that succeeded lie between the two states, and the fault is as it was
-pub record WentWell (old new : State) (was is : Option StoreFault) : Type 0 where
+-- and what is known is right of them
+abbrev pub sees_known : Option Meta → State → Rows → Type 0
+sees_known known s rows = sees_in s rows × Knows known rows
+
+-- only reads that succeeded lie between the two states, the fault is as it was, and what is known stays right
+pub record WentWell (old new : State) (was is : Option StoreFault) (before after : Option Meta) : Type 0 where
   pub looked : Looked old new
   pub same : is ≡ was
+  pub knows : HasCleanDisk new → (rows : Rows) → sees_in old rows → Knows before rows → Knows after rows
 
 -- only reads lie between the two states, and the last may have failed; its fault is plain, and outside where a tree was held
 pub record MayFail (old new : State) (was is : Option StoreFault) : Type 0 where

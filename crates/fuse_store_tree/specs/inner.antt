@@ -1,6 +1,7 @@
 -- What the code does on its way: no public contract cites it (own profile).
 pub mod Acting
 pub mod Changing
+pub mod Knowing
 pub mod Laws
 pub mod Reading
 pub mod Writing

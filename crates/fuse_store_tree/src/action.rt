@@ -7,8 +7,8 @@ ghost use Rattle.fuse_tree.specs.State.{State, Tree};
 ghost use Rattle.fuse_store_tables.specs.Faults.{IsPlain};
 ghost use Rattle.fuse_store_tables.specs.inner.Performing.{IsSure};
 ghost use Rattle.fuse_store_tree.specs.inner.Acting.{ActsInside, why_no_plan};
-ghost use Rattle.fuse_store_tree.specs.inner.Changing.{Keeps};
-ghost use Rattle.fuse_store_tree.specs.Holding.{HeldFor};
+ghost use Rattle.fuse_store_tree.specs.inner.Knowing.{KeepsKnown};
+ghost use Rattle.fuse_store_tree.specs.Knowing.{HeldForKnown};
 ghost use Rattle.fuse_store_tree.specs.Looking.{look_fault};
 
 use crate::gaps::clear_gap;
@@ -45,13 +45,14 @@ pub(crate) fn act<S: Alter>(
 ) -> Result<Answer, StoreFault>
     requires { look_fault look.old.fault ≡ None }
     ensures acts { IfOk result (λ answer. (s : State) → Tree s
-        → ActsInside (state S.Store look.old.conn) (state S.Store look.new.conn) s
-        (done s (asked request.now) now) answer) }
+        → ActsInside look.old.known look.new.known (state S.Store look.old.conn)
+        (state S.Store look.new.conn) s (done s (asked request.now) now) answer) }
     // Nothing is committed, whether it succeeds or not.
-    ensures keeps { Keeps (state S.Store look.old.conn) (state S.Store look.new.conn) }
+    ensures keeps { KeepsKnown look.old.known (state S.Store look.old.conn)
+        (state S.Store look.new.conn) }
     ensures fault { look_fault look.new.fault ≡ None }
-    ensures sure { IsSure HeldFor (state S.Store look.old.conn) (state S.Store look.new.conn)
-        result }
+    ensures sure { IsSure (HeldForKnown look.old.known) (state S.Store look.old.conn)
+        (state S.Store look.new.conn) result }
     ensures plain { IfErr result IsPlain }
 {
     tree_kept();
@@ -64,8 +65,11 @@ pub(crate) fn act<S: Alter>(
         Ok(()) => {}
         Err(fault) => return Err(fault),
     }
-    match make_all(&mut look.conn, alloc, changes) {
-        Ok(()) => Ok(planned.answer),
+    match make_all(&mut look.conn, look.known, alloc, changes) {
+        Ok(known) => {
+            look.known = known;
+            Ok(planned.answer)
+        }
         Err(fault) => Err(fault),
     }
 }

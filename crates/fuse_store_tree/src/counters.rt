@@ -7,12 +7,14 @@ ghost use Rattle.fuse_store_tables.specs.Content.{Content, Counter, shown_counte
 ghost use Rattle.fuse_store_tables.specs.Faults.{IsOutside, IsPlain};
 ghost use Rattle.fuse_store_tables.specs.Moves.{Inside, Looked, Stays};
 ghost use Rattle.fuse_store_tree.specs.inner.Reading.{value_of, counted_in, agreed_in};
-ghost use Rattle.fuse_store_tree.specs.inner.Reading.{room_in, agreement_in};
+ghost use Rattle.fuse_store_tree.specs.inner.Reading.{room_in};
+ghost use Rattle.fuse_store_tree.specs.inner.Knowing.{meta_in};
 
+use crate::meta::Meta;
 use fuse_init::Settings;
 use fuse_keeper::StoreFault;
 use fuse_store_tables::{number_at, select_counters};
-use fuse_tree::{Agreement, Counters, Room};
+use fuse_tree::{Counters, Room};
 use fuse_wire::InitFlags;
 use sqlite::{Alter, Connection, Row};
 
@@ -108,46 +110,29 @@ pub(crate) fn read_settings(rows: &[Row]) -> Result<Option<Settings>, StoreFault
     }))
 }
 
-fn read_agreement(rows: &[Row]) -> Result<Agreement, StoreFault>
+fn read_meta(rows: &[Row]) -> Result<Meta, StoreFault>
     ensures value { IfOk result (λ r. (cs : List Counter) → rows.now ≡ map shown_counter cs
-        → r ≡ agreement_in cs) }
+        → r ≡ meta_in cs) }
     ensures fault { IfErr result (λ f. (cs : List Counter) → rows.now ≡ map shown_counter cs
         → 11 ≤ length cs → value_of cs 7 < 2 ^ 32 → value_of cs 8 < 2 ^ 32 → IsOutside f) }
     ensures plain { IfErr result IsPlain }
 {
     let counters = read_counters(rows)?;
     let settings = read_settings(rows)?;
-    Ok(Agreement {
-        profile: counters.profile(),
-        settings,
-    })
+    Ok(Meta { counters, settings })
 }
 
-/// The counters.
-pub(crate) fn find_counters<S: Alter>(conn: &mut Connection<S>) -> Result<Counters, StoreFault>
+/// The counters and the settings.
+pub(crate) fn find_meta<S: Alter>(conn: &mut Connection<S>) -> Result<Meta, StoreFault>
     ensures looks { OnOk result (Looked (state S.Store conn.old) (state S.Store conn.new)) }
     ensures fails { OnErr result (Stays (state S.Store conn.old) (state S.Store conn.new)) }
     ensures value { HasCleanDisk (state S.Store conn.new) → IfOk result (λ r. (c : Content)
-        → Inside c (state S.Store conn.old) → r ≡ counted_in c.counters) }
-    ensures fault { HasCleanDisk (state S.Store conn.new) → IfErr result (λ f. (c : Content)
-        → Inside c (state S.Store conn.old) → 11 ≤ length c.counters → IsOutside f) }
-    ensures plain { IfErr result IsPlain }
-{
-    let rows = select_counters(conn)?;
-    read_counters(rows.as_slice())
-}
-
-/// The profile and the settings.
-pub(crate) fn find_agreement<S: Alter>(conn: &mut Connection<S>) -> Result<Agreement, StoreFault>
-    ensures looks { OnOk result (Looked (state S.Store conn.old) (state S.Store conn.new)) }
-    ensures fails { OnErr result (Stays (state S.Store conn.old) (state S.Store conn.new)) }
-    ensures value { HasCleanDisk (state S.Store conn.new) → IfOk result (λ r. (c : Content)
-        → Inside c (state S.Store conn.old) → r ≡ agreement_in c.counters) }
+        → Inside c (state S.Store conn.old) → r ≡ meta_in c.counters) }
     ensures fault { HasCleanDisk (state S.Store conn.new) → IfErr result (λ f. (c : Content)
         → Inside c (state S.Store conn.old) → 11 ≤ length c.counters
         → value_of c.counters 7 < 2 ^ 32 → value_of c.counters 8 < 2 ^ 32 → IsOutside f) }
     ensures plain { IfErr result IsPlain }
 {
     let rows = select_counters(conn)?;
-    read_agreement(rows.as_slice())
+    read_meta(rows.as_slice())
 }

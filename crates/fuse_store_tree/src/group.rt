@@ -7,8 +7,11 @@ ghost use Rattle.fuse_keeper.specs.Group.{entries_of, ids_of};
 ghost use Rattle.fuse_store_tables.specs.inner.Performing.{IsSure};
 ghost use Rattle.fuse_store_tables.specs.Faults.{IsPlain};
 ghost use Rattle.fuse_store_tree.specs.Looking.{look_fault};
-ghost use Rattle.fuse_store_tree.specs.Holding.{Holding, HeldFor};
+ghost use Rattle.fuse_store_tree.specs.Holding.{Holding};
+ghost use Rattle.fuse_store_tree.specs.Knowing.{HeldForKnown};
 ghost use Rattle.fuse_store_tree.specs.inner.Changing.{InsideFor, KeepsFor, Turned, IsSureFor};
+ghost use Rattle.fuse_store_tree.specs.inner.Knowing.{InsideKnown, KeepsKnown, TurnedKnown};
+ghost use Rattle.fuse_store_tree.specs.inner.Knowing.{IsSureKnown};
 ghost use Rattle.fuse_store_tree.specs.Group.{with_group, dones_of, prepared, lot_for};
 ghost use Rattle.fuse_store_tree.specs.Group.{performed, all_dones};
 
@@ -39,16 +42,17 @@ fn take_all<S: Alter>(
     requires ready { look_fault look.old.fault ≡ None }
     requires lot { lot < 2 ^ 62 }
     ensures count { IfOk result (λ dones. length dones.items ≡ length group.now) }
-    ensures turned { OnOk result (Turned (with_group lot (entries_of group.now))
-        (state S.Store look.old.conn) (state S.Store look.new.conn)) }
+    ensures turned { OnOk result (TurnedKnown look.old.known look.new.known
+        (with_group lot (entries_of group.now)) (state S.Store look.old.conn)
+        (state S.Store look.new.conn)) }
     ensures dones { HasCleanDisk (state S.Store look.new.conn) → IfOk result (λ dones.
-        (y : Holding) → InsideFor y (state S.Store look.old.conn)
+        (y : Holding) → InsideKnown look.old.known y (state S.Store look.old.conn)
         → dones.items ≡ dones_of lot (entries_of group.now) y) }
-    ensures fails { OnErr result (KeepsFor (state S.Store look.old.conn)
+    ensures fails { OnErr result (KeepsKnown look.old.known (state S.Store look.old.conn)
         (state S.Store look.new.conn)) }
     ensures ready { look_fault look.new.fault ≡ None }
-    ensures fault { IsSure HeldFor (state S.Store look.old.conn) (state S.Store look.new.conn)
-        result }
+    ensures fault { IsSure (HeldForKnown look.old.known) (state S.Store look.old.conn)
+        (state S.Store look.new.conn) result }
     ensures plain { IfErr result IsPlain }
 {
     let mut dones = Vec::new(alloc);
@@ -96,22 +100,22 @@ pub(crate) fn perform_in<S: Alter>(
     requires ready { look_fault look.old.fault ≡ None }
     requires lot { IfSome lot (λ n. n < 2 ^ 62) }
     ensures count { IfOk result (λ p. length p.dones.items ≡ length group.now) }
-    ensures turned { OnOk result (Turned
+    ensures turned { OnOk result (TurnedKnown look.old.known look.new.known
         (performed lot (ids_of settled.now) (entries_of group.now))
         (state S.Store look.old.conn) (state S.Store look.new.conn)) }
     ensures lot { HasCleanDisk (state S.Store look.new.conn) → IfOk result (λ p. (y : Holding)
         → InsideFor y (state S.Store look.old.conn) → p.lot ≡ lot_for lot y) }
     ensures low { IfOk result (λ p. p.lot < 2 ^ 62) }
     ensures dones { HasCleanDisk (state S.Store look.new.conn) → IfOk result (λ p. (y : Holding)
-        → InsideFor y (state S.Store look.old.conn)
+        → InsideKnown look.old.known y (state S.Store look.old.conn)
         → p.dones.items ≡ all_dones lot (ids_of settled.now) (entries_of group.now) y) }
     // Nothing is committed, whether it succeeds or not.
-    ensures fails { OnErr result (KeepsFor (state S.Store look.old.conn)
+    ensures fails { OnErr result (KeepsKnown look.old.known (state S.Store look.old.conn)
         (state S.Store look.new.conn)) }
     ensures ready { look_fault look.new.fault ≡ None }
     // Of a store that was sound, the fault is `Damaged` only where no lot number is left.
-    ensures fault { IsSureFor lot (state S.Store look.old.conn) (state S.Store look.new.conn)
-        result }
+    ensures fault { IsSureKnown look.old.known lot (state S.Store look.old.conn)
+        (state S.Store look.new.conn) result }
     ensures plain { IfErr result IsPlain }
 {
     let lot = match prepare(&mut look.conn, lot, settled) {

@@ -1,13 +1,20 @@
 // The reads of `plan`, from the tables.
-ghost use Rattle.std.specs.Prelude.{◌≡◌, ◌<◌, None, Some, Option};
+ghost use Rattle.std.specs.Prelude.{◌≡◌, ◌<◌, None, Some, Option, IfOk, IfErr, OnOk, OnErr};
 ghost use Rattle.sqlite.specs.State.{HasCleanDisk};
 ghost use Rattle.sqlite.specs.Held.{state};
-ghost use Rattle.fuse_store_tree.specs.Looking.{look_fault, told_as};
+ghost use Rattle.fuse_store_tables.specs.Faults.{IsOutside, IsPlain};
+ghost use Rattle.fuse_store_tables.specs.Moves.{Stays};
+ghost use Rattle.fuse_tree.specs.Rows.{Rows};
+ghost use Rattle.fuse_store_tree.specs.Holding.{Holding};
+ghost use Rattle.fuse_store_tree.specs.Knowing.{Knows, meta_of};
+ghost use Rattle.fuse_store_tree.specs.Looking.{look_fault, told_as, sees_in, WentWell};
+ghost use Rattle.fuse_store_tree.specs.inner.Changing.{InsideFor};
 
 use crate::block_reads::find_bytes;
-use crate::counters::{find_agreement, find_counters};
+use crate::counters::find_meta;
 use crate::entries::find_after;
 use crate::handles::find_handles_of;
+use crate::meta::{Meta, agreement_of};
 use crate::rows::{find_entry, find_handle, find_node};
 use fuse_keeper::StoreFault;
 use fuse_tree::{Agreement, Counters, EntryRow, HandleRow, Look, LookFault, NodeRow};
@@ -23,6 +30,8 @@ pub struct TableLook<S: Alter> {
     pub conn: Connection<S>,
     /// The fault of the first read that failed.
     pub fault: Option<StoreFault>,
+    /// What is known of the table `meta`, which is read where nothing is.
+    pub(crate) known: Option<Meta>,
 }
 
 // The fault of a read, as `plan` gets it.
@@ -43,11 +52,13 @@ impl<S: Alter> TableLook<S> {
     pub fn new(alloc: Global, conn: Connection<S>) -> TableLook<S>
         ensures conn { result.conn ≡ conn }
         ensures fault { look_fault result.fault ≡ None }
+        ensures known { result.known ≡ None }
     {
         TableLook {
             alloc,
             conn,
             fault: None,
+            known: None,
         }
     }
 
@@ -58,6 +69,29 @@ impl<S: Alter> TableLook<S> {
         ensures conn { self.new.conn ≡ self.old.conn }
     {
         self.fault.take()
+    }
+
+    // The counters and the settings, as they are known or read.
+    fn find_meta(&mut self) -> Result<Meta, StoreFault>
+        ensures looks { OnOk result (WentWell (state S.Store self.old.conn)
+            (state S.Store self.new.conn) self.old.fault self.new.fault self.old.known
+            self.new.known) }
+        ensures fails { OnErr result (Stays (state S.Store self.old.conn)
+            (state S.Store self.new.conn)) }
+        ensures value { HasCleanDisk (state S.Store self.new.conn) → IfOk result (λ meta.
+            (rows : Rows) → sees_in (state S.Store self.old.conn) rows
+            → Knows self.old.known rows → meta ≡ meta_of rows) }
+        ensures fault { HasCleanDisk (state S.Store self.new.conn) → IfErr result (λ f.
+            (y : Holding) → InsideFor y (state S.Store self.old.conn) → IsOutside f) }
+        ensures plain { IfErr result IsPlain }
+        ensures same { self.new.fault ≡ self.old.fault }
+    {
+        if let Some(meta) = self.known {
+            return Ok(meta);
+        }
+        let meta = find_meta(&mut self.conn)?;
+        self.known = Some(meta);
+        Ok(meta)
     }
 
     // Keeps the fault.
@@ -73,17 +107,18 @@ impl<S: Alter> TableLook<S> {
 }
 
 impl<S: Alter> Look for TableLook<S> {
-    ghost use Rattle.fuse_store_tree.specs.Looking.{sees_in, WentWell, MayFail};
+    ghost use Rattle.fuse_store_tree.specs.Looking.{sees_known, WentWell, MayFail};
     ghost use Rattle.fuse_store_tree.specs.inner.Laws.{well_still, well_then, well_fails};
-    ghost use Rattle.fuse_store_tree.specs.inner.Laws.{well_less, looked_clean, looked_kept};
+    ghost use Rattle.fuse_store_tree.specs.inner.Laws.{well_less, looked_clean, well_kept};
 
-    ghost sees = { λ k rows. sees_in (state S.Store k.conn) rows };
+    ghost sees = { λ k rows. sees_known k.known (state S.Store k.conn) rows };
 
     ghost fault = { λ k. look_fault k.fault };
 
     ghost is_clean = { λ k. HasCleanDisk (state S.Store k.conn) };
 
-    ghost looks = { λ a b. WentWell (state S.Store a.conn) (state S.Store b.conn) a.fault b.fault };
+    ghost looks = { λ a b. WentWell (state S.Store a.conn) (state S.Store b.conn) a.fault b.fault
+        a.known b.known };
 
     ghost fails = { λ a b. MayFail (state S.Store a.conn) (state S.Store b.conn) a.fault b.fault };
 
@@ -135,15 +170,15 @@ impl<S: Alter> Look for TableLook<S> {
     }
 
     fn counters(&mut self) -> Result<Counters, LookFault> {
-        match find_counters(&mut self.conn) {
-            Ok(row) => Ok(row),
+        match self.find_meta() {
+            Ok(meta) => Ok(meta.counters),
             Err(fault) => Err(self.fail(fault)),
         }
     }
 
     fn agreement(&mut self) -> Result<Agreement, LookFault> {
-        match find_agreement(&mut self.conn) {
-            Ok(agreement) => Ok(agreement),
+        match self.find_meta() {
+            Ok(meta) => Ok(agreement_of(meta)),
             Err(fault) => Err(self.fail(fault)),
         }
     }
@@ -155,15 +190,15 @@ impl<S: Alter> Look for TableLook<S> {
         }
     }
 
-    ghost still = { λ a. well_still _ _ };
+    ghost still = { λ a. well_still _ _ _ };
 
-    ghost and_then = { λ a b d p q. well_then _ _ _ _ _ _ p q };
+    ghost and_then = { λ a b d p q. well_then _ _ _ _ _ _ _ _ _ p q };
 
-    ghost and_fails = { λ a b d p q. well_fails _ _ _ _ _ _ p q };
+    ghost and_fails = { λ a b d p q. well_fails _ _ _ _ _ _ _ _ p q };
 
-    ghost or_less = { λ a b p. well_less _ _ _ _ p };
+    ghost or_less = { λ a b p. well_less _ _ _ _ _ _ p };
 
     ghost was_clean = { λ a b p clean. looked_clean _ _ p.looked clean };
 
-    ghost kept = { λ a b p clean rows sees. looked_kept _ _ p.looked clean rows sees };
+    ghost kept = { λ a b p clean rows sees. well_kept _ _ _ _ _ _ p clean rows sees };
 }

@@ -7,8 +7,10 @@ ghost use Rattle.fuse_keeper.specs.Group.{entry_of};
 ghost use Rattle.fuse_store_tables.specs.Faults.{IsOutside, IsPlain};
 ghost use Rattle.fuse_store_tables.specs.inner.Performing.{IsSure};
 ghost use Rattle.fuse_store_tree.specs.Looking.{look_fault};
-ghost use Rattle.fuse_store_tree.specs.Holding.{Holding, HeldFor};
-ghost use Rattle.fuse_store_tree.specs.inner.Changing.{InsideFor, KeepsFor, Turned};
+ghost use Rattle.fuse_store_tree.specs.Holding.{Holding};
+ghost use Rattle.fuse_store_tree.specs.Knowing.{HeldForKnown};
+ghost use Rattle.fuse_store_tree.specs.inner.Changing.{KeepsFor, Turned};
+ghost use Rattle.fuse_store_tree.specs.inner.Knowing.{InsideKnown, KeepsKnown, TurnedKnown};
 ghost use Rattle.fuse_store_tree.specs.Group.{acted_on, answered, taken, with_record};
 ghost use Rattle.fuse_store_tree.specs.Group.{said_of};
 
@@ -64,16 +66,17 @@ fn act_and_record<S: Alter>(
 ) -> Result<Done, StoreFault>
     requires ready { look_fault look.old.fault ≡ None }
     requires lot { lot < 2 ^ 62 }
-    ensures turned { OnOk result (Turned (acted_on lot (entry_of (request.now, now)))
-        (state S.Store look.old.conn) (state S.Store look.new.conn)) }
+    ensures turned { OnOk result (TurnedKnown look.old.known look.new.known
+        (acted_on lot (entry_of (request.now, now))) (state S.Store look.old.conn)
+        (state S.Store look.new.conn)) }
     ensures done { HasCleanDisk (state S.Store look.new.conn) → IfOk result (λ done.
-        (y : Holding) → InsideFor y (state S.Store look.old.conn)
+        (y : Holding) → InsideKnown look.old.known y (state S.Store look.old.conn)
         → done ≡ answered (said_of (entry_of (request.now, now)) y)) }
-    ensures fails { OnErr result (KeepsFor (state S.Store look.old.conn)
+    ensures fails { OnErr result (KeepsKnown look.old.known (state S.Store look.old.conn)
         (state S.Store look.new.conn)) }
     ensures ready { look_fault look.new.fault ≡ None }
-    ensures fault { IsSure HeldFor (state S.Store look.old.conn) (state S.Store look.new.conn)
-        result }
+    ensures fault { IsSure (HeldForKnown look.old.known) (state S.Store look.old.conn)
+        (state S.Store look.new.conn) result }
     ensures plain { IfErr result IsPlain }
 {
     let answer = match act(alloc, look, request, now) {
@@ -100,16 +103,17 @@ pub(crate) fn take_one<S: Alter>(
 ) -> Result<Done, StoreFault>
     requires ready { look_fault look.old.fault ≡ None }
     requires lot { lot < 2 ^ 62 }
-    ensures turned { OnOk result (Turned (λ y. (taken lot (entry_of (request.now, now)) y).holding)
+    ensures turned { OnOk result (TurnedKnown look.old.known look.new.known
+        (λ y. (taken lot (entry_of (request.now, now)) y).holding)
         (state S.Store look.old.conn) (state S.Store look.new.conn)) }
     ensures done { HasCleanDisk (state S.Store look.new.conn) → IfOk result (λ done.
-        (y : Holding) → InsideFor y (state S.Store look.old.conn)
+        (y : Holding) → InsideKnown look.old.known y (state S.Store look.old.conn)
         → done ≡ (taken lot (entry_of (request.now, now)) y).done) }
-    ensures fails { OnErr result (KeepsFor (state S.Store look.old.conn)
+    ensures fails { OnErr result (KeepsKnown look.old.known (state S.Store look.old.conn)
         (state S.Store look.new.conn)) }
     ensures ready { look_fault look.new.fault ≡ None }
-    ensures fault { IsSure HeldFor (state S.Store look.old.conn) (state S.Store look.new.conn)
-        result }
+    ensures fault { IsSure (HeldForKnown look.old.known) (state S.Store look.old.conn)
+        (state S.Store look.new.conn) result }
     ensures plain { IfErr result IsPlain }
 {
     let known = match find_answer(&mut look.conn, Id::of(request.header.unique).0) {

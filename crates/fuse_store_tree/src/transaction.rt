@@ -10,6 +10,7 @@ ghost use Rattle.fuse_store_tables.specs.inner.Performing.{CommitsNothing, Perfo
 ghost use Rattle.fuse_store_tables.specs.Faults.{IsPlain};
 ghost use Rattle.fuse_store_tree.specs.Looking.{look_fault};
 ghost use Rattle.fuse_store_tree.specs.Holding.{Holding, HeldFor, ReportsAfter};
+ghost use Rattle.fuse_store_tree.specs.Knowing.{HeldForKnown, ReportsKnown, IsSafeKnown};
 ghost use Rattle.fuse_store_tree.specs.Group.{performed, all_dones, lot_for, IsSafeFor};
 ghost use Rattle.fuse_store_tree.specs.Group.{RefusesFor};
 
@@ -33,8 +34,8 @@ fn transact<S: Alter>(
     requires ready { look_fault look.old.fault ≡ None }
     requires lot { IfSome lot (λ n. n < 2 ^ 62) }
     ensures count { IfOk result (λ p. length p.dones.items ≡ length group.now) }
-    ensures performs { PerformsAs HeldFor
-        (λ y. HeldFor (performed lot (ids_of settled.now) (entries_of group.now) y))
+    ensures performs { PerformsAs (HeldForKnown look.old.known) (λ y. HeldForKnown look.new.known
+        (performed lot (ids_of settled.now) (entries_of group.now) y))
         (state S.Store look.old.conn) (state S.Store look.new.conn) result }
     ensures open { StaysOpen (state S.Store look.old.conn) (state S.Store look.new.conn) result }
     ensures ended { OnOk result (HasCleanDisk (state S.Store look.new.conn)
@@ -42,14 +43,14 @@ fn transact<S: Alter>(
     ensures lot { IfOk result (λ p. ReportsAfter (state S.Store look.old.conn)
         (state S.Store look.new.conn) (λ y. p.lot ≡ lot_for lot y)) }
     ensures low { IfOk result (λ p. p.lot < 2 ^ 62) }
-    ensures dones { IfOk result (λ p. ReportsAfter (state S.Store look.old.conn)
+    ensures dones { IfOk result (λ p. ReportsKnown look.old.known (state S.Store look.old.conn)
         (state S.Store look.new.conn) (λ y. p.dones.items
         ≡ all_dones lot (ids_of settled.now) (entries_of group.now) y)) }
     ensures ready { look_fault look.new.fault ≡ None }
-    ensures fault { IsSafeFor lot (state S.Store look.old.conn) (state S.Store look.new.conn)
-        result }
+    ensures fault { IsSafeKnown look.old.known lot (state S.Store look.old.conn)
+        (state S.Store look.new.conn) result }
     ensures refused { IfErr result (λ f. IsRefusal f → (y : Holding)
-        → RestsAs (HeldFor y) (state S.Store look.old.conn)
+        → RestsAs (HeldForKnown look.old.known y) (state S.Store look.old.conn)
         → CommitsNothing (state S.Store look.old.conn) (state S.Store look.new.conn)) }
     ensures plain { IfErr result IsPlain }
 {
@@ -102,6 +103,7 @@ pub fn perform<S: Alter>(
     // The fault is never `NotAStore` or `Version`.
     ensures plain { IfErr result IsPlain }
 {
+    look.known = None;
     match transact(alloc, look, lot, group, settled) {
         Ok(performed) => Ok(performed),
         Err(fault) => {

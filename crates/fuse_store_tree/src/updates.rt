@@ -10,8 +10,11 @@ ghost use Rattle.fuse_store_tables.specs.Content.{Content, HasSeconds, set_count
 ghost use Rattle.fuse_tree.specs.Columns.{FitsNode, FitsEntry, FitsHandle, FitsCounters};
 ghost use Rattle.fuse_tree.specs.Columns.{FitsRoom};
 ghost use Rattle.fuse_store_tables.specs.Moves.{Inside, Makes};
+ghost use Rattle.fuse_store_tree.specs.inner.Knowing.{ChangedKnown, known_after, counters_written};
 ghost use Rattle.fuse_store_tree.specs.inner.Writing.{with_change, with_used};
 
+use crate::meta::Meta;
+use crate::moved_counters::move_counters;
 use fuse_init::Settings;
 use fuse_keeper::StoreFault;
 use fuse_store_tables::{
@@ -184,19 +187,37 @@ fn set_all<S: Alter>(conn: &mut Connection<S>, n: &Counters) -> Result<(), Error
     set_used(conn, n.room)
 }
 
+// Changes the counters that aren't known to have these values.
+fn write_counters<S: Alter>(
+    conn: &mut Connection<S>,
+    known: Option<Meta>,
+    n: &Counters,
+) -> Result<(), Error>
+    requires { FitsCounters n.now }
+    ensures { Makes (counters_written known n.now) (state S.Store conn.old)
+        (state S.Store conn.new) result }
+{
+    match known {
+        None => set_all(conn, n),
+        Some(meta) => move_counters(conn, &meta.counters, n),
+    }
+}
+
 /// Changes the counters. The capacity stays: no change of a plan has another one.
 pub(crate) fn set_counters<S: Alter>(
     conn: &mut Connection<S>,
+    known: Option<Meta>,
     n: &Counters,
 ) -> Result<(), StoreFault>
     requires { FitsCounters n.now }
-    ensures changed { OnOk result (Changed (with_change (changes.Counters n.now))
-        (state S.Store conn.old) (state S.Store conn.new)) }
+    ensures changed { OnOk result (ChangedKnown known (known_after known (changes.Counters n.now))
+        (with_change (changes.Counters n.now)) (state S.Store conn.old)
+        (state S.Store conn.new)) }
     ensures fails { OnErr result (Keeps (state S.Store conn.old) (state S.Store conn.new)) }
     ensures fault { IfErr result (λ f. IsOutside f) }
     ensures plain { IfErr result IsPlain }
 {
-    match set_all(conn, n) {
+    match write_counters(conn, known, n) {
         Ok(()) => Ok(()),
         Err(error) => Err(StoreFault::from(error)),
     }

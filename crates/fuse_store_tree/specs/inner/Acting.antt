@@ -6,21 +6,25 @@ use Rattle.fuse_tree.specs.State.{State as TreeState, Tree}
 use Rattle.fuse_tree.specs.Done.{Done}
 use Rattle.fuse_tree.specs.Rows.{rowed}
 use Rattle.fuse_store_tables.specs.Moves.{InsideAs}
+use Rattle.fuse_store_tree.specs.declared.meta.Meta.{Meta}
 use Rattle.fuse_store_tree.specs.Store.{Store, Held}
+use Rattle.fuse_store_tree.specs.Knowing.{Knows}
 use Rattle.fuse_keeper.specs.declared.fault.StoreFault.{StoreFault}
 use Rattle.fuse_keeper.specs.declared.fault.StoreFault.TheVariants.{Memory, Damaged}
 use Rattle.fuse_tree.specs.declared.planning.fault.PlanFault.{PlanFault}
 use Rattle.fuse_store_tree.specs.inner.Writing.{with_rows}
 use Rattle.fuse_tree.specs.declared.planning.fault.PlanFault.TheVariants as plans
 
--- the tables held the rows of this tree, and hold those of the tree after the request; the answer is the one said
-pub record ActedInside (new : State) (x : Store) (d : Done) (answer : Said) : Type 0 where
+-- the tables held the rows of this tree, and hold those of the tree after the request; the answer is the one said, and what is known is right
+pub record ActedInside (known : Option Meta) (new : State) (x : Store) (d : Done) (answer : Said) : Type 0 where
   pub answer_is : answer ≡ d.said
   pub tree : Tree d.state
   pub inside : InsideAs (Held (with_rows (rowed d.state) x)) new
+  pub knows : Knows known (rowed d.state)
 
-abbrev pub ActsInside : State → State → TreeState → Done → Said → Type 0
-ActsInside old new s d answer = HasCleanDisk new → (x : Store) → x.rows ≡ rowed s → InsideAs (Held x) old → ActedInside new x d answer
+abbrev pub ActsInside : Option Meta → Option Meta → State → State → TreeState → Done → Said → Type 0
+ActsInside was is old new s d answer =
+    HasCleanDisk new → (x : Store) → x.rows ≡ rowed s → InsideAs (Held x) old → Knows was x.rows → ActedInside is new x d answer
 
 -- the fault that was the cause of one of a read
 abbrev pub cause_of : Option StoreFault → StoreFault

@@ -9,8 +9,9 @@ use Rattle.fuse_keeper.specs.declared.fault.StoreFault.{StoreFault}
 use Rattle.fuse_store_tables.specs.Faults.{IsOutside, IsPlain}
 use Rattle.fuse_store_tables.specs.Moves.{IsReady, Stays, Looked}
 use Rattle.fuse_store_tables.specs.inner.Following.{earlier, stays_then}
+use Rattle.fuse_store_tree.specs.declared.meta.Meta.{Meta}
 use Rattle.fuse_store_tree.specs.Holding.{HeldFor}
-use Rattle.fuse_store_tree.specs.Looking.{sees_in, WentWell, MayFail}
+use Rattle.fuse_store_tree.specs.Looking.{sees_in, sees_known, WentWell, MayFail}
 
 -- ---- looks
 
@@ -65,22 +66,32 @@ looked_ready a b p clean (y, at) =
       },
     )
 
-pub well_still : (a : State) (f : Option StoreFault) → WentWell a a f f
-well_still a f = record { looked = looked_still a; same = refl }
+pub well_still : (a : State) (f : Option StoreFault) (m : Option Meta) → WentWell a a f f m m
+well_still a f m = record { looked = looked_still a; same = refl; knows = λ clean rows sees knows. knows }
 
-pub well_then : (a b d : State) (f g h : Option StoreFault) → WentWell a b f g → WentWell b d g h → WentWell a d f h
-well_then a b d f g h p q = record { looked = looked_then a b d p.looked q.looked; same = q.same ∙ p.same }
+pub well_then : (a b d : State) (f g h : Option StoreFault) (m n o : Option Meta) → WentWell a b f g m n → WentWell b d g h n o → WentWell a d f h m o
+well_then a b d f g h m n o p q = record {
+  looked = looked_then a b d p.looked q.looked;
+  same = q.same ∙ p.same;
+  knows = λ clean rows sees knows.
+      let mid = earlier b d _ q.looked.stays.survives clean in
+      q.knows clean rows (looked_kept a b p.looked mid rows sees) (p.knows mid rows sees knows);
+}
 
-pub well_fails : (a b d : State) (f g h : Option StoreFault) → WentWell a b f g → MayFail b d g h → MayFail a d f h
-well_fails a b d f g h p q = record {
+pub well_fails : (a b d : State) (f g h : Option StoreFault) (m n : Option Meta) → WentWell a b f g m n → MayFail b d g h → MayFail a d f h
+well_fails a b d f g h m n p q = record {
   stays = looked_fails a b d p.looked q.stays;
   plain = λ none. q.plain (p.same ∙ none);
   sure = λ none clean ready. q.sure (p.same ∙ none) clean (looked_ready a b p.looked (earlier b d _ q.stays.survives clean) ready);
 }
 
-pub well_less : (a b : State) (f g : Option StoreFault) → WentWell a b f g → MayFail a b f g
-well_less a b f g p = record {
+pub well_less : (a b : State) (f g : Option StoreFault) (m n : Option Meta) → WentWell a b f g m n → MayFail a b f g
+well_less a b f g m n p = record {
   stays = p.looked.stays;
   plain = λ none. subst (λ o. IfSome o IsPlain) (sym (p.same ∙ none)) tt;
   sure = λ none clean ready. subst (λ o. IfSome o IsOutside) (sym (p.same ∙ none)) tt;
 }
+
+pub well_kept : (a b : State) (f g : Option StoreFault) (m n : Option Meta) → WentWell a b f g m n → HasCleanDisk b → (rows : Rows) → sees_known m a rows
+    → sees_known n b rows
+well_kept a b f g m n p clean rows sees = (looked_kept a b p.looked clean rows sees.0, p.knows clean rows sees.0 sees.1)

@@ -2,8 +2,6 @@
 use Rattle.std.specs.Prelude.{◌==◌, if◌then◌else◌, ◌+◌, replicate, zero, suc, nat_lt, min, length, ◌-◌, ℕ, List, [], ◌∷◌, Option, Some, None, slice_index_or}
 use Rattle.fuse_init.specs.declared.settings.Settings.{Settings}
 use Rattle.fuse_tree.specs.Bounds.{block_bytes}
-use Rattle.fuse_tree.specs.State.{profile_for}
-use Rattle.fuse_tree.specs.declared.agreement.Agreement.{Agreement}
 use Rattle.fuse_tree.specs.declared.rows.NodeRow.{NodeRow}
 use Rattle.fuse_tree.specs.declared.rows.Counters.{Counters as CountersRow}
 use Rattle.fuse_tree.specs.declared.rows.Room.{Room}
@@ -31,9 +29,6 @@ counted_in cs = record {
 
 abbrev pub agreed_in : List Counter → Option Settings
 agreed_in cs = if value_of cs 6 == 0 then None else Some (record { minor = value_of cs 7; max_readahead = value_of cs 8; flags = record { 0 = value_of cs 9 } })
-
-abbrev pub agreement_in : List Counter → Agreement
-agreement_in cs = record { profile = profile_for (room_in cs); settings = agreed_in cs }
 
 -- so many values of a function from a place on
 abbrev pub range_of : (ℕ → ℕ) → ℕ → ℕ → List ℕ

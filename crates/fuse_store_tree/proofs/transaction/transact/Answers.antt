@@ -2,9 +2,9 @@ use Rattle.std.proofs.Common.{◌≡◌}
 use Rattle.sqlite.specs.Held.{state}
 use Rattle.fuse_keeper.specs.Group.{ids_of, entries_of}
 use Rattle.fuse_store_tables.specs.inner.Transaction.{failed_first, failed_inside, failed_commit, committed}
-use Rattle.fuse_store_tree.specs.Holding.{HeldFor}
+use Rattle.fuse_store_tree.specs.Knowing.{HeldForKnown}
 use Rattle.fuse_store_tree.specs.Group.{performed, all_dones, lot_for}
-use Rattle.fuse_store_tree.proofs.Whole.{takes_for, fails_for, told_after}
+use Rattle.fuse_store_tree.proofs.Whole.{takes_for, fails_for, told_after, lot_after}
 use Rattle.fuse_store_tables.specs.inner.Following.{earlier}
 use Rattle.fuse_store_tree.proofs.Whole.{begun_for, unrefusing, nothing_for}
 use Rattle.fuse_store_tables.specs.inner.Transaction.{open_first, open_inside, open_failed, open_committed}
@@ -12,8 +12,8 @@ use Rattle.fuse_store_tree.proofs.transaction.transact.Goals as goal
 
 pub returns-in-Err-clause-performs : goal.returns-in-Err-clause-performs
 returns-in-Err-clause-performs g c =
-    failed_first HeldFor (λ y. HeldFor (performed c.args.lot (ids_of c.args.settled.now) (entries_of c.args.group.now) y))
-    (state g.S.Store c.args.look.now.conn) (state g.S.Store c.begin.new.conn) c.in-Err.error c.from.result c.in-Err.ensures
+    failed_first (HeldForKnown c.args.look.now.known) (λ y. HeldForKnown c.args.look.now.known
+    (performed c.args.lot (ids_of c.args.settled.now) (entries_of c.args.group.now) y)) (state g.S.Store c.args.look.now.conn) (state g.S.Store c.begin.new.conn) c.in-Err.error c.from.result c.in-Err.ensures
 
 pub returns-in-Err-perform_in-clause-performs : goal.returns-in-Err-perform_in-clause-performs
 returns-in-Err-perform_in-clause-performs g c =
@@ -21,36 +21,42 @@ returns-in-Err-perform_in-clause-performs g c =
     let b = state g.S.Store c.begin.new.conn in
     let d = state g.S.Store c.perform_in.new.look.conn in
     let fault = c.in-Err-perform_in.fault in
-    failed_inside HeldFor (λ y. HeldFor (all y)) (λ y. HeldFor (all y)) (state g.S.Store c.args.look.now.conn) b d _ fault fault c.in-Ok.ensures
-    (fails_for {X = Unit {0}} all b d fault c.in-Err-perform_in.ensures.fails)
+    let m = c.args.look.now.known in
+    let n = c.perform_in.new.look.known in
+    failed_inside (HeldForKnown m) (λ y. HeldForKnown n (all y)) (λ y. HeldForKnown n (all y)) (state g.S.Store c.args.look.now.conn) b d _ fault fault
+    c.in-Ok.ensures (fails_for {X = Unit {0}} m n all b d fault c.in-Err-perform_in.ensures.fails)
 
 pub returns-in-Err-commit-clause-performs : goal.returns-in-Err-commit-clause-performs
 returns-in-Err-commit-clause-performs g c =
     let all = performed c.args.lot (ids_of c.args.settled.now) (entries_of c.args.group.now) in
     let b = state g.S.Store c.begin.new.conn in
     let d = state g.S.Store c.perform_in.new.look.conn in
-    failed_commit HeldFor (λ y. HeldFor (all y)) (state g.S.Store c.args.look.now.conn) b d (state g.S.Store c.commit.new.conn) _
+    let m = c.args.look.now.known in
+    let n = c.perform_in.new.look.known in
+    failed_commit (HeldForKnown m) (λ y. HeldForKnown n (all y)) (state g.S.Store c.args.look.now.conn) b d (state g.S.Store c.commit.new.conn) _
     c.in-Ok-perform_in.performed c.in-Err-commit.error c.from-in-Err-commit.result c.in-Ok.ensures
-    (takes_for all b d c.in-Ok-perform_in.performed c.in-Ok-perform_in.ensures.turned) c.in-Err-commit.ensures
+    (takes_for m n all b d c.in-Ok-perform_in.performed c.in-Ok-perform_in.ensures.turned) c.in-Err-commit.ensures
 
 pub returns-in-Ok-commit-clause-performs : goal.returns-in-Ok-commit-clause-performs
 returns-in-Ok-commit-clause-performs g c =
     let all = performed c.args.lot (ids_of c.args.settled.now) (entries_of c.args.group.now) in
     let b = state g.S.Store c.begin.new.conn in
     let d = state g.S.Store c.perform_in.new.look.conn in
-    committed HeldFor (λ y. HeldFor (all y)) (state g.S.Store c.args.look.now.conn) b d (state g.S.Store c.commit.new.conn) _
+    let m = c.args.look.now.known in
+    let n = c.perform_in.new.look.known in
+    committed (HeldForKnown m) (λ y. HeldForKnown n (all y)) (state g.S.Store c.args.look.now.conn) b d (state g.S.Store c.commit.new.conn) _
     c.in-Ok-perform_in.performed _ c.in-Ok-perform_in.performed c.in-Ok.ensures
-    (takes_for all b d c.in-Ok-perform_in.performed c.in-Ok-perform_in.ensures.turned) c.in-Ok-commit.ensures
+    (takes_for m n all b d c.in-Ok-perform_in.performed c.in-Ok-perform_in.ensures.turned) c.in-Ok-commit.ensures
 
 pub returns-in-Ok-commit-clause-lot : goal.returns-in-Ok-commit-clause-lot
 returns-in-Ok-commit-clause-lot g c =
-    told_after (λ y. c.in-Ok-perform_in.performed.lot ≡ lot_for c.args.lot y) (state g.S.Store c.args.look.now.conn) (state g.S.Store c.begin.new.conn)
+    lot_after c.args.look.now.known (λ y. c.in-Ok-perform_in.performed.lot ≡ lot_for c.args.lot y) (state g.S.Store c.args.look.now.conn) (state g.S.Store c.begin.new.conn)
     (state g.S.Store c.perform_in.new.look.conn) (state g.S.Store c.commit.new.conn) _ _ c.in-Ok.ensures
     c.in-Ok-perform_in.ensures.turned.stays c.in-Ok-perform_in.ensures.lot c.in-Ok-commit.ensures
 
 pub returns-in-Ok-commit-clause-dones : goal.returns-in-Ok-commit-clause-dones
 returns-in-Ok-commit-clause-dones g c =
-    told_after (λ y. c.in-Ok-perform_in.performed.dones.items ≡ all_dones c.args.lot (ids_of c.args.settled.now) (entries_of c.args.group.now) y)
+    told_after c.args.look.now.known (λ y. c.in-Ok-perform_in.performed.dones.items ≡ all_dones c.args.lot (ids_of c.args.settled.now) (entries_of c.args.group.now) y)
     (state g.S.Store c.args.look.now.conn) (state g.S.Store c.begin.new.conn) (state g.S.Store c.perform_in.new.look.conn)
     (state g.S.Store c.commit.new.conn) _ _ c.in-Ok.ensures c.in-Ok-perform_in.ensures.turned.stays
     c.in-Ok-perform_in.ensures.dones c.in-Ok-commit.ensures
@@ -60,7 +66,7 @@ returns-in-Err-perform_in-clause-fault g c clean y at left =
     let b = state g.S.Store c.begin.new.conn in
     let d = state g.S.Store c.perform_in.new.look.conn in
     let mid = earlier b d _ c.in-Err-perform_in.ensures.fails.survives clean in
-    c.in-Err-perform_in.ensures.fault clean y (begun_for (state g.S.Store c.args.look.now.conn) b _ c.in-Ok.ensures mid y at) left
+    c.in-Err-perform_in.ensures.fault clean y (begun_for c.args.look.now.known (state g.S.Store c.args.look.now.conn) b _ c.in-Ok.ensures mid y at) left
 
 pub returns-in-Err-clause-open : goal.returns-in-Err-clause-open
 returns-in-Err-clause-open g c =
@@ -91,7 +97,7 @@ returns-in-Err-clause-refused g c = λ refused. absurd (unrefusing c.in-Err.erro
 
 pub returns-in-Err-perform_in-clause-refused : goal.returns-in-Err-perform_in-clause-refused
 returns-in-Err-perform_in-clause-refused g c = λ refused.
-    nothing_for (state g.S.Store c.args.look.now.conn) (state g.S.Store c.begin.new.conn) (state g.S.Store c.perform_in.new.look.conn) _ c.in-Ok.ensures
+    nothing_for c.args.look.now.known (state g.S.Store c.args.look.now.conn) (state g.S.Store c.begin.new.conn) (state g.S.Store c.perform_in.new.look.conn) _ c.in-Ok.ensures
     c.in-Err-perform_in.ensures.fails
 
 pub returns-in-Err-commit-clause-refused : goal.returns-in-Err-commit-clause-refused

@@ -1,24 +1,14 @@
 use Rattle.std.proofs.Common.{ap, ◌∙◌}
 use Rattle.sqlite.specs.Held.{state}
-use Rattle.fuse_tree.specs.Rows.{agreement_at}
-use Rattle.fuse_store_tree.specs.inner.Reading.{agreement_in}
-use Rattle.fuse_store_tree.proofs.Described.{inside_of}
-use Rattle.fuse_store_tree.proofs.Once.{agreement_back}
-use Rattle.fuse_store_tree.proofs.Turning.{content_in}
+use Rattle.fuse_store_tree.specs.inner.Knowing.{agreed_on}
 use Rattle.fuse_store_tree.proofs.Sure.{failed_so}
-use Rattle.fuse_store_tree.proofs.Few.{eleven, minor_fits, readahead_fits}
 use Rattle.fuse_store_tree.proofs.look.TableLookLook.agreement.Goals as goal
 
 pub returns-in-Ok-clause-row : goal.returns-in-Ok-clause-row
-returns-in-Ok-clause-row g c clean rows rowed (x, at, is) =
-    c.in-Ok.ensures.value clean at.holds.0 (inside_of x (state g.S.Store c.args.self.now.conn) at)
-    ∙ ap agreement_in at.holds.2.counters ∙ agreement_back x.rows x.next_lot ∙ ap agreement_at is
+returns-in-Ok-clause-row g c clean rows rowed sees = c.agreement_of.ensures ∙ ap agreed_on (c.in-Ok.ensures.value clean rows sees.0 sees.1)
 
 pub returns-in-Err-clause-fails : goal.returns-in-Err-clause-fails
 returns-in-Err-clause-fails g c =
-    let a = state g.S.Store c.args.self.now.conn in
     rw c.fail.ensures.conn
-    (failed_so a (state g.S.Store c.find_agreement.new.conn) c.args.self.now.fault c.fail.new.self.fault c.in-Err.fault c.fail.ensures.kept
-    c.in-Err.ensures.fails c.in-Err.ensures.plain
-    (λ clean y at. c.in-Err.ensures.fault clean at.holds.held.0 (content_in y a at) (eleven y a.now at.holds)
-    (minor_fits y a.now at.holds) (readahead_fits y a.now at.holds)))
+    (failed_so (state g.S.Store c.args.self.now.conn) (state g.S.Store c.find_meta.new.self.conn) c.args.self.now.fault c.fail.new.self.fault c.in-Err.fault
+    c.fail.ensures.kept c.in-Err.ensures.fails c.in-Err.ensures.plain c.in-Err.ensures.fault)

@@ -8,7 +8,7 @@ use Rattle.fuse_store_tree.proofs.Few.{sizes_fit}
 use Rattle.fuse_store_tree.proofs.look.TableLookLook.bytes.Goals as goal
 
 pub returns-in-Ok-clause-bytes : goal.returns-in-Ok-clause-bytes
-returns-in-Ok-clause-bytes g c clean rows rowed (x, at, is) =
+returns-in-Ok-clause-bytes g c clean rows rowed ((x, at, is), knows) =
     c.in-Ok.ensures.value clean at.holds.0 (inside_of x (state g.S.Store c.args.self.now.conn) at) at.holds.2.fits
     ∙ bytes_are x at.holds.0 (subst IsRowed (sym is) rowed) at.holds.2 c.args.node c.args.offset c.args.len
     ∙ ap (λ (r : Rows). bytes_at r c.args.node c.args.offset c.args.len) is

@@ -5,7 +5,7 @@ use Rattle.fuse_store_tree.proofs.Described.{inside_of, row_told}
 use Rattle.fuse_store_tree.proofs.look.TableLookLook.node.Goals as goal
 
 pub returns-in-Ok-clause-row : goal.returns-in-Ok-clause-row
-returns-in-Ok-clause-row g c clean rows rowed (x, at, is) =
+returns-in-Ok-clause-row g c clean rows rowed ((x, at, is), knows) =
     c.in-Ok.ensures.value clean at.holds.0 (inside_of x (state g.S.Store c.args.self.now.conn) at) at.holds.2.fits
     ∙ row_told x at.holds.0 (subst IsRowed (sym is) rowed) at.holds.2 c.args.number
     ∙ ap (λ (r : Rows). row_at r c.args.number) is

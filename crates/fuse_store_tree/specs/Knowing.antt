@@ -1,0 +1,31 @@
+-- What is known of the table `meta` from an earlier read (own profile).
+use Rattle.std.specs.Prelude.{◌≡◌, ℕ, Option, IfSome, Result, IfErr}
+use Rattle.sqlite.specs.Effect.{Database}
+use Rattle.sqlite.specs.State.{State, HasCleanDisk}
+use Rattle.fuse_tree.specs.Rows.{Rows, rowed}
+use Rattle.fuse_keeper.specs.declared.fault.StoreFault.{StoreFault}
+use Rattle.fuse_store_tables.specs.Faults.{IsOutside}
+use Rattle.fuse_store_tables.specs.Moves.{RestsAs}
+use Rattle.fuse_store_tree.specs.declared.meta.Meta.{Meta}
+use Rattle.fuse_store_tree.specs.Holding.{Holding, HeldFor}
+use Rattle.fuse_store_tree.specs.Group.{HasLotLeft}
+
+-- the counters and the settings of these rows
+abbrev pub meta_of : Rows → Meta
+meta_of rows = record { counters = rows.counters; settings = rows.settings }
+
+-- what is known is that of these rows
+abbrev pub Knows : Option Meta → Rows → Type 0
+Knows known rows = IfSome known (λ m. m ≡ meta_of rows)
+
+-- a database of the tables that holds this, where what is known is right
+abbrev pub HeldForKnown : Option Meta → Holding → Database → Type 0
+HeldForKnown known y d = HeldFor y d × Knows known (rowed y.tree)
+
+-- of the holding before a whole transaction, where what is known of it is right, if the disk returned what was written
+abbrev pub ReportsKnown : Option Meta → State → State → (Holding → Type 0) → Type 0
+ReportsKnown known old new P = HasCleanDisk new → (y : Holding) → RestsAs (HeldForKnown known y) old → P y
+
+-- where it was right, a fault of a whole transaction says nothing of the store, unless no lot number is left
+abbrev pub IsSafeKnown : {X : Type 0} → Option Meta → Option ℕ → State → State → Result X StoreFault → Type 0
+IsSafeKnown known lot old new r = HasCleanDisk new → IfErr r (λ f. (y : Holding) → RestsAs (HeldForKnown known y) old → HasLotLeft lot y → IsOutside f)
