@@ -17,6 +17,7 @@ pub mod Looks
 pub mod Resting
 pub mod HandleRows
 pub mod KeptRows
+pub mod FourGone
 pub mod EntryRows
 pub mod NodeRows
 pub mod LotRows

@@ -186,6 +186,9 @@ with_kept k c = record c { kept = put_by kept_key k c.kept }
 abbrev pub without_kept : ℕ → Content → Content
 without_kept id c = record c { kept = without_by kept_key id c.kept }
 
+abbrev pub without_four : ℕ → ℕ → ℕ → ℕ → Content → Content
+without_four first second third last c = without_kept last (without_kept third (without_kept second (without_kept first c)))
+
 abbrev pub with_counter : ℕ → ℕ → Content → Content
 with_counter key value c = record c { counters = put_by counter_key (record { key = key; value = value }) c.counters }
 

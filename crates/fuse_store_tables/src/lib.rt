@@ -30,6 +30,8 @@ pub use fresh::set_up_fresh;
 pub use handles::{delete_handle, insert_handle, select_handle, select_handles_of};
 pub use mount::begin_mount;
 pub use nodes::{delete_node, insert_node, put_node, select_node, sum_sizes};
-pub use records::{count_kept, count_lots, delete_kept, insert_kept, insert_lot, select_kept};
+pub use records::{
+    count_kept, count_lots, delete_four_kept, delete_kept, insert_kept, insert_lot, select_kept,
+};
 pub use setup::set_up;
 pub use statements::{begin, commit, undo};

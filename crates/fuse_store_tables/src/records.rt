@@ -1,5 +1,5 @@
 // The tables of records and of lots.
-ghost use Rattle.std.specs.Prelude.{◌≡◌, ◌<◌, ◌^◌, [], ◌∷◌, pos, map, length, IfOk, IfErr};
+ghost use Rattle.std.specs.Prelude.{◌≡◌, ◌<◌, ◌≤◌, ◌^◌, [], ◌∷◌, pos, map, length, IfOk, IfErr};
 ghost use Rattle.std.specs.Prelude.{OnOk, OnErr};
 ghost use Rattle.std.specs.Option.{option_to_list};
 ghost use Rattle.sqlite.specs.declared.types.Value.TheVariants.{Int, Blob};
@@ -11,7 +11,7 @@ ghost use Rattle.fuse_store_tables.specs.Moves.{StaysOpen};
 ghost use Rattle.fuse_store_tables.specs.Clearing.{counted_to};
 ghost use Rattle.fuse_store_tables.specs.inner.Columns.{shown_number};
 ghost use Rattle.fuse_store_tables.specs.Content.{Content, Holds, kept_key, at_by, with_kept};
-ghost use Rattle.fuse_store_tables.specs.Content.{without_kept};
+ghost use Rattle.fuse_store_tables.specs.Content.{without_kept, without_four};
 ghost use Rattle.fuse_store_tables.specs.Content.{with_lot};
 ghost use Rattle.fuse_store_tables.specs.inner.Steps.{without_all_kept, without_lots};
 ghost use Rattle.fuse_store_tables.specs.Content.{shown_kept};
@@ -32,6 +32,9 @@ const INSERT: &str = "INSERT INTO kept VALUES (?1, ?2, ?3, ?4)";
 const INSERT_LOT: &str = "INSERT INTO lots VALUES (?1)";
 
 const DELETE: &str = "DELETE FROM kept WHERE id = ?1";
+
+// The bounds are there for the search: no row outside is read.
+const DELETE_FOUR: &str = "DELETE FROM kept WHERE id >= ?1 AND id <= ?4 AND id IN (?1, ?2, ?3, ?4)";
 
 const DELETE_ALL: &str = "DELETE FROM kept";
 
@@ -103,6 +106,42 @@ pub fn delete_kept<S: Alter>(conn: &mut Connection<S>, id: u64) -> Result<(), Er
 {
     let values = number(id);
     run(conn, DELETE, &values)
+}
+
+// The parameters of four ids.
+fn four_values(first: u64, second: u64, third: u64, last: u64) -> [ValueRef<'static>; 4]
+    requires first { first < 2 ^ 63 }
+    requires second { second < 2 ^ 63 }
+    requires third { third < 2 ^ 63 }
+    requires last { last < 2 ^ 63 }
+    ensures { bound result ≡ Int (pos first) ∷ Int (pos second) ∷ Int (pos third)
+        ∷ Int (pos last) ∷ [] }
+{
+    [
+        (first as i64).to_sql(),
+        (second as i64).to_sql(),
+        (third as i64).to_sql(),
+        (last as i64).to_sql(),
+    ]
+}
+
+/// Deletes the records of four ids in rising order, where there are any, by one statement.
+pub fn delete_four_kept<S: Alter>(
+    conn: &mut Connection<S>,
+    first: u64,
+    second: u64,
+    third: u64,
+    last: u64,
+) -> Result<(), Error>
+    requires second { first ≤ second }
+    requires third { second ≤ third }
+    requires last { third ≤ last }
+    requires small { last < 2 ^ 63 }
+    ensures { Makes (without_four first second third last) (state S.Store conn.old)
+        (state S.Store conn.new) result }
+{
+    let values = four_values(first, second, third, last);
+    run(conn, DELETE_FOUR, &values)
 }
 
 /// Deletes every record.

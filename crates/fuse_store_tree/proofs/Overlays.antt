@@ -64,11 +64,11 @@ overlay_more node at p q g n i = elim (cases_Bool (n == node)) [
   ])
 ]
 
-pub take_plus : (m n : ℕ) (xs : List ℕ) → take (m + n) xs ≡ take m xs ++ take n (drop m xs)
+pub take_plus : {X : Type 0} (m n : ℕ) (xs : List X) → take (m + n) xs ≡ take m xs ++ take n (drop m xs)
 take_plus zero n xs = let e : 0 + n ≡ n = omega arith in ap (λ k. take k xs) e
-take_plus (suc m) n [] = let e : suc m + n ≡ suc (m + n) = omega arith in ap (λ k. take {A = ℕ} k []) e ∙ nothing n
+take_plus {X} (suc m) n [] = let e : suc m + n ≡ suc (m + n) = omega arith in ap (λ k. take {A = X} k []) e ∙ nothing n
   where
-    nothing : (k : ℕ) → ◌≡◌ {A = List ℕ} [] (take k [])
+    nothing : (k : ℕ) → ◌≡◌ {A = List X} [] (take k [])
     nothing zero = refl
     nothing (suc k) = refl
 take_plus (suc m) n (x ∷ xs) = let e : suc m + n ≡ suc (m + n) = omega arith in ap (λ k. take k (x ∷ xs)) e ∙ ap (λ l. x ∷ l) (take_plus m n xs)

@@ -1,7 +1,6 @@
 -- Records and lots, as steps on what is held.
-use Rattle.std.proofs.Common.{length, take, get_or, Ok, Some, None, Option, ◌++◌, ◌≡◌, ◌≤◌, ◌<◌, ◌^◌, ◌+◌, ℕ, List, [], ◌∷◌, refl, sym, ap, subst, arith, ◌∙◌}
+use Rattle.std.proofs.Common.{take, drop, Ok, Some, None, Option, ◌++◌, ◌≡◌, ◌≤◌, ◌<◌, ◌^◌, ◌+◌, ℕ, List, [], ◌∷◌, refl, sym, ap, subst, arith, ◌∙◌}
 use Rattle.std.specs.List.{AllByRecursion}
-use Rattle.std.proofs.lemmas.List.{take_more}
 use Rattle.sqlite.specs.State.{State, HasCleanDisk}
 use Rattle.sqlite.specs.declared.error.Error.{Error}
 use Rattle.fuse_answer.specs.Said.{Said, FitsAnswer}
@@ -14,7 +13,7 @@ use Rattle.fuse_wire.specs.declared.id.Id.{Id}
 use Rattle.fuse_keeper.specs.History.{Entry, entry_id}
 use Rattle.fuse_keeper.specs.Group.{ids_of}
 use Rattle.fuse_keeper.specs.declared.keeper.Done.{Done}
-use Rattle.fuse_store_tables.specs.Content.{Content, Kept, kept_key, put_by, without_by, with_kept, without_kept, with_lot, set_counter}
+use Rattle.fuse_store_tables.specs.Content.{Content, Kept, kept_key, put_by, without_by, with_kept, without_kept, without_four, with_lot, set_counter}
 use Rattle.fuse_store_tables.specs.Moves.{Makes, Inside, Looked}
 use Rattle.fuse_store_tables.specs.inner.Following.{earlier}
 use Rattle.fuse_store_tree.specs.Fits.{Fits, KeepsRecord}
@@ -28,6 +27,7 @@ use Rattle.fuse_store_tree.specs.inner.Laws.{looked_still}
 use Rattle.fuse_store_tree.proofs.Steps.{made, made_known}
 use Rattle.fuse_store_tree.proofs.Looks.{key_differs, all_map}
 use Rattle.fuse_store_tree.proofs.Orders.{all_put, all_filter}
+use Rattle.fuse_store_tree.proofs.Overlays.{take_plus}
 use Rattle.fuse_store_tree.specs.Holding.{Holding, AreBelow, store_of}
 use Rattle.fuse_store_tree.specs.Group.{without_record, without_settled, with_record, with_new_lot, with_act, said_of, acted_on, taken, taken_by, answered}
 use Rattle.fuse_store_tree.specs.Group.{repeats}
@@ -61,6 +61,13 @@ pub forgot : {X : Type 0} (id : ℕ) (a b : State) (x : X) → Makes {X = X} {E 
 forgot id a b x p = lifted (λ s. record s { kept = without_by kept_key id s.kept }) (without_record id) a b (λ clean y at.
     (refl, at.holds.tree, at.holds.below, at.holds.next))
     (made (without_kept id) (λ s. record s { kept = without_by kept_key id s.kept }) a b x (record_gone id) p)
+
+pub forgot_four : {X : Type 0} (m n o p : ℕ) (a b : State) (x : X) → Makes {X = X} {E = Error} (without_four m n o p) a b (Ok x)
+    → Turned (without_settled (m ∷ n ∷ o ∷ p ∷ [])) a b
+forgot_four m n o p a b x q =
+    let gone = λ (s : Store). record s { kept = without_by kept_key p (without_by kept_key o (without_by kept_key n (without_by kept_key m s.kept))) } in
+    lifted gone (without_settled (m ∷ n ∷ o ∷ p ∷ [])) a b (λ clean y at. (refl, at.holds.tree, at.holds.below, at.holds.next))
+    (made (without_four m n o p) gone a b x (λ s c at. record_gone p _ _ (record_gone o _ _ (record_gone n _ _ (record_gone m s c at)))) q)
 
 -- no record has an id so high
 none_goes : (id : ℕ) (ks : List Kept) → 2 ^ 63 ≤ id → AllByRecursion KeepsRecord ks → without_by kept_key id ks ≡ ks
@@ -122,20 +129,17 @@ acts m n e a b answer keeps acted = record {
 
 -- ---- settled ids
 
-settled_last : (xs : List Id) (x : Id) (y : Holding) → without_settled (ids_of (xs ++ x ∷ [])) y ≡ without_record x.0 (without_settled (ids_of xs) y)
-settled_last [] x y = refl
-settled_last (z ∷ xs) x y = settled_last xs x (without_record z.0 y)
+settled_both : (xs ys : List Id) (y : Holding) → without_settled (ids_of (xs ++ ys)) y ≡ without_settled (ids_of ys) (without_settled (ids_of xs) y)
+settled_both [] ys y = refl
+settled_both (x ∷ xs) ys y = settled_both xs ys (without_record x.0 y)
 
-pub settled_more : (xs : List Id) (x : Id) (a b d : State) → Turned (without_settled (ids_of xs)) a b → Turned (without_record x.0) b d
-    → Turned (without_settled (ids_of (xs ++ x ∷ []))) a d
-settled_more xs x a b d p q = turned_same (λ y. without_record x.0 (without_settled (ids_of xs) y)) (without_settled (ids_of (xs ++ x ∷ []))) a d
-    (λ y. sym (settled_last xs x y)) (turned_then (without_settled (ids_of xs)) (without_record x.0) a b d p q)
-
--- one more, by its place
-pub settled_at : (ids : List Id) (i : ℕ) (x : Id) (a b d : State) → i < length ids → Turned (without_settled (ids_of (take i ids))) a b
-    → Turned (without_record (get_or ids i x).0) b d → Turned (without_settled (ids_of (take (i + 1) ids))) a d
-settled_at ids i x a b d low p q = subst (λ l. Turned (without_settled (ids_of l)) a d) (sym (take_more ids i x low))
-    (settled_more (take i ids) (get_or ids i x) a b d p q)
+-- those of the next ids too
+pub settled_on : (ids : List Id) (m n : ℕ) (a b d : State) → Turned (without_settled (ids_of (take m ids))) a b
+    → Turned (without_settled (ids_of (take n (drop m ids)))) b d → Turned (without_settled (ids_of (take (m + n) ids))) a d
+settled_on ids m n a b d p q = turned_same (λ y. without_settled (ids_of (take n (drop m ids))) (without_settled (ids_of (take m ids)) y))
+    (without_settled (ids_of (take (m + n) ids))) a d (λ y. sym (ap (λ l. without_settled (ids_of l) y) (take_plus m n ids)
+    ∙ settled_both (take m ids) (take n (drop m ids)) y))
+    (turned_then (without_settled (ids_of (take m ids))) (without_settled (ids_of (take n (drop m ids)))) a b d p q)
 
 -- ---- the next lot
 
