@@ -16,31 +16,33 @@ use Rattle.fuse_init.specs.declared.profile.Profile.{Profile}
 use Rattle.fuse_tree.specs.Plan.{RowsTellState}
 use Rattle.fuse_store_tables.specs.Moves.{ServesAs}
 use Rattle.fuse_store_tree.specs.Store.{records_of}
-use Rattle.fuse_store_tree.specs.Holding.{Holding, HeldFor, ReportsAfter, lots_of}
+use Rattle.fuse_store_tree.specs.Holding.{Holding, ReportsAfter, lots_of}
 use Rattle.fuse_store_tree.specs.Group.{performed, all_dones, lot_for}
+use Rattle.fuse_store_tree.specs.declared.meta.Meta.{Meta}
+use Rattle.fuse_store_tree.specs.Knowing.{HeldForKnown, ReportsKnown}
 use Rattle.fuse_store_tree.specs.Lots.{lots_in, LotsAreSame}
 use Rattle.fuse_store_tree.specs.Performing.{OneHolding, content_of, HoldingStands, CallsPerform}
 use Rattle.fuse_tree.specs.TheTree.{tree_of}
 use Rattle.fuse_store.specs.TableState.{IsOf, HoldsIn, table_told}
-use Rattle.fuse_store.proofs.Serving.{Settled, stands_on, moved, holds_at, leaves_both, leaves_either}
+use Rattle.fuse_store.proofs.Serving.{Settled, stands_on, moved, holds_at, known_rests, leaves_both, leaves_either}
 
 pub its_own : (y : Holding) → IsOf y (rowed y.tree) (records_of y.kept)
 its_own y = record { rows_are = refl; records_are = λ i. refl }
 
-module _ (p : Profile) (one : OneHolding) (law : CallsPerform p) (lot : Option ℕ) (ids : List ℕ) (es : List Entry) (a b : State) {X : Type 0} (x : X)
-    (serves : ServesAs {E = StoreFault} HeldFor (λ y. HeldFor (performed lot ids es y)) a b (Ok x)) where
-  pub performs : (now : Option ℕ) (was is : Bool) (dones : List Done) → ReportsAfter a b (λ y. dones ≡ all_dones lot ids es y)
-      → Performs (table_told p ⊥ a lot was) (table_told p ⊥ b now is) ids es dones
+module _ (p : Profile) (one : OneHolding) (law : CallsPerform p) (m n : Option Meta) (lot : Option ℕ) (ids : List ℕ) (es : List Entry) (a b : State)
+    {X : Type 0} (x : X) (serves : ServesAs {E = StoreFault} (HeldForKnown m) (λ y. HeldForKnown n (performed lot ids es y)) a b (Ok x)) where
+  pub performs : (now : Option ℕ) (was is : Bool) (dones : List Done) → ReportsKnown m a b (λ y. dones ≡ all_dones lot ids es y)
+      → Performs (table_told p ⊥ m a lot was) (table_told p ⊥ n b now is) ids es dones
   performs now was is dones told clean s h t so within each =
       let y = so.held.holding in
       let z = performed lot ids es y in
       let all = law.group lot ids es y s h t so.held.rests.holds.tree within each (stands_on p y so.rows so.records s h t so.held.is_of so.stands) in
-      let same : dones ≡ all_dones lot ids es y = told clean y so.held.rests in
-      subst (λ ds. PerformedBy (tree_of p) (HoldsIn b) (record { state = s; history = h; settled = t }) es ds) (sym same) (record {
+      let same : dones ≡ all_dones lot ids es y = told clean y (known_rests so.held) in
+      subst (λ ds. PerformedBy (tree_of p) (HoldsIn n b) (record { state = s; history = h; settled = t }) es ds) (sym same) (record {
         stands = record {
           rows = all.stands.rows;
           records = all.stands.records;
-          held = holds_at one b z all.stands.rows all.stands.records (serves.done clean y so.held.rests)
+          held = holds_at one n b z all.stands.rows all.stands.records (serves.done clean y (known_rests so.held))
               (record { rows_are = all.stands.held.0; records_are = all.stands.held.1 });
           stands = all.stands.stands;
         };
@@ -49,40 +51,40 @@ module _ (p : Profile) (one : OneHolding) (law : CallsPerform p) (lot : Option �
       })
 
   pub others_so : {memory : Type 0} → RowsTellState → (now : Option ℕ) (was is : Bool)
-      → KeepsOthers (table_told p memory a lot was) (table_told p memory b now is) ids es
+      → KeepsOthers (table_told p memory m a lot was) (table_told p memory n b now is) ids es
   unfolding IsRowed
   others_so tell now was is clean rows records at is_rowed =
       let y = at.holding in
       let same = tell is_rowed.0 y.tree (sym is_rowed.2 ∙ at.is_of.rows_are) in
       let z = performed lot ids es y in
-      let after = serves.done clean y at.rests in
+      let after = serves.done clean y (known_rests at) in
       record {
         rows = rowed z.tree;
         records = records_of z.kept;
-        held = holds_at one b z (rowed z.tree) (records_of z.kept) after (its_own z);
+        held = holds_at one n b z (rowed z.tree) (records_of z.kept) after (its_own z);
         rowed = (z.tree, law.good lot ids es y (subst (tree_of p).IsGood same is_rowed.1), refl);
         others = λ i off. law.others lot ids es y i off ∙ ap (λ o. if is_in ids i then None else o) (sym (at.is_of.records_are i));
       }
 
-  pub acts_so : {memory : Type 0} (now : Option ℕ) (was is : Bool) (dones : List Done) → ReportsAfter a b (λ y. dones ≡ all_dones lot ids es y)
-      → ActsOn (table_told p memory a lot was) (table_told p memory b now is) ids es dones
+  pub acts_so : {memory : Type 0} (now : Option ℕ) (was is : Bool) (dones : List Done) → ReportsKnown m a b (λ y. dones ≡ all_dones lot ids es y)
+      → ActsOn (table_told p memory m a lot was) (table_told p memory n b now is) ids es dones
   acts_so now was is dones told clean rows records at rowed_so =
       let y = at.holding in
       let z = performed lot ids es y in
-      let same : dones ≡ all_dones lot ids es y = told clean y at.rests in
+      let same : dones ≡ all_dones lot ids es y = told clean y (known_rests at) in
       record {
         rows = rowed z.tree;
         records = records_of z.kept;
-        held = holds_at one b z (rowed z.tree) (records_of z.kept) (serves.done clean y at.rests) (its_own z);
+        held = holds_at one n b z (rowed z.tree) (records_of z.kept) (serves.done clean y (known_rests at)) (its_own z);
         taken = subst (λ ds. TakesAll (tree_of p) (record { rows = rows; records = without ids records }) es (content_of p z) ds) (sym same)
             (law.acts lot ids es y rows records at.rests.holds.tree (at.is_of.rows_are, at.is_of.records_are));
       }
 
 -- a crash leaves the group out or in
-pub leaves_group : (p : Profile) → OneHolding → CallsPerform p → (lot : Option ℕ) (ids : List ℕ) (es : List Entry) (a b : State) {X : Type 0} (r : Result X StoreFault)
-    → Settled a → ServesAs HeldFor (λ y. HeldFor (performed lot ids es y)) a b r → (now : Option ℕ) (was is : Bool)
-    → LeavesGroup (table_told p ⊥ a lot was) (table_told p ⊥ b now is) ids es
-leaves_group p one law lot ids es a b r settled serves now was is s h t so within each firm =
+pub leaves_group : (p : Profile) → OneHolding → CallsPerform p → (m n : Option Meta) (lot : Option ℕ) (ids : List ℕ) (es : List Entry) (a b : State) {X : Type 0} (r : Result X StoreFault)
+    → Settled a → ServesAs (HeldForKnown m) (λ y. HeldForKnown n (performed lot ids es y)) a b r → (now : Option ℕ) (was is : Bool)
+    → LeavesGroup (table_told p ⊥ m a lot was) (table_told p ⊥ n b now is) ids es
+leaves_group p one law m n lot ids es a b r settled serves now was is s h t so within each firm =
     let y = so.held.holding in
     let z = performed lot ids es y in
     let before : HoldingStands p y s h t = stands_on p y so.rows so.records s h t so.held.is_of so.stands in
@@ -90,7 +92,7 @@ leaves_group p one law lot ids es a b r settled serves now was is s h t so withi
     let behind : HoldingStands p z s (grown h es) t =
     moved p all.stands.rows (rowed z.tree) all.stands.records (records_of z.kept) s (grown h es) t (sym all.stands.held.0) (λ i. sym (all.stands.held.1 i))
     all.stands.stands in
-    leaves_either one (performed lot ids es) a b settled serves.survives y so.held.rests p now is s s h (grown h es) t t before behind
+    leaves_either one m n (performed lot ids es) a b settled serves.survives y (known_rests so.held) p now is s s h (grown h es) t t before behind
 
 -- what is held after entries that are taken may be named anew
 led_same : (p : Profile) (before : Content (tree_of p)) (es : List Entry) (old new : Content (tree_of p)) (dones : List Done)
@@ -101,17 +103,17 @@ led_same p before (e ∷ es) old new [] same all = absurd all
 led_same p before (e ∷ es) old new (d ∷ dones) same (mid, took, rest) = (mid, took, led_same p mid es old new dones same rest)
 
 -- a crash leaves what was held, or what the group leads to
-pub leaves_acted : (p : Profile) → OneHolding → CallsPerform p → (lot : Option ℕ) (ids : List ℕ) (es : List Entry) (a b : State) {X : Type 0} (r : Result X StoreFault)
-    → Settled a → ServesAs HeldFor (λ y. HeldFor (performed lot ids es y)) a b r → (now : Option ℕ) (was is : Bool)
-    → LeavesActed (table_told p ⊥ a lot was) (table_told p ⊥ b now is) ids es
-leaves_acted p one law lot ids es a b r settled serves now was is firm rows records at rowed_so =
+pub leaves_acted : (p : Profile) → OneHolding → CallsPerform p → (m n : Option Meta) (lot : Option ℕ) (ids : List ℕ) (es : List Entry) (a b : State) {X : Type 0} (r : Result X StoreFault)
+    → Settled a → ServesAs (HeldForKnown m) (λ y. HeldForKnown n (performed lot ids es y)) a b r → (now : Option ℕ) (was is : Bool)
+    → LeavesActed (table_told p ⊥ m a lot was) (table_told p ⊥ n b now is) ids es
+leaves_acted p one law m n lot ids es a b r settled serves now was is firm rows records at rowed_so =
     let y = at.holding in
     let z = performed lot ids es y in
     let dones = all_dones lot ids es y in
     let before : Content (tree_of p) = record { rows = rows; records = without ids records } in
     let taken : TakesAll (tree_of p) before es (content_of p z) dones =
     law.acts lot ids es y rows records at.rests.holds.tree (at.is_of.rows_are, at.is_of.records_are) in
-    leaves_both one (performed lot ids es) a b settled serves.survives y at.rests p now is
+    leaves_both one m n (performed lot ids es) a b settled serves.survives y (known_rests at) p now is
     (AreHeldOrTaken (tree_of p) (record { rows = rows; records = records }) ids es)
     (λ x q is_of. inl (is_of.rows_are ∙ sym at.is_of.rows_are, λ i. is_of.records_are i ∙ sym (at.is_of.records_are i)))
     (λ x q is_of. inr (dones, led_same p before es (content_of p z) (record { rows = x; records = q }) dones (is_of.rows_are, is_of.records_are) taken))
@@ -138,13 +140,13 @@ under_same old old' new new' records records' ids es o n r u = record {
   free_same i (inl none) = inl (sym (r i) ∙ none)
   free_same i (inr on) = inr on
 
-pub lots_so : (p : Profile) → LotsAreSame → CallsPerform p → (lot : Option ℕ) (ids : List ℕ) (es : List Entry) (a b : State) {X : Type 0} (x : X)
-    → ServesAs {E = StoreFault} HeldFor (λ y. HeldFor (performed lot ids es y)) a b (Ok x) → (taken : ℕ) (was is : Bool)
-    → ReportsAfter a b (λ y. taken ≡ lot_for lot y) → KeepsLots (table_told p ⊥ a lot was) (table_told p ⊥ b (Some taken) is) ids es
-lots_so p told law lot ids es a b x serves taken was is says clean rows records at rowed_so =
+pub lots_so : (p : Profile) → LotsAreSame → CallsPerform p → (m n : Option Meta) (lot : Option ℕ) (ids : List ℕ) (es : List Entry) (a b : State) {X : Type 0} (x : X)
+    → ServesAs {E = StoreFault} (HeldForKnown m) (λ y. HeldForKnown n (performed lot ids es y)) a b (Ok x) → (taken : ℕ) (was is : Bool)
+    → ReportsAfter a b (λ y. taken ≡ lot_for lot y) → KeepsLots (table_told p ⊥ m a lot was) (table_told p ⊥ n b (Some taken) is) ids es
+lots_so p told law m n lot ids es a b x serves taken was is says clean rows records at rowed_so =
     let y = at.holding in
     let z = performed lot ids es y in
     let same : taken ≡ lot_for lot y = says clean y at.rests in
     under_same (lots_of lot y) (lots_in lot a.now) (lots_of (Some (lot_for lot y)) z) (lots_in (Some taken) b.now) (records_of y.kept) records ids es
     (told lot y a.now at.rests.holds) (subst (λ n. SameLots (lots_of (Some n) z) (lots_in (Some taken) b.now)) same
-    (told (Some taken) z b.now (serves.done clean y at.rests).holds)) at.is_of.records_are (law.lots lot ids es y at.rests.holds.below)
+    (told (Some taken) z b.now (serves.done clean y (known_rests at)).holds.0)) at.is_of.records_are (law.lots lot ids es y at.rests.holds.below)

@@ -1,5 +1,5 @@
 -- What a call that is a whole transaction does to a keeper over tables.
-use Rattle.std.proofs.Common.{◌≡◌, ◌⊎◌, ℕ, Bool, List, Option, Ok, Err, inl, inr, sym, ap, subst, ◌∙◌, IsTrue}
+use Rattle.std.proofs.Common.{◌≡◌, ◌⊎◌, ℕ, Bool, List, Option, None, Result, Ok, Err, OnOk, OnErr, inl, inr, sym, ap, subst, ◌∙◌, IsTrue}
 use Rattle.sqlite.specs.Tree.{Trees}
 use Rattle.sqlite.specs.Effect.{Database}
 use Rattle.sqlite.specs.State.{State, HasCleanDisk, Survives}
@@ -14,7 +14,11 @@ use Rattle.fuse_store_tables.specs.Content.{LeftAs}
 use Rattle.fuse_store_tables.specs.Moves.{RestsAs, ServesAs}
 use Rattle.fuse_store_tree.specs.Store.{records_of}
 use Rattle.fuse_store_tree.specs.Holding.{Holding, HeldFor}
+use Rattle.fuse_store_tree.specs.declared.meta.Meta.{Meta}
+use Rattle.fuse_store_tree.specs.Knowing.{Knows, HeldForKnown}
 use Rattle.fuse_store_tree.specs.Performing.{OneHolding, HoldingStands}
+use Rattle.fuse_keeper.specs.declared.fault.StoreFault.{StoreFault}
+use Rattle.sqlite.proofs.StateLemmas.{survives_weaker}
 use Rattle.fuse_tree.specs.TheTree.{tree_of}
 use Rattle.fuse_store.specs.TableState.{IsOf, HoldsIn, LeavesSome, table_told}
 
@@ -31,8 +35,48 @@ pub one_left : OneHolding → (x y : Holding) (db : Trees) → LeftAs (HeldFor x
 one_left one x y db (d, held, is) (e, kept, are) =
     one x y d held (subst (HeldFor y) (same_database e d (kept.held.1.schema ∙ sym held.held.1.schema) (are ∙ sym is)) kept)
 
-pub holds_at : OneHolding → (s : State) (y : Holding) (rows : Rows) (records : Records) → RestsAs (HeldFor y) s → IsOf y rows records → HoldsIn s rows records
-holds_at one s y rows records rests is = record { holding = y; rests = rests; alone = λ z held. one z y s.now held rests.holds; is_of = is }
+pub rests_for : (m : Option Meta) (y : Holding) (s : State) → RestsAs (HeldForKnown m y) s → RestsAs (HeldFor y) s
+rests_for m y s at = record { is_open = at.is_open; autocommit = at.autocommit; holds = at.holds.0; committed = at.committed }
+
+-- what is held, with what is known
+pub known_rests : {m : Option Meta} {s : State} {rows : Rows} {records : Records} → (at : HoldsIn m s rows records) → RestsAs (HeldForKnown m at.holding) s
+known_rests at = record {
+  is_open = at.rests.is_open;
+  autocommit = at.rests.autocommit;
+  holds = (at.rests.holds, at.knows);
+  committed = at.rests.committed;
+}
+
+pub holds_at : OneHolding → (m : Option Meta) (s : State) (y : Holding) (rows : Rows) (records : Records) → RestsAs (HeldForKnown m y) s → IsOf y rows records
+    → HoldsIn m s rows records
+holds_at one m s y rows records rests is =
+    record { holding = y; rests = rests_for m y s rests; alone = λ z held. one z y s.now held rests.holds.0; is_of = is; knows = rests.holds.1 }
+
+-- where nothing is known, nothing is asked of it
+pub rests_unknown : (y : Holding) (s : State) → RestsAs (HeldFor y) s → RestsAs (HeldForKnown None y) s
+rests_unknown y s at = record { is_open = at.is_open; autocommit = at.autocommit; holds = (at.holds, tt); committed = at.committed }
+
+-- a call that keeps what is known right
+pub serves_known : {X : Type 0} (m n : Option Meta) (f : Holding → Holding) (a b : State) (r : Result X StoreFault)
+    → ((y : Holding) → Knows m (rowed y.tree) → Knows n (rowed (f y).tree)) → ServesAs HeldFor (λ y. HeldFor (f y)) a b r
+    → ServesAs (HeldForKnown m) (λ y. HeldForKnown n (f y)) a b r
+serves_known {X = X} m n f a b r knows p = record {
+  survives = survives_weaker a b _ _ (λ _ db left y at. let (d, held, is) = left y (rests_for m y a at) in (d, (held, knows y at.holds.1), is)) p.survives;
+  kept = kept_so r p.kept;
+  done = done_so r p.done;
+} where
+  with_known : (o : Option Meta) (z : Holding) → RestsAs (HeldFor z) b → Knows o (rowed z.tree) → RestsAs (HeldForKnown o z) b
+  with_known o z at k = record { is_open = at.is_open; autocommit = at.autocommit; holds = (at.holds, k); committed = at.committed }
+
+  kept_so : (q : Result X StoreFault) → OnErr q (HasCleanDisk b → IsTrue b.is_open → (c : Holding) → RestsAs (HeldFor c) a → RestsAs (HeldFor c) b)
+      → OnErr q (HasCleanDisk b → IsTrue b.is_open → (c : Holding) → RestsAs (HeldForKnown m c) a → RestsAs (HeldForKnown m c) b)
+  kept_so (Ok x) kept = tt
+  kept_so (Err e) kept = λ clean is_open y at. with_known m y (kept clean is_open y (rests_for m y a at)) at.holds.1
+
+  done_so : (q : Result X StoreFault) → OnOk q (HasCleanDisk b → (c : Holding) → RestsAs (HeldFor c) a → RestsAs (HeldFor (f c)) b)
+      → OnOk q (HasCleanDisk b → (c : Holding) → RestsAs (HeldForKnown m c) a → RestsAs (HeldForKnown n (f c)) b)
+  done_so (Ok x) done = λ clean y at. with_known n (f y) (done clean y (rests_for m y a at)) (knows y at.holds.1)
+  done_so (Err e) done = tt
 
 -- ---- what stands for a history
 
@@ -61,8 +105,8 @@ stands_of p y rows records s h t is so = moved p (rowed y.tree) rows (records_of
 pub left_now : (s : State) (y : Holding) (db : Trees) → Settled s → RestsAs (HeldFor y) s → s.may_leave db → LeftAs (HeldFor y) db
 left_now s y db settled rests may = (s.now, rests.holds, sym (settled db rests.is_open may ∙ ap (λ d. d.trees) rests.committed))
 
-pub firm : (p : Profile) → OneHolding → (s : State) (lot : Option ℕ) (failed : Bool) → Settled s → IsFirm (table_told p ⊥ s lot failed)
-firm p one s lot failed settled rows records at = (
+pub firm : (p : Profile) → OneHolding → (m : Option Meta) (s : State) (lot : Option ℕ) (failed : Bool) → Settled s → IsFirm (table_told p ⊥ m s lot failed)
+firm p one m s lot failed settled rows records at = (
   λ clean db may. record { holding = at.holding; left = left_now s at.holding db settled at.rests may },
   λ x r left.
       let z = left.these.some.holding in
@@ -74,12 +118,13 @@ firm p one s lot failed settled rows records at = (
 )
 
 -- a call over what is held leaves that, or what it makes of it
-module _ (one : OneHolding) (f : Holding → Holding) (a b : State) (settled : Settled a)
-    (survives : Survives a b (λ db. (c : Holding) → RestsAs (HeldFor c) a → LeftAs (HeldFor (f c)) db)) (y : Holding) (rests : RestsAs (HeldFor y) a) where
+module _ (one : OneHolding) (m n : Option Meta) (f : Holding → Holding) (a b : State) (settled : Settled a)
+    (survives : Survives a b (λ db. (c : Holding) → RestsAs (HeldForKnown m c) a → LeftAs (HeldForKnown n (f c)) db)) (y : Holding)
+    (rests : RestsAs (HeldForKnown m y) a) where
   pub left_either : HasCleanDisk b → (db : Trees) → b.may_leave db → LeftAs (HeldFor y) db ⊎ LeftAs (HeldFor (f y)) db
   left_either clean db may = elim (survives.crash clean db may) [
-    | inl before ↦ inl (left_now a y db settled rests before)
-    | inr made ↦ inr (made y rests)
+    | inl before ↦ inl (left_now a y db settled (rests_for m y a rests) before)
+    | inr made ↦ inr (let (d, held, is) = made y rests in (d, held.0, is))
   ]
 
   whole : HasCleanDisk b → (db : Trees) → b.may_leave db → LeavesSome db
@@ -90,7 +135,7 @@ module _ (one : OneHolding) (f : Holding → Holding) (a b : State) (settled : S
 
   -- what is so of both is so of whatever it leaves
   pub leaves_both : (p : Profile) (lot : Option ℕ) (failed : Bool) (P : Rows → Records → Type 0) → ((x : Rows) (r : Records) → IsOf y x r → P x r)
-      → ((x : Rows) (r : Records) → IsOf (f y) x r → P x r) → Leaves (table_told p ⊥ b lot failed) P
+      → ((x : Rows) (r : Records) → IsOf (f y) x r → P x r) → Leaves (table_told p ⊥ n b lot failed) P
   leaves_both p lot failed P before after = (
     whole,
     λ x r left.
@@ -103,7 +148,7 @@ module _ (one : OneHolding) (f : Holding → Holding) (a b : State) (settled : S
 
   pub leaves_either : (p : Profile) (lot : Option ℕ) (failed : Bool) (s s' : TreeState) (h h' : History) (t t' : List ℕ) → HoldingStands p y s h t
       → HoldingStands p (f y) s' h' t'
-      → Leaves (table_told p ⊥ b lot failed) (StandsForEither (tree_of p) (record { state = s; history = h; settled = t })
+      → Leaves (table_told p ⊥ n b lot failed) (StandsForEither (tree_of p) (record { state = s; history = h; settled = t })
       (record { state = s'; history = h'; settled = t' }))
   leaves_either p lot failed s s' h h' t t' before after =
       leaves_both p lot failed (StandsForEither (tree_of p) (record { state = s; history = h; settled = t }) (record { state = s'; history = h'; settled = t' }))
@@ -111,14 +156,18 @@ module _ (one : OneHolding) (f : Holding → Holding) (a b : State) (settled : S
 
 -- ---- what is held after a call
 
-pub kept_held : {X E : Type 0} → OneHolding → (f : Holding → Holding) (a b : State) (e : E) (rows : Rows) (records : Records)
-    → ServesAs {X = X} HeldFor (λ y. HeldFor (f y)) a b (Err e) → HasCleanDisk b → IsTrue b.is_open → HoldsIn a rows records → HoldsIn b rows records
-kept_held one f a b e rows records p clean is_open at = holds_at one b at.holding rows records (p.kept clean is_open at.holding at.rests) at.is_of
-
-pub made_held : {X E : Type 0} → OneHolding → (f : Holding → Holding) (a b : State) (x : X) (rows rows' : Rows) (records records' : Records)
-    → ServesAs {E = E} HeldFor (λ y. HeldFor (f y)) a b (Ok x) → HasCleanDisk b → (at : HoldsIn a rows records) → IsOf (f at.holding) rows' records'
-    → HoldsIn b rows' records'
-made_held one f a b x rows rows' records records' p clean at is = holds_at one b (f at.holding) rows' records' (p.done clean at.holding at.rests) is
+pub kept_held : {X E : Type 0} → OneHolding → (m n : Option Meta) (f : Holding → Holding) (a b : State) (e : E) (rows : Rows) (records : Records)
+    → ((y : Holding) → Knows m (rowed y.tree) → Knows n (rowed y.tree)) → ServesAs {X = X} (HeldForKnown m) (λ y. HeldForKnown n (f y)) a b (Err e)
+    → HasCleanDisk b → IsTrue b.is_open → HoldsIn m a rows records → HoldsIn n b rows records
+kept_held one m n f a b e rows records knows p clean is_open at =
+    let y = at.holding in
+    let now = p.kept clean is_open y (known_rests at) in
+    holds_at one n b y rows records (record {
+      is_open = now.is_open;
+      autocommit = now.autocommit;
+      holds = (now.holds.0, knows y at.knows);
+      committed = now.committed;
+    }) at.is_of
 
 -- ---- lots
 

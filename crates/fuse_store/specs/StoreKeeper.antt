@@ -7,6 +7,7 @@ use Rattle.fuse_init.specs.declared.profile.Profile.TheVariants as profiles
 use Rattle.fuse_keeper.specs.KeeperState.{KeeperState}
 use Rattle.fuse_store.specs.declared.store_keeper.StoreKeeper.{StoreKeeper}
 use Rattle.fuse_store.specs.declared.store_keeper.StoreKeeper.TheVariants.{Plain, Everyday}
+use Rattle.fuse_store_tree.specs.declared.meta.Meta.{Meta}
 use Rattle.fuse_tree.specs.TheTree.{tree_of}
 use Rattle.fuse_store.specs.TableState.{table_told}
 use Rattle.fuse_store.specs.TableKeeper.{LiesInMemory, conn_of}
@@ -24,10 +25,14 @@ module _ {S : Type 0} {g : Ghosts S} where
   own_lot (Plain k) = k.lot
   own_lot (Everyday k) = k.lot
 
+  abbrev pub own_known : StoreKeeper S g → Option Meta
+  own_known (Plain k) = k.look.known
+  own_known (Everyday k) = k.look.known
+
   abbrev pub own_failed : StoreKeeper S g → Bool
   own_failed (Plain k) = k.failed
   own_failed (Everyday k) = k.failed
 
   -- that of the keeper that it is
   abbrev pub store_told : (k : StoreKeeper S g) → KeeperState (tree_of (own_profile k))
-  store_told k = table_told (own_profile k) (LiesInMemory g) (state g (own_conn k)) (own_lot k) (own_failed k)
+  store_told k = table_told (own_profile k) (LiesInMemory g) (own_known k) (state g (own_conn k)) (own_lot k) (own_failed k)

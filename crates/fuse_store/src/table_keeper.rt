@@ -115,6 +115,7 @@ impl<P: Profiled, S: Alter> TableKeeper<P, S> {
                     alloc,
                     conn,
                     fault: None,
+                    known: None,
                 },
                 lot: None,
                 failed: false,
@@ -172,6 +173,7 @@ impl<P: Profiled, S: Alter> TableKeeper<P, S> {
                     alloc,
                     conn,
                     fault: None,
+                    known: None,
                 },
                 lot: None,
                 failed: false,
@@ -249,9 +251,8 @@ impl<P: Profiled, S: Alter + Drop> Keeper for TableKeeper<P, S> {
     ghost use Rattle.fuse_store_tables.specs.Faults.{IsPlain};
     ghost use Rattle.fuse_store_tables.specs.Moves.{LeavesAlone};
     ghost use Rattle.fuse_store_tables.specs.Saying.{IsRefusal};
-    ghost use Rattle.fuse_store_tree.specs.Group.{RefusesFor};
     ghost use Rattle.fuse_store.specs.TableKeeper.{keeper_told, conn_of};
-    ghost use Rattle.fuse_store.specs.TableKeeper.{FaultsOutside, FaultsOutsideWithLot};
+    ghost use Rattle.fuse_store.specs.TableKeeper.{FaultsOutside, FaultsOutsideWithLot, RefusesKept};
     ghost use Rattle.fuse_store.specs.inner.Laws.{one_held};
 
     ghost model = { tree_of P.PROFILE };
@@ -301,8 +302,7 @@ impl<P: Profiled, S: Alter + Drop> Keeper for TableKeeper<P, S> {
         ensures ended { HasCleanDisk (state S.Store (conn_of S.Store self.new))
             → (state S.Store (conn_of S.Store self.new)).in_transaction ≡ false }
         // A refusal of what was held leaves it alone.
-        ensures refused { RefusesFor (state S.Store (conn_of S.Store self.old))
-            (state S.Store (conn_of S.Store self.new)) result }
+        ensures refused { RefusesKept S.Store self.old self.new result }
     {
         one_holding();
         calls_perform::<P>();
@@ -346,6 +346,7 @@ impl<P: Profiled, S: Alter + Drop> Keeper for TableKeeper<P, S> {
         lots_are_read();
         rows_tell_state();
         tree_is_sound::<P>();
+        self.look.known = None;
         match begin_mount(&mut self.look.conn) {
             Ok(()) => {
                 self.lot = None;
@@ -434,7 +435,7 @@ impl<P: Profiled, S: Alter + Drop> Keeper for TableKeeper<P, S> {
     }
 
     ghost sound = { λ k. record {
-      one_holding = λ x y p q one two. one_held _ _ _ _ _ one two;
+      one_holding = λ x y p q one two. one_held _ _ _ _ _ _ one two;
       clean_is_honest = λ clean. clean.0;
     } };
 

@@ -1,5 +1,5 @@
 -- A group as a whole transaction.
-use Rattle.std.proofs.Common.{◌≡◌, ◌∙◌, Option, None, Ok, Err, Result, Bool, true, false, cond, sym, subst}
+use Rattle.std.proofs.Common.{◌≡◌, ◌∙◌, Option, None, Ok, Err, Bool, true, false, cond, sym, subst}
 use Rattle.sqlite.specs.State.{State, HasCleanDisk}
 use Rattle.sqlite.proofs.StateLemmas.{survives_then, survives_weaker}
 use Rattle.sqlite.proofs.InsideLemmas.{keeps_then}
@@ -82,24 +82,13 @@ rolled_back a b d p u = record {
       (kept.was_open back.0, back.2 ∙ kept.committed back.0, back.1 ∙ sym back.2);
 }
 
--- ---- whatever was known before
+-- ---- what is known
 
--- where nothing was known, nothing is asked of it
-pub at_rest : (y : Holding) (s : State) → RestsAs (HeldFor y) s → RestsAs (HeldForKnown None y) s
-at_rest y s at = record { is_open = at.is_open; autocommit = at.autocommit; holds = (at.holds, tt); committed = at.committed }
-
-pub rests_for : (m : Option Meta) (y : Holding) (s : State) → RestsAs (HeldForKnown m y) s → RestsAs (HeldFor y) s
-rests_for m y s at = record { is_open = at.is_open; autocommit = at.autocommit; holds = at.holds.0; committed = at.committed }
-
-pub serves_plain : {X : Type 0} (n : Option Meta) (f : Holding → Holding) (a b : State) (r : Result X StoreFault)
-    → ServesAs (HeldForKnown None) (λ y. HeldForKnown n (f y)) a b r → ServesAs HeldFor (λ y. HeldFor (f y)) a b r
-serves_plain n f a b (Ok x) p = record {
-  survives = survives_weaker a b _ _ (λ _ db left y at. let (d, held, is) = left y (at_rest y a at) in (d, held.0, is)) p.survives;
-  kept = tt;
-  done = λ clean y at. rests_for n (f y) b (p.done clean y (at_rest y a at));
-}
-serves_plain n f a b (Err e) p = record {
-  survives = survives_weaker a b _ _ (λ _ db left y at. let (d, held, is) = left y (at_rest y a at) in (d, held.0, is)) p.survives;
-  kept = λ clean is_open y at. rests_for None y b (p.kept clean is_open y (at_rest y a at));
+-- what is forgotten was right
+pub serves_forgot : {X : Type 0} (m n : Option Meta) (f : Holding → Holding) (a b : State) (e : StoreFault)
+    → ServesAs {X = X} (HeldForKnown m) (λ y. HeldForKnown n (f y)) a b (Err e) → ServesAs {X = X} (HeldForKnown m) (λ y. HeldForKnown None (f y)) a b (Err e)
+serves_forgot m n f a b e p = record {
+  survives = survives_weaker a b _ _ (λ _ db left y at. let (d, held, is) = left y at in (d, (held.0, tt), is)) p.survives;
+  kept = p.kept;
   done = tt;
 }

@@ -1,17 +1,12 @@
 -- The effect of a group, and its answers (own profile).
-use Rattle.std.specs.Prelude.{◌≡◌, ◌<◌, ◌^◌, ◌+◌, ℕ, true, false, List, [], ◌∷◌, Option, Some, None, Result, IfErr}
-use Rattle.sqlite.specs.State.{State, HasCleanDisk}
+use Rattle.std.specs.Prelude.{◌≡◌, ◌<◌, ◌^◌, ◌+◌, ℕ, true, false, List, [], ◌∷◌, Option, Some, None}
 use Rattle.fuse_answer.specs.Said.{Said}
 use Rattle.fuse_tree.specs.Do.{done}
 use Rattle.fuse_keeper.specs.History.{Entry, entry_id}
 use Rattle.fuse_keeper.specs.declared.keeper.Done.{Done}
-use Rattle.fuse_keeper.specs.declared.fault.StoreFault.{StoreFault}
 use Rattle.fuse_store_tables.specs.Content.{kept_key, put_by, without_by}
-use Rattle.fuse_store_tables.specs.Faults.{IsOutside}
-use Rattle.fuse_store_tables.specs.Moves.{RestsAs, LeavesAlone}
-use Rattle.fuse_store_tables.specs.Saying.{IsRefusal}
 use Rattle.fuse_store_tree.specs.Store.{records_of}
-use Rattle.fuse_store_tree.specs.Holding.{Holding, HeldFor}
+use Rattle.fuse_store_tree.specs.Holding.{Holding}
 
 -- ---- settled ids
 
@@ -39,14 +34,6 @@ lot_for (Some lot) y = lot
 -- this opening has a lot, or a lot number is left for it
 abbrev pub HasLotLeft : Option ℕ → Holding → Type 0
 HasLotLeft lot y = lot ≡ None → y.next_lot < 2 ^ 62
-
--- the same of a whole transaction
-abbrev pub IsSafeFor : {X : Type 0} → Option ℕ → State → State → Result X StoreFault → Type 0
-IsSafeFor lot old new r = HasCleanDisk new → IfErr r (λ f. (y : Holding) → RestsAs (HeldFor y) old → HasLotLeft lot y → IsOutside f)
-
--- a refusal of what was held leaves it alone
-abbrev pub RefusesFor : {X : Type 0} → State → State → Result X StoreFault → Type 0
-RefusesFor old new r = IfErr r (λ f. IsRefusal f → (y : Holding) → RestsAs (HeldFor y) old → LeavesAlone old new)
 
 -- ---- one request
 

@@ -31,7 +31,7 @@ pub struct TableLook<S: Alter> {
     /// The fault of the first read that failed.
     pub fault: Option<StoreFault>,
     /// What is known of the table `meta`, which is read where nothing is.
-    pub(crate) known: Option<Meta>,
+    pub known: Option<Meta>,
 }
 
 // The fault of a read, as `plan` gets it.

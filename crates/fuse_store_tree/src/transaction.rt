@@ -1,6 +1,6 @@
 // A group of requests as a whole transaction.
 ghost use Rattle.std.specs.Prelude.{◌≡◌, ◌<◌, ◌^◌, None, false, length};
-ghost use Rattle.std.specs.Prelude.{IfOk, IfErr, IfSome, OnOk};
+ghost use Rattle.std.specs.Prelude.{IfOk, IfErr, IfSome, OnOk, OnErr};
 ghost use Rattle.sqlite.specs.State.{HasCleanDisk};
 ghost use Rattle.sqlite.specs.Held.{state};
 ghost use Rattle.fuse_keeper.specs.Group.{entries_of, ids_of};
@@ -9,10 +9,10 @@ ghost use Rattle.fuse_store_tables.specs.Saying.{IsRefusal};
 ghost use Rattle.fuse_store_tables.specs.inner.Performing.{CommitsNothing, PerformsAs};
 ghost use Rattle.fuse_store_tables.specs.Faults.{IsPlain};
 ghost use Rattle.fuse_store_tree.specs.Looking.{look_fault};
-ghost use Rattle.fuse_store_tree.specs.Holding.{Holding, HeldFor, ReportsAfter};
+ghost use Rattle.fuse_store_tree.specs.Holding.{Holding, ReportsAfter};
 ghost use Rattle.fuse_store_tree.specs.Knowing.{HeldForKnown, ReportsKnown, IsSafeKnown};
-ghost use Rattle.fuse_store_tree.specs.Group.{performed, all_dones, lot_for, IsSafeFor};
-ghost use Rattle.fuse_store_tree.specs.Group.{RefusesFor};
+ghost use Rattle.fuse_store_tree.specs.Knowing.{RefusesKnown};
+ghost use Rattle.fuse_store_tree.specs.Group.{performed, all_dones, lot_for};
 
 use crate::group::{Performed, perform_in};
 use crate::look::TableLook;
@@ -69,7 +69,8 @@ fn transact<S: Alter>(
 }
 
 /// Performs a group in one transaction. Its commit is the last call of the database. A fault leaves
-/// the state before the group, and a crash leaves the state before or after it.
+/// the state before the group, and a crash leaves the state before or after it. What is known of
+/// `meta` stays right, and is forgotten at a fault.
 pub fn perform<S: Alter>(
     alloc: Global,
     look: &mut TableLook<S>,
@@ -80,8 +81,8 @@ pub fn perform<S: Alter>(
     requires ready { look_fault look.old.fault ≡ None }
     requires lot { IfSome lot (λ n. n < 2 ^ 62) }
     ensures count { IfOk result (λ p. length p.dones.items ≡ length group.now) }
-    ensures serves { ServesAs HeldFor
-        (λ y. HeldFor (performed lot (ids_of settled.now) (entries_of group.now) y))
+    ensures serves { ServesAs (HeldForKnown look.old.known) (λ y. HeldForKnown look.new.known
+        (performed lot (ids_of settled.now) (entries_of group.now) y))
         (state S.Store look.old.conn) (state S.Store look.new.conn) result }
     ensures open { StaysOpen (state S.Store look.old.conn) (state S.Store look.new.conn) result }
     // No transaction is left open, whether it succeeds or not.
@@ -90,24 +91,25 @@ pub fn perform<S: Alter>(
     ensures lot { IfOk result (λ p. ReportsAfter (state S.Store look.old.conn)
         (state S.Store look.new.conn) (λ y. p.lot ≡ lot_for lot y)) }
     ensures low { IfOk result (λ p. p.lot < 2 ^ 62) }
-    ensures dones { IfOk result (λ p. ReportsAfter (state S.Store look.old.conn)
+    ensures dones { IfOk result (λ p. ReportsKnown look.old.known (state S.Store look.old.conn)
         (state S.Store look.new.conn) (λ y. p.dones.items
         ≡ all_dones lot (ids_of settled.now) (entries_of group.now) y)) }
     ensures ready { look_fault look.new.fault ≡ None }
+    ensures forgets { OnErr result (look.new.known ≡ None) }
     // Of a store that was sound, the fault is `Damaged` only where no lot number is left.
-    ensures fault { IsSafeFor lot (state S.Store look.old.conn) (state S.Store look.new.conn)
-        result }
+    ensures fault { IsSafeKnown look.old.known lot (state S.Store look.old.conn)
+        (state S.Store look.new.conn) result }
     // Then the store is as it was, after a crash too.
-    ensures refused { RefusesFor (state S.Store look.old.conn) (state S.Store look.new.conn)
-        result }
+    ensures refused { RefusesKnown look.old.known (state S.Store look.old.conn)
+        (state S.Store look.new.conn) result }
     // The fault is never `NotAStore` or `Version`.
     ensures plain { IfErr result IsPlain }
 {
-    look.known = None;
     match transact(alloc, look, lot, group, settled) {
         Ok(performed) => Ok(performed),
         Err(fault) => {
             undo(&mut look.conn);
+            look.known = None;
             Err(fault)
         }
     }

@@ -1,14 +1,15 @@
 -- The laws of the `impl` of `Keeper` (own profile). The proofs are here because an `impl` takes them from definitions alone.
-use Rattle.std.proofs.Common.{◌≡◌, ℕ, sym, ap, ◌∙◌}
+use Rattle.std.proofs.Common.{◌≡◌, ℕ, Option, sym, ap, ◌∙◌}
 use Rattle.sqlite.specs.State.{State}
 use Rattle.fuse_tree.specs.Rows.{Rows, rowed}
 use Rattle.fuse_keeper.specs.Stands.{Records}
 use Rattle.fuse_store_tree.specs.Store.{records_of}
+use Rattle.fuse_store_tree.specs.declared.meta.Meta.{Meta}
 use Rattle.fuse_store.specs.TableState.{HoldsIn}
 
 -- it holds only one thing
-pub one_held : (s : State) (x y : Rows) (p q : Records) → HoldsIn s x p → HoldsIn s y q → (x ≡ y) × ((i : ℕ) → p i ≡ q i)
-one_held s x y p q a b =
+pub one_held : (m : Option Meta) (s : State) (x y : Rows) (p q : Records) → HoldsIn m s x p → HoldsIn m s y q → (x ≡ y) × ((i : ℕ) → p i ≡ q i)
+one_held m s x y p q a b =
     let same = a.alone b.holding b.rests.holds in (
       a.is_of.rows_are ∙ ap (λ z. rowed z.tree) (sym same) ∙ sym b.is_of.rows_are,
       λ i. a.is_of.records_are i ∙ ap (λ z. records_of z.kept i) (sym same) ∙ sym (b.is_of.records_are i),

@@ -1,4 +1,3 @@
-use Rattle.std.proofs.Common.{None, Ok, Err}
 use Rattle.sqlite.specs.Held.{state}
 use Rattle.fuse_keeper.specs.Group.{ids_of, entries_of}
 use Rattle.fuse_store_tables.specs.inner.Transaction.{served, undone}
@@ -6,35 +5,29 @@ use Rattle.fuse_store_tree.specs.Knowing.{HeldForKnown}
 use Rattle.fuse_store_tree.specs.Group.{performed}
 use Rattle.fuse_store_tables.specs.inner.Following.{earlier}
 use Rattle.fuse_store_tables.specs.inner.Transaction.{open_undone}
-use Rattle.fuse_store_tree.proofs.Whole.{at_rest, rolled_back, serves_plain}
+use Rattle.fuse_store_tree.proofs.Whole.{rolled_back, serves_forgot}
 use Rattle.fuse_store_tree.proofs.transaction.perform.Goals as goal
 
 pub returns-in-Ok-clause-serves : goal.returns-in-Ok-clause-serves
 returns-in-Ok-clause-serves g c =
-    let all = performed c.args.lot (ids_of c.args.settled.now) (entries_of c.args.group.now) in
-    let a = state g.S.Store c.args.look.now.conn in
-    let b = state g.S.Store c.transact.new.look.conn in
-    let n = c.transact.new.look.known in
-    serves_plain n all a b (Ok c.in-Ok.performed)
-    (served (HeldForKnown None) (λ y. HeldForKnown n (all y)) a b c.in-Ok.performed c.in-Ok.performed c.in-Ok.ensures.performs)
+    served (HeldForKnown c.args.look.now.known) (λ y. HeldForKnown c.transact.new.look.known
+    (performed c.args.lot (ids_of c.args.settled.now) (entries_of c.args.group.now) y)) (state g.S.Store c.args.look.now.conn)
+    (state g.S.Store c.transact.new.look.conn) c.in-Ok.performed c.in-Ok.performed c.in-Ok.ensures.performs
 
 pub returns-in-Err-clause-serves : goal.returns-in-Err-clause-serves
 returns-in-Err-clause-serves g c =
     let all = performed c.args.lot (ids_of c.args.settled.now) (entries_of c.args.group.now) in
     let a = state g.S.Store c.args.look.now.conn in
     let d = state g.S.Store c.undo.new.conn in
+    let m = c.args.look.now.known in
     let n = c.transact.new.look.known in
-    serves_plain n all a d (Err c.in-Err.fault)
-    (undone (HeldForKnown None) (λ y. HeldForKnown n (all y)) a (state g.S.Store c.transact.new.look.conn) d c.in-Err.fault c.in-Err.fault
+    serves_forgot m n all a d c.in-Err.fault
+    (undone (HeldForKnown m) (λ y. HeldForKnown n (all y)) a (state g.S.Store c.transact.new.look.conn) d c.in-Err.fault c.in-Err.fault
     c.in-Err.ensures.performs c.undo.ensures)
 
-pub returns-in-Ok-clause-dones : goal.returns-in-Ok-clause-dones
-returns-in-Ok-clause-dones g c = λ clean y at. c.in-Ok.ensures.dones clean y (at_rest y (state g.S.Store c.args.look.now.conn) at)
-
 pub returns-in-Err-clause-fault : goal.returns-in-Err-clause-fault
-returns-in-Err-clause-fault g c clean y at left =
+returns-in-Err-clause-fault g c clean =
     c.in-Err.ensures.fault (earlier (state g.S.Store c.transact.new.look.conn) (state g.S.Store c.undo.new.conn) _ c.undo.ensures.survives clean)
-    y (at_rest y (state g.S.Store c.args.look.now.conn) at) left
 
 pub returns-in-Ok-clause-open : goal.returns-in-Ok-clause-open
 returns-in-Ok-clause-open g c = c.in-Ok.ensures.open
@@ -53,4 +46,4 @@ returns-in-Err-clause-ended g c = c.undo.ensures.autocommit
 pub returns-in-Err-clause-refused : goal.returns-in-Err-clause-refused
 returns-in-Err-clause-refused g c = λ refused y at.
     rolled_back (state g.S.Store c.args.look.now.conn) (state g.S.Store c.transact.new.look.conn) (state g.S.Store c.undo.new.conn)
-    (c.in-Err.ensures.refused refused y (at_rest y (state g.S.Store c.args.look.now.conn) at)) c.undo.ensures
+    (c.in-Err.ensures.refused refused y at) c.undo.ensures

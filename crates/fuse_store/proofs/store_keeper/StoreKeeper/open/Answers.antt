@@ -5,20 +5,20 @@ use Rattle.fuse_init.specs.declared.profile.Profile.TheVariants as profiles
 use Rattle.fuse_store_tables.specs.inner.Following.{earlier}
 use Rattle.fuse_store_tree.specs.Store.{records_of}
 use Rattle.fuse_store.specs.Opening.{opened_for}
-use Rattle.fuse_store.proofs.Serving.{holds_at, firm}
+use Rattle.fuse_store.proofs.Serving.{holds_at, firm, rests_unknown}
 use Rattle.fuse_store.proofs.Grouping.{its_own}
 use Rattle.fuse_store.proofs.Reopening.{not_busy}
 use Rattle.fuse_store.proofs.store_keeper.StoreKeeper.open.Goals as goal
 
 pub returns-in-Ok-Plain-clause-holds : goal.returns-in-Ok-Plain-clause-holds
 returns-in-Ok-Plain-clause-holds g c = λ clean z was.
-    holds_at c.one_holding.ensures (state g.S.Store c.set_up_for.new.conn) (opened_for z) (rowed (opened_for z).tree) (records_of (opened_for z).kept)
-    (c.in-Ok-Plain.ensures.ok clean z was) (its_own (opened_for z))
+    holds_at c.one_holding.ensures None (state g.S.Store c.set_up_for.new.conn) (opened_for z) (rowed (opened_for z).tree) (records_of (opened_for z).kept)
+    (rests_unknown (opened_for z) (state g.S.Store c.set_up_for.new.conn) (c.in-Ok-Plain.ensures.ok clean z was)) (its_own (opened_for z))
 
 pub returns-in-Ok-Everyday-clause-holds : goal.returns-in-Ok-Everyday-clause-holds
 returns-in-Ok-Everyday-clause-holds g c = λ clean z was.
-    holds_at c.one_holding.ensures (state g.S.Store c.set_up_for.new.conn) (opened_for z) (rowed (opened_for z).tree) (records_of (opened_for z).kept)
-    (c.in-Ok-Everyday.ensures.ok clean z was) (its_own (opened_for z))
+    holds_at c.one_holding.ensures None (state g.S.Store c.set_up_for.new.conn) (opened_for z) (rowed (opened_for z).tree) (records_of (opened_for z).kept)
+    (rests_unknown (opened_for z) (state g.S.Store c.set_up_for.new.conn) (c.in-Ok-Everyday.ensures.ok clean z was)) (its_own (opened_for z))
 
 pub returns-in-Ok-Plain-clause-lots : goal.returns-in-Ok-Plain-clause-lots
 returns-in-Ok-Plain-clause-lots g c = λ clean z was.
@@ -38,11 +38,11 @@ returns-in-Ok-Everyday-clause-honest g c = λ clean.
 
 pub returns-in-Ok-Plain-clause-firm : goal.returns-in-Ok-Plain-clause-firm
 returns-in-Ok-Plain-clause-firm g c = λ clean.
-    firm profiles.Plain c.one_holding.ensures (state g.S.Store c.set_up_for.new.conn) None false (g.met.S.Store.settled c.set_up_for.new.conn.store)
+    firm profiles.Plain c.one_holding.ensures None (state g.S.Store c.set_up_for.new.conn) None false (g.met.S.Store.settled c.set_up_for.new.conn.store)
 
 pub returns-in-Ok-Everyday-clause-firm : goal.returns-in-Ok-Everyday-clause-firm
 returns-in-Ok-Everyday-clause-firm g c = λ clean.
-    firm profiles.Everyday c.one_holding.ensures (state g.S.Store c.set_up_for.new.conn) None false (g.met.S.Store.settled c.set_up_for.new.conn.store)
+    firm profiles.Everyday c.one_holding.ensures None (state g.S.Store c.set_up_for.new.conn) None false (g.met.S.Store.settled c.set_up_for.new.conn.store)
 
 pub returns-in-Ok-Plain-clause-absent : goal.returns-in-Ok-Plain-clause-absent
 returns-in-Ok-Plain-clause-absent g c = λ settled none. absurd (c.in-Ok-Plain.ensures.absent settled none)

@@ -7,30 +7,30 @@ use Rattle.fuse_store_tree.specs.Store.{records_of}
 use Rattle.fuse_store.specs.Mounting.{cleared_for}
 use Rattle.fuse_store.specs.Opening.{opened_for}
 use Rattle.fuse_store.specs.Starting.{begun_for}
-use Rattle.fuse_store.proofs.Serving.{holds_at, firm}
+use Rattle.fuse_store.proofs.Serving.{holds_at, firm, rests_unknown}
 use Rattle.fuse_store.proofs.Grouping.{its_own}
 use Rattle.fuse_store.proofs.Beginning.{begun_after, clears_all}
 use Rattle.fuse_store.proofs.store_keeper.StoreKeeper.open_begun.Goals as goal
 
 pub returns-in-Ok-Plain-clause-holds : goal.returns-in-Ok-Plain-clause-holds
 returns-in-Ok-Plain-clause-holds g c = λ clean z was.
-    holds_at c.one_holding.ensures (state g.S.Store c.set_up_begun.new.conn) (begun_for z) (rowed (begun_for z).tree) (records_of (begun_for z).kept)
-    (c.in-Ok-Plain.ensures.begun clean z was) (its_own (begun_for z))
+    holds_at c.one_holding.ensures None (state g.S.Store c.set_up_begun.new.conn) (begun_for z) (rowed (begun_for z).tree) (records_of (begun_for z).kept)
+    (rests_unknown (begun_for z) (state g.S.Store c.set_up_begun.new.conn) (c.in-Ok-Plain.ensures.begun clean z was)) (its_own (begun_for z))
 
 pub returns-in-Ok-Everyday-clause-holds : goal.returns-in-Ok-Everyday-clause-holds
 returns-in-Ok-Everyday-clause-holds g c = λ clean z was.
-    holds_at c.one_holding.ensures (state g.S.Store c.set_up_begun.new.conn) (begun_for z) (rowed (begun_for z).tree) (records_of (begun_for z).kept)
-    (c.in-Ok-Everyday.ensures.begun clean z was) (its_own (begun_for z))
+    holds_at c.one_holding.ensures None (state g.S.Store c.set_up_begun.new.conn) (begun_for z) (rowed (begun_for z).tree) (records_of (begun_for z).kept)
+    (rests_unknown (begun_for z) (state g.S.Store c.set_up_begun.new.conn) (c.in-Ok-Everyday.ensures.begun clean z was)) (its_own (begun_for z))
 
 pub returns-in-Ok-Plain-clause-begins : goal.returns-in-Ok-Plain-clause-begins
 returns-in-Ok-Plain-clause-begins g c = λ clean z was s h t stands.
     begun_after profiles.Plain c.rows_tell_state.ensures c.tree_is_sound.ensures.clears cleared_for clears_all c.one_holding.ensures (state g.S.Store c.set_up_begun.new.conn) (opened_for z)
-    (c.in-Ok-Plain.ensures.begun clean z was) s h t stands None false
+    (rests_unknown (begun_for z) (state g.S.Store c.set_up_begun.new.conn) (c.in-Ok-Plain.ensures.begun clean z was)) s h t stands None false
 
 pub returns-in-Ok-Everyday-clause-begins : goal.returns-in-Ok-Everyday-clause-begins
 returns-in-Ok-Everyday-clause-begins g c = λ clean z was s h t stands.
     begun_after profiles.Everyday c.rows_tell_state.ensures c.tree_is_sound-2.ensures.clears cleared_for clears_all c.one_holding.ensures (state g.S.Store c.set_up_begun.new.conn) (opened_for z)
-    (c.in-Ok-Everyday.ensures.begun clean z was) s h t stands None false
+    (rests_unknown (begun_for z) (state g.S.Store c.set_up_begun.new.conn) (c.in-Ok-Everyday.ensures.begun clean z was)) s h t stands None false
 
 pub returns-in-Ok-Plain-clause-lots : goal.returns-in-Ok-Plain-clause-lots
 returns-in-Ok-Plain-clause-lots g c = λ clean z was.
@@ -50,11 +50,11 @@ returns-in-Ok-Everyday-clause-honest g c = λ clean.
 
 pub returns-in-Ok-Plain-clause-firm : goal.returns-in-Ok-Plain-clause-firm
 returns-in-Ok-Plain-clause-firm g c = λ clean.
-    firm profiles.Plain c.one_holding.ensures (state g.S.Store c.set_up_begun.new.conn) None false (g.met.S.Store.settled c.set_up_begun.new.conn.store)
+    firm profiles.Plain c.one_holding.ensures None (state g.S.Store c.set_up_begun.new.conn) None false (g.met.S.Store.settled c.set_up_begun.new.conn.store)
 
 pub returns-in-Ok-Everyday-clause-firm : goal.returns-in-Ok-Everyday-clause-firm
 returns-in-Ok-Everyday-clause-firm g c = λ clean.
-    firm profiles.Everyday c.one_holding.ensures (state g.S.Store c.set_up_begun.new.conn) None false (g.met.S.Store.settled c.set_up_begun.new.conn.store)
+    firm profiles.Everyday c.one_holding.ensures None (state g.S.Store c.set_up_begun.new.conn) None false (g.met.S.Store.settled c.set_up_begun.new.conn.store)
 
 pub returns-in-Ok-Plain-clause-absent : goal.returns-in-Ok-Plain-clause-absent
 returns-in-Ok-Plain-clause-absent g c = λ settled none. absurd (c.in-Ok-Plain.ensures.absent settled none)

@@ -8,7 +8,7 @@ use Rattle.fuse_tree.specs.Rows.{rowed}
 use Rattle.fuse_store_tables.specs.inner.Following.{earlier}
 use Rattle.fuse_store_tree.specs.Store.{records_of}
 use Rattle.fuse_store.specs.Creating.{new_holding}
-use Rattle.fuse_store.proofs.Serving.{holds_at, firm}
+use Rattle.fuse_store.proofs.Serving.{holds_at, firm, rests_unknown}
 use Rattle.fuse_store.proofs.Grouping.{its_own}
 use Rattle.fuse_store.proofs.Beginning.{starts}
 use Rattle.fuse_store.proofs.MadeNew.{new_profile}
@@ -23,8 +23,9 @@ returns-in-Ok-clause-stands g c = λ clean is_open.
       rows = rowed (new_store g.P.Profiled.PROFILE c.args.capacity c.args.now);
       records = records_of [];
       held =
-          holds_at c.one_holding.ensures (state g.S.Store c.make_for.new.conn) (new_holding g.P.Profiled.PROFILE c.args.capacity c.args.now)
-          (rowed (new_store g.P.Profiled.PROFILE c.args.capacity c.args.now)) (records_of []) at
+          holds_at c.one_holding.ensures None (state g.S.Store c.make_for.new.conn) (new_holding g.P.Profiled.PROFILE c.args.capacity c.args.now)
+          (rowed (new_store g.P.Profiled.PROFILE c.args.capacity c.args.now)) (records_of [])
+          (rests_unknown (new_holding g.P.Profiled.PROFILE c.args.capacity c.args.now) (state g.S.Store c.make_for.new.conn) at)
           (its_own (new_holding g.P.Profiled.PROFILE c.args.capacity c.args.now));
       stands =
           starts g.P.Profiled.PROFILE (new_store g.P.Profiled.PROFILE c.args.capacity c.args.now)
@@ -44,7 +45,7 @@ returns-in-Ok-clause-honest g c = λ clean.
 
 pub returns-in-Ok-clause-firm : goal.returns-in-Ok-clause-firm
 returns-in-Ok-clause-firm g c = λ clean.
-    firm g.P.Profiled.PROFILE c.one_holding.ensures (state g.S.Store c.make_for.new.conn) None false (g.met.S.Store.settled c.make_for.new.conn.store)
+    firm g.P.Profiled.PROFILE c.one_holding.ensures None (state g.S.Store c.make_for.new.conn) None false (g.met.S.Store.settled c.make_for.new.conn.store)
 
 pub returns-in-Err-clause-kept : goal.returns-in-Err-clause-kept
 returns-in-Err-clause-kept g c = λ clean is_open at. c.in-Err.ensures.serves.kept clean is_open tt at

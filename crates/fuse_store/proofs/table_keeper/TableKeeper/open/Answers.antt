@@ -4,15 +4,15 @@ use Rattle.fuse_tree.specs.Rows.{rowed}
 use Rattle.fuse_store_tables.specs.inner.Following.{earlier}
 use Rattle.fuse_store_tree.specs.Store.{records_of}
 use Rattle.fuse_store.specs.Opening.{opened_for}
-use Rattle.fuse_store.proofs.Serving.{holds_at, firm}
+use Rattle.fuse_store.proofs.Serving.{holds_at, firm, rests_unknown}
 use Rattle.fuse_store.proofs.Grouping.{its_own}
 use Rattle.fuse_store.proofs.Reopening.{not_busy}
 use Rattle.fuse_store.proofs.table_keeper.TableKeeper.open.Goals as goal
 
 pub returns-in-Ok-clause-holds : goal.returns-in-Ok-clause-holds
 returns-in-Ok-clause-holds g c = λ clean z was.
-    holds_at c.one_holding.ensures (state g.S.Store c.set_up_for.new.conn) (opened_for z) (rowed (opened_for z).tree) (records_of (opened_for z).kept)
-    (c.in-Ok.ensures.ok clean z was) (its_own (opened_for z))
+    holds_at c.one_holding.ensures None (state g.S.Store c.set_up_for.new.conn) (opened_for z) (rowed (opened_for z).tree) (records_of (opened_for z).kept)
+    (rests_unknown (opened_for z) (state g.S.Store c.set_up_for.new.conn) (c.in-Ok.ensures.ok clean z was)) (its_own (opened_for z))
 
 pub returns-in-Ok-clause-lots : goal.returns-in-Ok-clause-lots
 returns-in-Ok-clause-lots g c = λ clean z was.
@@ -24,7 +24,7 @@ returns-in-Ok-clause-honest g c = λ clean.
 
 pub returns-in-Ok-clause-firm : goal.returns-in-Ok-clause-firm
 returns-in-Ok-clause-firm g c = λ clean.
-    firm g.P.Profiled.PROFILE c.one_holding.ensures (state g.S.Store c.set_up_for.new.conn) None false (g.met.S.Store.settled c.set_up_for.new.conn.store)
+    firm g.P.Profiled.PROFILE c.one_holding.ensures None (state g.S.Store c.set_up_for.new.conn) None false (g.met.S.Store.settled c.set_up_for.new.conn.store)
 
 pub returns-in-Ok-clause-absent : goal.returns-in-Ok-clause-absent
 returns-in-Ok-clause-absent g c = λ settled none. absurd (c.in-Ok.ensures.absent settled none)

@@ -6,13 +6,13 @@ use Rattle.fuse_store.proofs.table_keeper.TableKeeper.room.Goals as goal
 
 pub returns-in-Ok-clause-looked : goal.returns-in-Ok-clause-looked
 returns-in-Ok-clause-looked g c =
-    looked_well g.P.Profiled.PROFILE c.one_holding.ensures c.lots_are_read.ensures.same (state g.S.Store c.args.self.now.look.conn) (state g.S.Store c.room_at_rest.new.conn)
+    looked_well g.P.Profiled.PROFILE c.one_holding.ensures c.lots_are_read.ensures.same c.args.self.now.look.known (state g.S.Store c.args.self.now.look.conn) (state g.S.Store c.room_at_rest.new.conn)
     (g.met.S.Store.settled c.args.self.now.look.conn.store) (g.met.S.Store.stays c.args.self.now.look.conn.store) c.in-Ok.room c.in-Ok.ensures.serves
     c.in-Ok.ensures.open c.args.self.now.lot c.args.self.now.failed
 
 pub returns-in-Err-clause-looked : goal.returns-in-Err-clause-looked
 returns-in-Err-clause-looked g c =
-    looked_wrong g.P.Profiled.PROFILE c.one_holding.ensures c.lots_are_read.ensures.same (state g.S.Store c.args.self.now.look.conn) (state g.S.Store c.room_at_rest.new.conn)
+    looked_wrong g.P.Profiled.PROFILE c.one_holding.ensures c.lots_are_read.ensures.same c.args.self.now.look.known (state g.S.Store c.args.self.now.look.conn) (state g.S.Store c.room_at_rest.new.conn)
     (g.met.S.Store.settled c.args.self.now.look.conn.store) (g.met.S.Store.stays c.args.self.now.look.conn.store) c.in-Err.fault c.in-Err.ensures.serves
     c.in-Err.ensures.open c.in-Err.ensures.fault c.args.self.now.lot c.args.self.now.failed
 
