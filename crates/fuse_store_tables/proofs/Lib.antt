@@ -18,6 +18,7 @@ pub mod Resting
 pub mod HandleRows
 pub mod KeptRows
 pub mod EntryRows
+pub mod ChildRows
 pub mod NodeRows
 pub mod LotRows
 pub mod CounterRows
