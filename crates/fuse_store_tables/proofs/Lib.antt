@@ -19,6 +19,7 @@ pub mod HandleRows
 pub mod KeptRows
 pub mod FourGone
 pub mod EntryRows
+pub mod ChildRows
 pub mod NodeRows
 pub mod LotRows
 pub mod CounterRows

@@ -1,5 +1,5 @@
 -- The content of the tables, as lists of typed rows (own profile).
-use Rattle.std.specs.Prelude.{◌≡◌, ◌<◌, ◌^◌, ℕ, pos, Bool, not, ◌&&◌, List, [], ◌∷◌, map, filter, find, if◌then◌else◌, unwrap_or, option_map, Option}
+use Rattle.std.specs.Prelude.{◌≡◌, ◌<◌, ◌^◌, ℕ, pos, Bool, not, ◌&&◌, List, [], ◌∷◌, ◌++◌, map, filter, find, if◌then◌else◌, unwrap_or, option_map, Option, Some, None}
 use Rattle.std.specs.Option.{is_some}
 use Rattle.std.specs.Ordering.{is_eq, is_gt, nat_cmp, match_ordering}
 use Rattle.std.specs.Cmp.Lexicographic.{slice_cmp}
@@ -209,6 +209,15 @@ shown_counter c = Int (pos c.value) ∷ []
 
 abbrev pub shown_entry : EntryRow → Row
 shown_entry e = Int (pos e.cookie) ∷ Blob e.name ∷ Int (pos e.child) ∷ []
+
+-- the columns of a node, each NULL where there is none
+abbrev pub columns_of : Option NodeRow → Row
+columns_of None = Null ∷ Null ∷ Null ∷ Null ∷ Null ∷ Null ∷ Null ∷ Null ∷ Null ∷ Null ∷ Null ∷ Null ∷ Null ∷ []
+columns_of (Some n) = node_columns n
+
+-- an entry, after the columns of the node that it leads to
+abbrev pub shown_child : Content → EntryRow → Row
+shown_child c e = columns_of (at_by node_key e.child c.nodes) ++ shown_entry e
 
 abbrev pub shown_place : EntryRow → Row
 shown_place e = Int (pos e.cookie) ∷ Int (pos e.child) ∷ []

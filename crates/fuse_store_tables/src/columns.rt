@@ -1,5 +1,7 @@
 // Typed values of the columns of a row.
-ghost use Rattle.std.specs.Prelude.{◌≡◌, ◌<◌, ◌^◌, ◌+◌, ℕ, List, [], ◌∷◌, pos, length, IfOk, IfErr};
+ghost use Rattle.std.specs.Prelude.{◌≡◌, ◌<◌, ◌^◌, ◌+◌, ◌++◌, ℕ, List, [], ◌∷◌, pos, length};
+ghost use Rattle.std.specs.Prelude.{Option, IfSome, IfOk, IfErr};
+ghost use Rattle.sqlite.specs.declared.types.Value.{Value};
 ghost use Rattle.std.specs.Int.{w64, cast_signed};
 ghost use Rattle.sqlite.specs.declared.types.Value.TheVariants.{Int, Blob};
 ghost use Rattle.sqlite.specs.Order.{column};
@@ -8,7 +10,7 @@ ghost use Rattle.fuse_tree.specs.declared.rows.NodeRow.{NodeRow as Node};
 ghost use Rattle.fuse_keeper.specs.Faults.{is_memory};
 ghost use Rattle.fuse_store_tables.specs.Faults.{IsOutside, IsPlain};
 ghost use Rattle.fuse_store_tables.specs.inner.Columns.{misread_as, shown_number};
-ghost use Rattle.fuse_store_tables.specs.Content.{node_columns, HasSeconds};
+ghost use Rattle.fuse_store_tables.specs.Content.{node_columns, columns_of, HasSeconds};
 ghost use Rattle.fuse_store_tables.specs.Clearing.{reached};
 
 use fuse_keeper::StoreFault;
@@ -130,11 +132,12 @@ fn moment_at(row: &Row, at: usize) -> Result<Moment, StoreFault>
     Ok(Moment { secs, nanos })
 }
 
-/// The row of a node, without its number.
+/// The row of a node, without its number, in the first columns.
 pub fn node_at(row: &Row, node: u64) -> Result<NodeRow, StoreFault>
-    ensures value { IfOk result (λ r. (n : Node) → HasSeconds n → n.node ≡ node
-        → row.now ≡ node_columns n → r ≡ n) }
-    ensures fault { IfErr result (λ f. (n : Node) → row.now ≡ node_columns n → IsOutside f) }
+    ensures value { IfOk result (λ r. (n : Node) (more : List Value) → HasSeconds n
+        → n.node ≡ node → row.now ≡ node_columns n ++ more → r ≡ n) }
+    ensures fault { IfErr result (λ f. (n : Node) (more : List Value)
+        → row.now ≡ node_columns n ++ more → IsOutside f) }
     ensures plain { IfErr result IsPlain }
 {
     let mode = small_at(row, 0)?;
@@ -160,4 +163,23 @@ pub fn node_at(row: &Row, node: u64) -> Result<NodeRow, StoreFault>
         up,
         subdirs,
     })
+}
+
+/// The same, and none where these columns are NULL.
+pub fn node_if_any(row: &Row, node: u64) -> Result<Option<NodeRow>, StoreFault>
+    ensures value { IfOk result (λ r. (o : Option Node) (more : List Value)
+        → IfSome o (λ n. HasSeconds n × (n.node ≡ node)) → row.now ≡ columns_of o ++ more
+        → r ≡ o) }
+    ensures fault { IfErr result (λ f. (o : Option Node) (more : List Value)
+        → row.now ≡ columns_of o ++ more → IsOutside f) }
+    ensures plain { IfErr result IsPlain }
+{
+    let mode: Option<u32> = row.get(0)?;
+    match mode {
+        None => Ok(None),
+        Some(_) => match node_at(row, node) {
+            Ok(found) => Ok(Some(found)),
+            Err(fault) => Err(fault),
+        },
+    }
 }

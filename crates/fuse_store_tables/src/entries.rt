@@ -8,7 +8,7 @@ ghost use Rattle.sqlite.specs.Values.{bound};
 ghost use Rattle.fuse_tree.specs.Columns.{FitsEntry};
 ghost use Rattle.fuse_store_tables.specs.Moves.{Inside, Makes, Looked, Stays};
 ghost use Rattle.fuse_store_tables.specs.Content.{Content, with_entry, with_entry_gone, has_name};
-ghost use Rattle.fuse_store_tables.specs.Content.{stands_after, shown_place, shown_entry};
+ghost use Rattle.fuse_store_tables.specs.Content.{stands_after, shown_place, shown_entry, shown_child};
 
 use crate::statements::run;
 use crate::values::{number, triple};
@@ -25,6 +25,11 @@ const SELECT_NAMED: &str =
 
 const SELECT_AFTER: &str = "SELECT cookie, name, child FROM entries \
     WHERE dir = ?1 AND cookie > ?2 ORDER BY cookie LIMIT ?3";
+
+const SELECT_CHILDREN: &str = "SELECT n.mode, n.uid, n.gid, n.rdev, n.size, n.atime, n.atimensec, \
+    n.mtime, n.mtimensec, n.ctime, n.ctimensec, n.up, n.subdirs, e.cookie, e.name, e.child \
+    FROM entries AS e LEFT JOIN nodes AS n ON n.node = e.child \
+    WHERE e.dir = ?1 AND e.cookie > ?2 ORDER BY e.cookie LIMIT ?3";
 
 // The parameters of an entry.
 fn entry_values<'a>(row: &'a EntryRow) -> [ValueRef<'a>; 4]
@@ -102,4 +107,25 @@ pub fn select_after<S: Alter>(
 {
     let values = triple(dir, cookie, limit);
     conn.query_all(SELECT_AFTER, &values)
+}
+
+/// The same entries, each after the columns of the node that it leads to.
+pub fn select_children<S: Alter>(
+    conn: &mut Connection<S>,
+    dir: u64,
+    cookie: u64,
+    limit: u64,
+) -> Result<Vec<Row>, Error>
+    requires dir { dir < 2 ^ 63 }
+    requires cookie { cookie < 2 ^ 63 }
+    requires limit { limit < 2 ^ 63 }
+    ensures looks { OnOk result (Looked (state S.Store conn.old) (state S.Store conn.new)) }
+    ensures fails { OnErr result (Stays (state S.Store conn.old) (state S.Store conn.new)) }
+    ensures found { HasCleanDisk (state S.Store conn.new) → IfOk result (λ rows. (c : Content)
+        → Inside c (state S.Store conn.old)
+        → rows.items ≡ take limit (map (shown_child c) (filter (stands_after dir cookie)
+        c.entries))) }
+{
+    let values = triple(dir, cookie, limit);
+    conn.query_all(SELECT_CHILDREN, &values)
 }

@@ -22,10 +22,10 @@ mod used;
 mod values;
 
 pub use blocks::{delete_blocks_from, insert_block, select_block, update_block, write_block};
-pub use columns::{bytes_at, node_at, number_at, small_at};
+pub use columns::{bytes_at, node_at, node_if_any, number_at, small_at};
 pub use counters::{AGREED, HANDLES, NEXT_LOT, NEXT_NODE, USED, select_counters, update_counter};
 pub use creation::{make_store, try_store};
-pub use entries::{delete_entry, insert_entry, select_after, select_named};
+pub use entries::{delete_entry, insert_entry, select_after, select_children, select_named};
 pub use fresh::set_up_fresh;
 pub use handles::{delete_handle, insert_handle, select_handle, select_handles_of};
 pub use mount::begin_mount;

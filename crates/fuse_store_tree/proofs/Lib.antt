@@ -4,6 +4,7 @@ pub mod Described
 pub mod Keys
 pub mod Ranges
 pub mod ListingLemmas
+pub mod Children
 pub mod Orders
 pub mod Steps
 pub mod RowChanges

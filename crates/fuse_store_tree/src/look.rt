@@ -12,12 +12,12 @@ ghost use Rattle.fuse_store_tree.specs.inner.Changing.{InsideFor};
 
 use crate::block_reads::find_bytes;
 use crate::counters::find_meta;
-use crate::entries::find_after;
+use crate::entries::{find_after, find_children};
 use crate::handles::find_handles_of;
 use crate::meta::{Meta, agreement_of};
 use crate::rows::{find_entry, find_handle, find_node};
 use fuse_keeper::StoreFault;
-use fuse_tree::{Agreement, Counters, EntryRow, HandleRow, Look, LookFault, NodeRow};
+use fuse_tree::{Agreement, Child, Counters, EntryRow, HandleRow, Look, LookFault, NodeRow};
 use fuse_wire::ByteList;
 use sqlite::{Alter, Connection};
 use std::alloc::Global;
@@ -144,6 +144,18 @@ impl<S: Alter> Look for TableLook<S> {
     ) -> Result<Vec<EntryRow>, LookFault> {
         match find_after(&mut self.conn, self.alloc, dir, cookie, limit) {
             Ok(rows) => Ok(rows),
+            Err(fault) => Err(self.fail(fault)),
+        }
+    }
+
+    fn children_after(
+        &mut self,
+        dir: u64,
+        cookie: u64,
+        limit: usize,
+    ) -> Result<Vec<Child>, LookFault> {
+        match find_children(&mut self.conn, self.alloc, dir, cookie, limit) {
+            Ok(children) => Ok(children),
             Err(fault) => Err(self.fail(fault)),
         }
     }

@@ -39,10 +39,10 @@ fn read_node(rows: &[Row], number: u64) -> Result<Option<NodeRow>, StoreFault>
 {
     match rows.first() {
         None => Ok(None),
-        Some(row) => {
-            let found = node_at(row, number)?;
-            Ok(Some(found))
-        }
+        Some(row) => match node_at(row, number) {
+            Ok(found) => Ok(Some(found)),
+            Err(fault) => Err(fault),
+        },
     }
 }
 

@@ -9,35 +9,34 @@ use Rattle.std.proofs.lemmas.List.{length-map, length-append, take_more}
 use Rattle.std.proofs.lemmas.List.Sums.{sum_by-append, sum_by-cons}
 use Rattle.fuse_wire.specs.Errnos.{einval}
 use Rattle.fuse_answer.specs.Entries.{Entry, packed_len}
-use Rattle.fuse_tree.specs.declared.rows.EntryRow.{EntryRow}
+use Rattle.fuse_tree.specs.declared.rows.Child.{Child}
 use Rattle.fuse_tree.specs.declared.rows.NodeRow.{NodeRow}
 use Rattle.fuse_tree.specs.Modes.{s_ifdir}
 use Rattle.fuse_tree.specs.State.{type_of}
-use Rattle.fuse_tree.specs.Rows.{Rows}
 use Rattle.fuse_tree.specs.Listing.{most_by}
 use Rattle.fuse_answer.specs.PlusEntries.{PlusEntry, plus_len}
 use Rattle.fuse_tree.specs.inner.Reading.{refused, told}
-use Rattle.fuse_tree.specs.inner.PlanListing.{row_above, row_entry, row_len, row_len_with, dots_after, plan_prefix, IsCut}
-use Rattle.fuse_tree.specs.inner.PlanPlus.{plus_dot, row_plus, plan_plus_prefix}
+use Rattle.fuse_tree.specs.inner.PlanListing.{row_above, listed, row_len, row_len_with, dots_after, plan_prefix, IsCut}
+use Rattle.fuse_tree.specs.inner.PlanPlus.{plus_dot, listed_plus, plan_plus_prefix}
 use Rattle.fuse_tree.proofs.Prefixes.{longest, prefix_upto, first_cut}
 
 -- ---- one entry after the other
 
 -- each takes so many bytes more
 module _ (extra : ℕ) where
-  abbrev size_of : EntryRow → ℕ
+  abbrev size_of : Child → ℕ
   size_of e = row_len_with extra e
 
-  one_len : (e : EntryRow) → sum_by size_of (e ∷ []) ≡ size_of e
+  one_len : (e : Child) → sum_by size_of (e ∷ []) ≡ size_of e
   one_len e = let s = sum_by-cons size_of e [] in omega (arith, s)
 
-  pub sum_more : (es : List EntryRow) (i : ℕ) (e : EntryRow) → i < length es → get_or es i e ≡ e
+  pub sum_more : (es : List Child) (i : ℕ) (e : Child) → i < length es → get_or es i e ≡ e
       → sum_by size_of (take (i + 1) es) ≡ sum_by size_of (take i es) + size_of e
   sum_more es i e within is =
-      ap (sum_by size_of) (take_more es i e within ∙ ap (λ (x : EntryRow). take i es ++ x ∷ []) is)
+      ap (sum_by size_of) (take_more es i e within ∙ ap (λ (x : Child). take i es ++ x ∷ []) is)
       ∙ sum_by-append size_of (take i es) (e ∷ []) ∙ ap (λ (n : ℕ). sum_by size_of (take i es) + n) (one_len e)
 
-  sum_grows : (es : List EntryRow) (n m : ℕ) → n ≤ m → sum_by size_of (take n es) ≤ sum_by size_of (take m es)
+  sum_grows : (es : List Child) (n m : ℕ) → n ≤ m → sum_by size_of (take n es) ≤ sum_by size_of (take m es)
   sum_grows es zero m le = omega arith
   sum_grows es (suc n) zero le = absurd (omega (arith, le))
   sum_grows [] (suc n) (suc m) le = omega arith
@@ -46,12 +45,12 @@ module _ (extra : ℕ) where
 
   -- ---- the cut, in a list of elements made of the rows
 
-  module _ {A : Type 0} (len : A → ℕ) (make : EntryRow → A) (same : (e : EntryRow) → len (make e) ≡ size_of e) where
-    sum_made : (es : List EntryRow) → sum_by len (map make es) ≡ sum_by size_of es
+  module _ {A : Type 0} (len : A → ℕ) (make : Child → A) (same : (e : Child) → len (make e) ≡ size_of e) where
+    sum_made : (es : List Child) → sum_by len (map make es) ≡ sum_by size_of es
     sum_made [] = refl
     sum_made (e ∷ es) = omega (arith, sum_by-cons len (make e) (map make es), same e, sum_made es, sum_by-cons size_of e es)
 
-    most_cut : (first : List A) (es : List EntryRow) (size left n : ℕ) → size ≤ sum_by len first + left → IsCut extra es left n
+    most_cut : (first : List A) (es : List Child) (size left n : ℕ) → size ≤ sum_by len first + left → IsCut extra es left n
         → most_by len (first ++ map make es) size (length (first ++ map make es)) ≤ length first + n
     most_cut first es size left n room cut = step (nat_le m (length first + n)) refl
       where
@@ -77,7 +76,7 @@ module _ (extra : ℕ) where
             let grows = sum_grows es (n + 1) j (omega (arith, past)) in
             absurd (omega (arith, sums, over, grows, prefix.fits, room))
 
-cut_is : {A : Type 0} (make : EntryRow → A) (first : List A) (es : List EntryRow) (n : ℕ)
+cut_is : {A : Type 0} (make : Child → A) (first : List A) (es : List Child) (n : ℕ)
     → first ++ map make (take n es) ≡ take (length first + n) (first ++ map make es)
 cut_is {A} make first es n = ap (λ (xs : List A). first ++ xs) (sym (take-map make n es)) ∙ sym (take-append-add first (map make es) n)
 
@@ -105,39 +104,39 @@ dots_fit offset row = step (nat_lt offset 1) (nat_lt offset 2)
 -- ---- entries that are left out
 
 -- where an entry is listed, the rest may be left out
-pub same_told : (rows : Rows) (first : List Entry) (es : List EntryRow) (size left n : ℕ) → size ≤ sum_by packed_len first + left → 0 < length first + n
+pub same_told : (first : List Entry) (es : List Child) (size left n : ℕ) → size ≤ sum_by packed_len first + left → 0 < length first + n
     → IsCut 0 es left n
-    → plan_prefix (first ++ map (row_entry rows) (take n es)) size ≡ plan_prefix (first ++ map (row_entry rows) es) size
-same_told rows first es size left n room some cut =
-    let all : List Entry = first ++ map (row_entry rows) es in
+    → plan_prefix (first ++ map (listed) (take n es)) size ≡ plan_prefix (first ++ map (listed) es) size
+same_told first es size left n room some cut =
+    let all : List Entry = first ++ map (listed) es in
     rw (
-      cut_is (row_entry rows) first es n,
+      cut_is (listed) first es n,
       first_cut packed_len all size (length first + n) some,
-      prefix_upto packed_len all size (length first + n) (most_cut 0 packed_len (row_entry rows) (λ e. omega arith) first es size left n room cut),
+      prefix_upto packed_len all size (length first + n) (most_cut 0 packed_len (listed) (λ e. omega arith) first es size left n room cut),
     ) refl
 
-pub same_plus : (valid : ℕ) (rows : Rows) (first : List PlusEntry) (es : List EntryRow) (size left n : ℕ) → size ≤ sum_by plus_len first + left
+pub same_plus : (valid : ℕ) (first : List PlusEntry) (es : List Child) (size left n : ℕ) → size ≤ sum_by plus_len first + left
     → 0 < length first + n → IsCut 128 es left n
-    → plan_plus_prefix (first ++ map (row_plus valid rows) (take n es)) size ≡ plan_plus_prefix (first ++ map (row_plus valid rows) es) size
-same_plus valid rows first es size left n room some cut =
-    let all : List PlusEntry = first ++ map (row_plus valid rows) es in
+    → plan_plus_prefix (first ++ map (listed_plus valid) (take n es)) size ≡ plan_plus_prefix (first ++ map (listed_plus valid) es) size
+same_plus valid first es size left n room some cut =
+    let all : List PlusEntry = first ++ map (listed_plus valid) es in
     rw (
-      cut_is (row_plus valid rows) first es n,
+      cut_is (listed_plus valid) first es n,
       first_cut plus_len all size (length first + n) some,
-      prefix_upto plus_len all size (length first + n) (most_cut 128 plus_len (row_plus valid rows) (λ e. refl) first es size left n room cut),
+      prefix_upto plus_len all size (length first + n) (most_cut 128 plus_len (listed_plus valid) (λ e. refl) first es size left n room cut),
     ) refl
 
 -- where nothing is
-pub none_told : (rows : Rows) (es : List EntryRow) (size : ℕ) → IsCut 0 es size 0
-    → cond (nat_eq (length es) 0) (told []) (refused einval) ≡ plan_prefix (map (row_entry rows) es) size
-none_told rows [] size cut = refl
-none_told rows (e ∷ es) size cut =
+pub none_told : (es : List Child) (size : ℕ) → IsCut 0 es size 0
+    → cond (nat_eq (length es) 0) (told []) (refused einval) ≡ plan_prefix (map (listed) es) size
+none_told [] size cut = refl
+none_told (e ∷ es) size cut =
     let past : size < row_len e = let over = cut.past (omega arith) in omega (arith, over, one_len 0 e) in
     rw (ne_eqb (length (e ∷ es)) 0 (λ same. absurd (omega (arith, same))), lt-leb (row_len e) size past) refl
 
-pub none_plus : (valid : ℕ) (rows : Rows) (es : List EntryRow) (size : ℕ) → IsCut 128 es size 0
-    → cond (nat_eq (length es) 0) (told []) (refused einval) ≡ plan_plus_prefix (map (row_plus valid rows) es) size
-none_plus valid rows [] size cut = refl
-none_plus valid rows (e ∷ es) size cut =
+pub none_plus : (valid : ℕ) (es : List Child) (size : ℕ) → IsCut 128 es size 0
+    → cond (nat_eq (length es) 0) (told []) (refused einval) ≡ plan_plus_prefix (map (listed_plus valid) es) size
+none_plus valid [] size cut = refl
+none_plus valid (e ∷ es) size cut =
     let past : size < row_len_with 128 e = let over = cut.past (omega arith) in omega (arith, over, one_len 128 e) in
     rw (ne_eqb (length (e ∷ es)) 0 (λ same. absurd (omega (arith, same))), lt-leb (row_len_with 128 e) size past) refl

@@ -1,16 +1,20 @@
 -- Entries of the rows of a tree: each has a name and leads to a node.
-use Rattle.std.proofs.Common.{◌≡◌, ◌<◌, ◌≤◌, ◌+◌, ℕ, zero, suc, get_or, List, [], ◌∷◌, ◌++◌, length, map, take, None, sym, ap, subst, ◌∙◌, append_assoc, arith}
+use Rattle.std.proofs.Common.{◌≡◌, ◌<◌, ◌≤◌, ◌+◌, ℕ, zero, suc, get_or, List, [], ◌∷◌, ◌++◌, length, map, take, Option, Some, None, IfSome, refl, sym, ap, subst, ◌∙◌, append_assoc, arith}
+use Rattle.std.specs.Prelude.{◌≢◌}
 use Rattle.std.specs.List.{AllByRecursion}
 use Rattle.std.proofs.lemmas.Bool.{eqb-false, ltb-false}
 use Rattle.std.proofs.lemmas.List.{map-append, take_more}
 use Rattle.fuse_wire.specs.Errnos.{einval, enametoolong}
 use Rattle.fuse_tree.specs.declared.rows.EntryRow.{EntryRow}
+use Rattle.fuse_tree.specs.declared.rows.NodeRow.{NodeRow}
+use Rattle.fuse_tree.specs.declared.rows.Child.{Child}
+use Rattle.fuse_tree.specs.inner.Reading.{IsWithin}
 use Rattle.fuse_tree.specs.State.{State, Shape, IsEntry, name_fault, is_odd_name}
-use Rattle.fuse_tree.specs.Rows.{Rows, IsRowed, rows_of_state, is_after, entries_after}
+use Rattle.fuse_tree.specs.Rows.{Rows, IsRowed, rows_of_state, row_at, is_after, entries_after, with_child, children_after}
 use Rattle.fuse_tree.specs.inner.PlanListing.{IsShown}
 use Rattle.fuse_tree.proofs.Agrees.{no_fault}
 use Rattle.fuse_tree.proofs.Lists.{all_more, all_kept, or_false}
-use Rattle.fuse_tree.proofs.Bounds.{rowed_is, child_there}
+use Rattle.fuse_tree.proofs.Bounds.{rowed_is, child_there, row_within}
 
 -- ---- names
 
@@ -26,7 +30,13 @@ name_fits name none =
 
 -- ---- entries
 
-shown_of : (s : State) (e : EntryRow) → IsEntry s.nodes s.entries s.next_cookie e → IsShown (rows_of_state s) e
+-- an entry has a name of 1 to 255 bytes, and leads to a row
+record Leads (rows : Rows) (e : EntryRow) : Type 0 where
+  some : 1 ≤ length e.name
+  short : length e.name ≤ 255
+  there : row_at rows e.child ≢ None
+
+shown_of : (s : State) (e : EntryRow) → IsEntry s.nodes s.entries s.next_cookie e → Leads (rows_of_state s) e
 shown_of s e p = let n = name_fits e.name p.name in record { some = n.some; short = n.short; there = child_there s e.child p.child }
 
 pub all_taken : {A : Type 0} (P : A → Type 0) (n : ℕ) (xs : List A) → AllByRecursion P xs → AllByRecursion P (take n xs)
@@ -34,19 +44,37 @@ all_taken P zero xs all = tt
 all_taken P (suc n) [] all = tt
 all_taken P (suc n) (x ∷ xs) all = (all.0, all_taken P n xs all.1)
 
-shown_in : (s : State) (dir cookie limit : ℕ) → Shape s → AllByRecursion (IsShown (rows_of_state s)) (entries_after (rows_of_state s) dir cookie limit)
+shown_in : (s : State) (dir cookie limit : ℕ) → Shape s → AllByRecursion (Leads (rows_of_state s)) (entries_after (rows_of_state s) dir cookie limit)
 shown_in s dir cookie limit tree =
     all_taken _ limit _
     (all_kept _ (is_after dir cookie) s.entries
-    (all_more (IsEntry s.nodes s.entries s.next_cookie) (IsShown (rows_of_state s)) s.entries (λ e p. shown_of s e p) tree.entries))
+    (all_more (IsEntry s.nodes s.entries s.next_cookie) (Leads (rows_of_state s)) s.entries (λ e p. shown_of s e p) tree.entries))
 
-pub all_shown : (rows : Rows) (dir cookie limit : ℕ) (es : List EntryRow) → IsRowed rows → es ≡ entries_after rows dir cookie limit
-    → AllByRecursion (IsShown rows) es
+all_lead : (rows : Rows) (dir cookie limit : ℕ) → IsRowed rows → AllByRecursion (Leads rows) (entries_after rows dir cookie limit)
 unfolding IsRowed
-all_shown rows dir cookie limit es is e =
+all_lead rows dir cookie limit is =
     let s = is.0 in
-    subst (AllByRecursion (IsShown rows)) (sym e)
-    (subst (λ (r : Rows). AllByRecursion (IsShown r) (entries_after r dir cookie limit)) (sym (is.2 ∙ rowed_is s)) (shown_in s dir cookie limit is.1.shape))
+    subst (λ (r : Rows). AllByRecursion (Leads r) (entries_after r dir cookie limit)) (sym (is.2 ∙ rowed_is s)) (shown_in s dir cookie limit is.1.shape)
+
+if_within : (rows : Rows) (number : ℕ) (o : Option NodeRow) → IsRowed rows → row_at rows number ≡ o → IfSome o IsWithin
+if_within rows number None is e = tt
+if_within rows number (Some row) is e = row_within rows number row is e
+
+with_rows : (rows : Rows) (es : List EntryRow) → IsRowed rows → AllByRecursion (Leads rows) es → AllByRecursion IsShown (map (with_child rows) es)
+with_rows rows [] is all = tt
+with_rows rows (e ∷ es) is all = (
+  record { some = all.0.some; short = all.0.short; there = all.0.there; within = if_within rows e.child (row_at rows e.child) is refl },
+  with_rows rows es is all.1,
+)
+
+pub all_shown : (rows : Rows) (dir cookie limit : ℕ) (cs : List Child) → IsRowed rows → cs ≡ children_after rows dir cookie limit → AllByRecursion IsShown cs
+all_shown rows dir cookie limit cs is e =
+    subst (AllByRecursion IsShown) (sym e) (with_rows rows (entries_after rows dir cookie limit) is (all_lead rows dir cookie limit is))
+
+-- what is made of the children is made of the entries
+pub made_of : {A : Type 0} (make : Child → A) (rows : Rows) (es : List EntryRow) → map make (map (with_child rows) es) ≡ map (λ e. make (with_child rows e)) es
+made_of make rows [] = refl
+made_of make rows (e ∷ es) = ap (λ more. make (with_child rows e) ∷ more) (made_of make rows es)
 
 -- ---- entries that are listed one after the other
 
@@ -55,13 +83,13 @@ all_at P [] i x all within is = absurd (omega arith)
 all_at P (y ∷ ys) zero x all within is = subst P is all.0
 all_at P (y ∷ ys) (suc i) x all within is = all_at P ys i x all.1 (omega arith) is
 
-pub one_more : {D A : Type 0} (see : D → A) (make : EntryRow → A) (es : List EntryRow) (i : ℕ) (e : EntryRow) (old : List A) (ds new : List D) (d : D)
+pub one_more : {D A E : Type 0} (see : D → A) (make : E → A) (es : List E) (i : ℕ) (e : E) (old : List A) (ds new : List D) (d : D)
     → i < length es → get_or es i e ≡ e → new ≡ ds ++ d ∷ []
     → map see ds ≡ old ++ map make (take i es) → see d ≡ make e
     → map see new ≡ old ++ map make (take (i + 1) es)
-one_more {D} {A} see make es i e old ds new d within is put before told =
-    let more : take (i + 1) es ≡ take i es ++ e ∷ [] = take_more es i e within ∙ ap (λ (x : EntryRow). take i es ++ x ∷ []) is in
+one_more {D} {A} {E} see make es i e old ds new d within is put before told =
+    let more : take (i + 1) es ≡ take i es ++ e ∷ [] = take_more es i e within ∙ ap (λ (x : E). take i es ++ x ∷ []) is in
     ap (map see) put ∙ map-append see ds (d ∷ []) ∙ ap (λ (x : List A). x ++ see d ∷ []) before
     ∙ ap (λ (x : A). (old ++ map make (take i es)) ++ x ∷ []) told
     ∙ append_assoc old (map make (take i es)) (make e ∷ []) ∙ ap (λ (x : List A). old ++ x) (sym (map-append make (take i es) (e ∷ [])))
-    ∙ ap (λ (x : List EntryRow). old ++ map make x) (sym more)
+    ∙ ap (λ (x : List E). old ++ map make x) (sym more)

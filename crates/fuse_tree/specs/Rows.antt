@@ -12,6 +12,7 @@ use Rattle.fuse_tree.specs.declared.rows.NodeRow.{NodeRow}
 use Rattle.fuse_tree.specs.declared.rows.Full.{Full}
 use Rattle.fuse_tree.specs.declared.rows.EntryRow.{EntryRow}
 use Rattle.fuse_tree.specs.declared.rows.HandleRow.{HandleRow}
+use Rattle.fuse_tree.specs.declared.rows.Child.{Child}
 use Rattle.fuse_tree.specs.declared.rows.Counters.{Counters as CountersRow}
 use Rattle.fuse_tree.specs.declared.rows.Change.{Change}
 use Rattle.fuse_tree.specs.declared.rows.Change.TheVariants as changes
@@ -103,6 +104,14 @@ is_after dir cookie e = (e.dir == dir) && nat_lt cookie e.cookie
 -- the entries of the directory with a higher cookie, at most so many
 abbrev pub entries_after : Rows → ℕ → ℕ → ℕ → List EntryRow
 entries_after rows dir cookie limit = take limit (filter (is_after dir cookie) rows.entries)
+
+-- an entry, with the row of the node that it leads to
+abbrev pub with_child : Rows → EntryRow → Child
+with_child rows e = record { entry = e; row = row_at rows e.child }
+
+-- the same entries, each with that row
+abbrev pub children_after : Rows → ℕ → ℕ → ℕ → List Child
+children_after rows dir cookie limit = map (with_child rows) (entries_after rows dir cookie limit)
 
 -- the handle of this number
 abbrev pub handle_at : List HandleRow → ℕ → Option HandleRow

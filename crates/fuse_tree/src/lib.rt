@@ -36,6 +36,8 @@ pub use mount::clearing;
 pub use pieces::{Piece, Pieces};
 pub use plain_tree::PlainTree;
 pub use planning::{PlanFault, plan};
-pub use rows::{Change, ChangeList, Counters, EntryRow, Full, HandleRow, NodeRow, Planned, Room};
+pub use rows::{
+    Change, ChangeList, Child, Counters, EntryRow, Full, HandleRow, NodeRow, Planned, Room,
+};
 pub use space::blocks_of;
 pub use terms::{max_file, max_nodes, serves_further};

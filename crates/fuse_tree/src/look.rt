@@ -1,11 +1,11 @@
 ghost use Rattle.std.specs.Prelude.{◌≡◌, None, IfOk, OnOk, OnErr, Option};
 ghost use Rattle.std.specs.Result.{result_err};
 ghost use Rattle.fuse_tree.specs.Rows.{Rows, IsRowed, row_at, entry_at, entries_after, handle_at};
-ghost use Rattle.fuse_tree.specs.Rows.{bytes_at, handles_of, agreement_at};
+ghost use Rattle.fuse_tree.specs.Rows.{bytes_at, children_after, handles_of, agreement_at};
 ghost use Rattle.fuse_tree.specs.declared.look.LookFault.{LookFault};
 
 use crate::agreement::Agreement;
-use crate::rows::{Counters, EntryRow, HandleRow, NodeRow};
+use crate::rows::{Child, Counters, EntryRow, HandleRow, NodeRow};
 use fuse_wire::ByteList;
 
 /// Why a look failed.
@@ -64,6 +64,20 @@ pub trait Look {
         requires { fault self.old ≡ None }
         ensures rows { is_clean self.new → (rows : Rows) → IsRowed rows → sees self.old rows
             → IfOk result (λ v. v.items ≡ entries_after rows dir cookie limit) }
+        ensures fault { fault self.new ≡ result_err result }
+        ensures looks { OnOk result (looks self.old self.new) }
+        ensures fails { OnErr result (fails self.old self.new) };
+
+    /// The same entries, each with the row of the node that it leads to.
+    fn children_after(
+        &mut self,
+        dir: u64,
+        cookie: u64,
+        limit: usize,
+    ) -> Result<Vec<Child>, LookFault>
+        requires { fault self.old ≡ None }
+        ensures rows { is_clean self.new → (rows : Rows) → IsRowed rows → sees self.old rows
+            → IfOk result (λ v. v.items ≡ children_after rows dir cookie limit) }
         ensures fault { fault self.new ≡ result_err result }
         ensures looks { OnOk result (looks self.old self.new) }
         ensures fails { OnErr result (fails self.old self.new) };

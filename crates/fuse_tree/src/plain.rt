@@ -7,7 +7,7 @@ mod nodes;
 use crate::agreement::Agreement;
 use crate::look::{Look, LookFault};
 use crate::plain::nodes::NodeList;
-use crate::rows::{Change, ChangeList, Counters, EntryRow, HandleRow, NodeRow, Room};
+use crate::rows::{Change, ChangeList, Child, Counters, EntryRow, HandleRow, NodeRow, Room};
 use fuse_init::{Profile, Settings};
 use fuse_wire::{ByteList, Memory, Moment};
 use std::alloc::Global;
@@ -30,7 +30,7 @@ impl PlainRows {
     ghost use Rattle.std.specs.Prelude.{filter, not, ◌==◌};
     ghost use Rattle.fuse_tree.specs.State.{new_store};
     ghost use Rattle.fuse_tree.specs.Rows.{rowed, apply_one, apply, put_node, at_node, written};
-    ghost use Rattle.fuse_tree.specs.Rows.{sized};
+    ghost use Rattle.fuse_tree.specs.Rows.{sized, children_after};
     ghost use Rattle.fuse_tree.specs.Clearing.{cleared_rows, cleared_room};
     ghost use Rattle.fuse_tree.specs.PlainRows.{rows_of, fault_of};
 
@@ -242,6 +242,13 @@ impl PlainRows {
         self.nodes.write(self.alloc, node, offset, bytes)
     }
 
+    fn children_of(&self, dir: u64, cookie: u64, limit: usize) -> Result<Vec<Child>, Memory>
+        ensures { IfOk result (λ v. v.items ≡ children_after (rows_of self.now) dir cookie limit) }
+    {
+        let entries = entries::after(self.alloc, self.entries.as_slice(), dir, cookie, limit)?;
+        self.nodes.with_rows(self.alloc, entries)
+    }
+
     fn set_size(&mut self, node: u64, size: u64) -> Result<(), Memory>
         ensures ok { OnOk result (rows_of self.new
             ≡ record (rows_of self.old) {
@@ -292,6 +299,21 @@ impl Look for PlainRows {
     ) -> Result<Vec<EntryRow>, LookFault> {
         match entries::after(self.alloc, self.entries.as_slice(), dir, cookie, limit) {
             Ok(entries) => Ok(entries),
+            Err(Memory) => {
+                self.failed = true;
+                Err(LookFault::Memory)
+            }
+        }
+    }
+
+    fn children_after(
+        &mut self,
+        dir: u64,
+        cookie: u64,
+        limit: usize,
+    ) -> Result<Vec<Child>, LookFault> {
+        match self.children_of(dir, cookie, limit) {
+            Ok(children) => Ok(children),
             Err(Memory) => {
                 self.failed = true;
                 Err(LookFault::Memory)

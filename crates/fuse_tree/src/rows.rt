@@ -53,6 +53,14 @@ pub struct EntryRow {
     pub cookie: u64,
 }
 
+/// An entry, with the row of the node that it leads to.
+#[derive(Drop)]
+pub struct Child {
+    pub entry: EntryRow,
+    /// None is there only where the rows are those of no tree.
+    pub row: Option<NodeRow>,
+}
+
 /// A node that is open.
 #[derive(Clone, Copy, Debug, PartialEq, Eq)]
 pub struct HandleRow {

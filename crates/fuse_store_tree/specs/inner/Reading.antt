@@ -1,12 +1,16 @@
 -- How rows are read from the tables (own profile).
-use Rattle.std.specs.Prelude.{◌==◌, if◌then◌else◌, ◌+◌, replicate, zero, suc, nat_lt, min, length, ◌-◌, ℕ, List, [], ◌∷◌, Option, Some, None, slice_index_or}
+use Rattle.std.specs.Prelude.{◌≡◌, ◌++◌, ◌==◌, if◌then◌else◌, ◌+◌, replicate, zero, suc, nat_lt, min, length, ◌-◌, ℕ, List, [], ◌∷◌, Option, Some, None, IfSome, slice_index_or}
+use Rattle.sqlite.specs.Order.{Row}
 use Rattle.fuse_init.specs.declared.settings.Settings.{Settings}
 use Rattle.fuse_tree.specs.Bounds.{block_bytes}
 use Rattle.fuse_tree.specs.declared.rows.NodeRow.{NodeRow}
+use Rattle.fuse_tree.specs.declared.rows.EntryRow.{EntryRow}
+use Rattle.fuse_tree.specs.declared.rows.Child.{Child}
 use Rattle.fuse_tree.specs.declared.rows.Counters.{Counters as CountersRow}
 use Rattle.fuse_tree.specs.declared.rows.Room.{Room}
 use Rattle.fuse_store_tables.specs.Blocks.{Block}
-use Rattle.fuse_store_tables.specs.Content.{Content, Counter}
+use Rattle.fuse_store_tables.specs.Content.{Content, Counter, at_by, node_key, columns_of, shown_entry}
+use Rattle.fuse_store_tree.specs.Fits.{KeepsNode}
 use Rattle.fuse_store_tree.specs.Store.{DescribesAs, Store, byte_in, counter, bodies_of}
 
 -- the value at this place, and the counters and the settings of these values
@@ -29,6 +33,18 @@ counted_in cs = record {
 
 abbrev pub agreed_in : List Counter → Option Settings
 agreed_in cs = if value_of cs 6 == 0 then None else Some (record { minor = value_of cs 7; max_readahead = value_of cs 8; flags = record { 0 = value_of cs 9 } })
+
+-- an entry of the tables beside the row of its node
+abbrev pub child_in : Content → EntryRow → Child
+child_in c e = record { entry = e; row = at_by node_key e.child c.nodes }
+
+-- as a row that is read shows it
+abbrev pub shown_beside : Child → Row
+shown_beside x = columns_of x.row ++ shown_entry x.entry
+
+-- an entry of this directory whose node is read back as it was written
+abbrev pub IsReadBack : ℕ → Child → Type 0
+IsReadBack dir x = (x.entry.dir ≡ dir) × IfSome x.row (λ n. KeepsNode n × (n.node ≡ x.entry.child))
 
 -- so many values of a function from a place on
 abbrev pub range_of : (ℕ → ℕ) → ℕ → ℕ → List ℕ

@@ -1,7 +1,7 @@
 -- The plan of READDIR over the rows (own profile), in the order of its checks.
 -- Not part of what is trusted: neither `done` nor the public clauses of `plan` speak of it.
 use Rattle.std.specs.Prelude.{◌≡◌, ◌≢◌, ◌<◌, ◌≤◌, ◌+◌, ◌/◌, ◌==◌, ℕ, not, nat_lt, if◌then◌else◌, List, ◌++◌, length, map, take, filter, Option, Some, None}
-use Rattle.std.specs.Prelude.{Result, IfOk, IfErr}
+use Rattle.std.specs.Prelude.{Result, IfOk, IfErr, IfSome}
 use Rattle.std.specs.List.{sum_by}
 use Rattle.fuse_wire.specs.Errnos.{enoent, ebadf, enotdir, einval}
 use Rattle.fuse_request.specs.declared.request.ReadIn.{ReadIn}
@@ -11,13 +11,14 @@ use Rattle.fuse_tree.specs.declared.planning.fault.PlanFault.{PlanFault}
 use Rattle.fuse_tree.specs.declared.planning.fault.PlanFault.TheVariants as faults
 use Rattle.fuse_tree.specs.declared.rows.NodeRow.{NodeRow}
 use Rattle.fuse_tree.specs.declared.rows.EntryRow.{EntryRow}
+use Rattle.fuse_tree.specs.declared.rows.Child.{Child}
 use Rattle.fuse_tree.specs.declared.rows.Planned.{Planned}
 use Rattle.fuse_tree.specs.State.{is_dir, type_of}
-use Rattle.fuse_tree.specs.Rows.{Rows, IsRowed, row_at, entries_after, row_is_named}
+use Rattle.fuse_tree.specs.Rows.{Rows, IsRowed, with_child, entries_after, row_is_named}
 use Rattle.fuse_tree.specs.Handles.{is_open}
 use Rattle.fuse_tree.specs.Plan.{look_fault}
 use Rattle.fuse_tree.specs.Listing.{dots, is_following, longest_prefix, first_fits}
-use Rattle.fuse_tree.specs.inner.Reading.{refused, told}
+use Rattle.fuse_tree.specs.inner.Reading.{IsWithin, refused, told}
 
 -- ---- the entries of a directory
 
@@ -28,8 +29,11 @@ abbrev pub row_kind : Option NodeRow → ℕ
 row_kind None = 0
 row_kind (Some row) = type_of row.mode
 
+abbrev pub listed : Child → Entry
+listed c = record { ino = c.entry.child; off = c.entry.cookie; kind = row_kind c.row; name = c.entry.name }
+
 abbrev pub row_entry : Rows → EntryRow → Entry
-row_entry rows e = record { ino = e.child; off = e.cookie; kind = row_kind (row_at rows e.child); name = e.name }
+row_entry rows e = listed (with_child rows e)
 
 -- more entries than can fit
 abbrev pub enough : ℕ → ℕ
@@ -42,17 +46,17 @@ abbrev pub rows_after : ℕ → ℕ → NodeRow → Rows → List Entry
 rows_after offset size row rows = dots_after offset row ++ map (row_entry rows) (entries_after rows row.node offset (enough size))
 
 -- how many bytes the entry takes in a listing
-abbrev pub row_len : EntryRow → ℕ
-row_len e = entry_len (length e.name)
+abbrev pub row_len : Child → ℕ
+row_len c = entry_len (length c.entry.name)
 
 -- where each takes so many bytes more
-abbrev pub row_len_with : ℕ → EntryRow → ℕ
-row_len_with extra e = extra + row_len e
+abbrev pub row_len_with : ℕ → Child → ℕ
+row_len_with extra c = extra + row_len c
 
--- the first n entries are followed by one that ends past so many bytes, or they are all
-pub record IsCut (extra : ℕ) (es : List EntryRow) (left n : ℕ) : Type 0 where
-  pub within : n ≤ length es
-  pub past : n < length es → left < sum_by (row_len_with extra) (take (n + 1) es)
+-- the first n are followed by one that ends past so many bytes, or they are all
+pub record IsCut (extra : ℕ) (cs : List Child) (left n : ℕ) : Type 0 where
+  pub within : n ≤ length cs
+  pub past : n < length cs → left < sum_by (row_len_with extra) (take (n + 1) cs)
 
 -- ---- READDIR
 
@@ -78,8 +82,9 @@ ReadsBy view clean sees result told =
     look_fault result ≡ None → clean → (rows : Rows) → IsRowed rows → sees rows
     → IfOk result (λ x. view x ≡ told rows) × IfErr result (λ fault. fault ≢ faults.NotATree)
 
--- an entry has a name of 1 to 255 bytes, and leads to a row
-pub record IsShown (rows : Rows) (e : EntryRow) : Type 0 where
-  pub some : 1 ≤ length e.name
-  pub short : length e.name ≤ name_limit
-  pub there : row_at rows e.child ≢ None
+-- an entry has a name of 1 to 255 bytes, and leads to a row within the bounds of every profile
+pub record IsShown (c : Child) : Type 0 where
+  pub some : 1 ≤ length c.entry.name
+  pub short : length c.entry.name ≤ name_limit
+  pub there : c.row ≢ None
+  pub within : IfSome c.row IsWithin

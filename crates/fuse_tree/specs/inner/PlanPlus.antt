@@ -10,21 +10,25 @@ use Rattle.fuse_answer.specs.Sizes.{entry_out_size}
 use Rattle.fuse_tree.specs.Bounds.{read_limit, least_entry}
 use Rattle.fuse_tree.specs.declared.rows.NodeRow.{NodeRow}
 use Rattle.fuse_tree.specs.declared.rows.EntryRow.{EntryRow}
+use Rattle.fuse_tree.specs.declared.rows.Child.{Child}
 use Rattle.fuse_tree.specs.declared.rows.Planned.{Planned}
 use Rattle.fuse_tree.specs.State.{is_dir}
-use Rattle.fuse_tree.specs.Rows.{Rows, row_at, entries_after, row_is_named}
+use Rattle.fuse_tree.specs.Rows.{Rows, with_child, entries_after, row_is_named}
 use Rattle.fuse_tree.specs.Handles.{is_open}
 use Rattle.fuse_tree.specs.Done.{entry_of}
 use Rattle.fuse_tree.specs.Listing.{longest_by, first_fits_by}
-use Rattle.fuse_tree.specs.inner.PlanListing.{row_entry, dots_after}
+use Rattle.fuse_tree.specs.inner.PlanListing.{listed, dots_after}
 use Rattle.fuse_tree.specs.inner.Reading.{refused, told, row_attr}
 
 -- the directory itself or the one above it
 abbrev pub plus_dot : Entry → PlusEntry
 plus_dot e = record { out = None; entry = e }
 
+abbrev pub listed_plus : ℕ → Child → PlusEntry
+listed_plus valid c = record { out = option_map (λ row. entry_of valid (row_attr row)) c.row; entry = listed c }
+
 abbrev pub row_plus : ℕ → Rows → EntryRow → PlusEntry
-row_plus valid rows e = record { out = option_map (λ row. entry_of valid (row_attr row)) (row_at rows e.child); entry = row_entry rows e }
+row_plus valid rows e = listed_plus valid (with_child rows e)
 
 -- more entries than can fit
 abbrev pub enough_plus : ℕ → ℕ

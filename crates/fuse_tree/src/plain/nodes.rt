@@ -1,7 +1,7 @@
 use crate::limits::ROOT_ID;
 use crate::mode::S_IFDIR;
 use crate::plain::chunks::Chunks;
-use crate::rows::{Full, NodeRow};
+use crate::rows::{Child, EntryRow, Full, NodeRow};
 use crate::space::blocks_of;
 use fuse_wire::{ByteList, Memory, Moment};
 use std::alloc::Global;
@@ -51,6 +51,34 @@ impl NodeList {
         ensures { result ≡ option_map (λ f. f.row) (find (λ f. f.row.node == number) self.now) }
     {
         row_in(self.nodes.as_slice(), number)
+    }
+
+    fn with_row(&self, entry: EntryRow) -> Child
+        ensures { result ≡ record {
+          entry = entry;
+          row = option_map (λ f. f.row) (find (λ f. f.row.node == entry.child) self.now);
+        } }
+    {
+        let row = self.row(entry.child);
+        Child { entry, row }
+    }
+
+    // The entries, each with the row of the node that it leads to.
+    pub(super) fn with_rows(
+        &self,
+        alloc: Global,
+        entries: Vec<EntryRow>,
+    ) -> Result<Vec<Child>, Memory>
+        ensures { IfOk result (λ v. v.items ≡ map (λ e. record {
+          entry = e;
+          row = option_map (λ f. f.row) (find (λ f. f.row.node == e.child) self.now);
+        }) entries.items) }
+    {
+        let mut children = Vec::new(alloc);
+        for entry in entries {
+            children.push(self.with_row(entry))?;
+        }
+        Ok(children)
     }
 
     pub(super) fn bytes(

@@ -1,4 +1,4 @@
-ghost use Rattle.std.specs.Prelude.{◌≡◌, None, is_some, IfOk, IfSome};
+ghost use Rattle.std.specs.Prelude.{◌≡◌, true, false, None, is_some, IfOk, IfSome};
 ghost use Rattle.fuse_tree.specs.Rows.{row_at, entry_at, handle_at, agreement_at};
 ghost use Rattle.fuse_tree.specs.Handles.{access_at, is_open};
 ghost use Rattle.fuse_tree.specs.inner.Reading as reading;
@@ -33,10 +33,18 @@ pub(crate) fn find_node<L: Look>(look: &mut L, number: u64) -> Result<Option<Nod
     let Some(row) = look.node(number)? else {
         return Ok(None);
     };
-    if row.size > MAX_FILE || u64::from(row.subdirs) > MAX_NODES {
+    if is_beyond(&row) {
         return Err(PlanFault::NotATree);
     }
     Ok(Some(row))
+}
+
+// Whether the row is beyond the bounds of every profile.
+pub(crate) fn is_beyond(row: &NodeRow) -> bool
+    ensures beyond { result ≡ true → ¬ IsWithin row.now }
+    ensures within { result ≡ false → IsWithin row.now }
+{
+    row.size > MAX_FILE || u64::from(row.subdirs) > MAX_NODES
 }
 
 // Whether the row is within the bounds of this profile.

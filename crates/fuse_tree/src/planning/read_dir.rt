@@ -1,27 +1,27 @@
 ghost use Rattle.std.specs.Prelude.{◌≡◌, ◌≤◌, ◌*◌, ◌++◌, [], if◌then◌else◌, None, All, length, map};
-ghost use Rattle.std.specs.Prelude.{IfOk, IfErr, OnOk, ◌≢◌};
+ghost use Rattle.std.specs.Prelude.{Some, IfOk, IfErr, OnOk, OnErr, ◌≢◌};
 ghost use Rattle.std.specs.List.{AllByRecursion, sum_by};
 ghost use Rattle.fuse_wire.specs.declared.errno.TheConstants.Errno.{EINVAL};
 ghost use Rattle.fuse_answer.specs.Entries.{entry_of, packed_len, IsNamed};
 ghost use Rattle.fuse_tree.specs.State.{type_of};
-ghost use Rattle.fuse_tree.specs.Rows.{Rows, IsRowed, entries_after};
+ghost use Rattle.fuse_tree.specs.Rows.{children_after};
 ghost use Rattle.fuse_tree.specs.Plan.{look_fault};
 ghost use Rattle.fuse_tree.specs.inner.PlanListing as planning;
-ghost use Rattle.fuse_tree.specs.inner.PlanListing.{dots_after, row_above, row_entry, row_len_with};
+ghost use Rattle.fuse_tree.specs.inner.PlanListing.{dots_after, row_above, listed, row_len_with};
 ghost use Rattle.fuse_tree.specs.inner.PlanListing.{plan_prefix, plan_list, ReadsBy, IsCut, IsShown};
 ghost use Rattle.fuse_tree.specs.inner.Reading as planned;
-ghost use Rattle.fuse_tree.specs.inner.Reading.{Reports, told, LooksUp, Looked, view};
+ghost use Rattle.fuse_tree.specs.inner.Reading.{IsWithin, Reports, told, LooksUp, Looked, view};
 ghost use Rattle.fuse_tree.specs.declared.limits.TheConstants.{MAX_READ as max_read};
 ghost use Rattle.fuse_tree.specs.declared.mode.TheConstants.{S_IFDIR as s_ifdir};
 
 use super::answers::{done_nothing, refused, unchanged};
 use super::attributes::is_directory;
 use super::fault::PlanFault;
-use super::finding::{find_node, is_open_at};
+use super::finding::{is_beyond, is_open_at};
 use crate::limits::{LEAST_ENTRY, MAX_READ, ROOT_ID};
 use crate::look::Look;
 use crate::mode::{S_IFDIR, TYPE_UNIT, TYPES};
-use crate::rows::{EntryRow, NodeRow, Planned};
+use crate::rows::{Child, NodeRow, Planned};
 use fuse_answer::{Answer, Dirent, MAX_NAME, PackFault, pack};
 use fuse_request::ReadIn;
 use fuse_wire::{Errno, Memory};
@@ -67,37 +67,33 @@ fn list<L: Look>(
         (plan_list offset size row.now) }
 {
     let enough = size / LEAST_ENTRY + 1;
-    let entries = find_entries(look, row.node, offset, enough as usize)?;
+    let children = find_children(look, row.node, offset, enough as usize)?;
     let dirents = dots_of(alloc, offset, row)?;
-    list_after(alloc, look, dirents, entries.as_slice(), size)
+    list_after(alloc, dirents, children.as_slice(), size)
 }
 
-// After the dots as many entries as fit. No other's child is looked up.
+// After the dots as many entries as fit.
 #[tactic(auto, using(crate::proofs::Cuts::none_told, crate::proofs::Cuts::dots_fit))]
-fn list_after<'a, L: Look>(
+fn list_after<'a>(
     alloc: Global,
-    look: &mut L,
     mut dirents: Vec<Dirent<'a>>,
-    entries: &'a [EntryRow],
+    children: &'a [Child],
     size: u32,
 ) -> Result<Planned, PlanFault>
-    requires fault { L.fault look.old ≡ None }
     requires size { size ≤ max_read }
     requires few { length dirents.items ≤ 2 }
     requires dots { sum_by packed_len (map entry_of dirents.items) ≡ 32 * length dirents.items }
     requires named { All (λ d. IsNamed (entry_of d)) dirents.items }
-    ensures plan { look_fault result ≡ None → L.is_clean look.new → (rows : Rows) → IsRowed rows
-        → L.sees look.old rows → AllByRecursion (IsShown rows) entries.now
-        → Reports result (plan_prefix (map entry_of dirents.entry.items
-        ++ map (row_entry rows) entries.now) size) }
-    ensures looked { Looked L.fault L.looks L.fails look.old look.new result }
+    ensures plan { AllByRecursion IsShown children.now → Reports result (plan_prefix
+        (map entry_of dirents.entry.items ++ map listed children.now) size) }
+    ensures looked { look_fault result ≡ None }
 {
     let dots_len = LEAST_ENTRY as usize * dirents.len();
-    let count = count_fitting(entries, 0, (size as usize).saturating_sub(dots_len));
+    let count = count_fitting(children, 0, (size as usize).saturating_sub(dots_len));
     if count == 0 && dirents.is_empty() {
-        return Ok(list_nothing(alloc, entries.is_empty()));
+        return Ok(list_nothing(alloc, children.is_empty()));
     }
-    push_entries(look, &mut dirents, &entries[..count])?;
+    push_entries(&mut dirents, &children[..count])?;
     Ok(list_prefix(alloc, dirents.as_slice(), size)?)
 }
 
@@ -113,14 +109,14 @@ pub(crate) fn list_nothing(alloc: Global, is_all: bool) -> Planned
 }
 
 // How many entries come before the first that ends past so many bytes, where each takes some more.
-pub(crate) fn count_fitting(entries: &[EntryRow], extra: usize, room: usize) -> usize
+pub(crate) fn count_fitting(children: &[Child], extra: usize, room: usize) -> usize
     requires { extra ≤ 128 }
-    ensures { IsCut extra entries.now room result }
+    ensures { IsCut extra children.now room result }
 {
     let mut left = room;
     let mut count = 0;
-    for entry in entries {
-        let len = len_of(extra, entry);
+    for child in children {
+        let len = len_of(extra, child);
         if len > left {
             return count;
         }
@@ -131,25 +127,25 @@ pub(crate) fn count_fitting(entries: &[EntryRow], extra: usize, room: usize) -> 
 }
 
 // How many bytes the entry takes in a listing, with so many more.
-fn len_of(extra: usize, entry: &EntryRow) -> usize
+fn len_of(extra: usize, child: &Child) -> usize
     requires { extra ≤ 128 }
-    ensures { result ≡ row_len_with extra entry.now }
+    ensures { result ≡ row_len_with extra child.now }
 {
-    extra + Dirent::NAME_AT + entry.name.as_slice().len().next_multiple_of(8)
+    extra + Dirent::NAME_AT + child.entry.name.as_slice().len().next_multiple_of(8)
 }
 
-pub(crate) fn find_entries<L: Look>(
+pub(crate) fn find_children<L: Look>(
     look: &mut L,
     dir: u64,
     cookie: u64,
     limit: usize,
-) -> Result<Vec<EntryRow>, PlanFault>
+) -> Result<Vec<Child>, PlanFault>
     requires { L.fault look.old ≡ None }
     ensures rows { ReadsBy (λ v. v.items) (L.is_clean look.new) (L.sees look.old) result
-        (λ rows. entries_after rows dir cookie limit) }
+        (λ rows. children_after rows dir cookie limit) }
     ensures looked { Looked L.fault L.looks L.fails look.old look.new result }
 {
-    Ok(look.entries_after(dir, cookie, limit)?)
+    Ok(look.children_after(dir, cookie, limit)?)
 }
 
 // The directory itself and the one above it, where they stand after the offset.
@@ -200,48 +196,55 @@ pub(crate) fn type_in(mode: u32) -> u32
 }
 
 // Appends entries, each with the type of the node that it leads to.
-fn push_entries<'a, L: Look>(
-    look: &mut L,
-    dirents: &mut Vec<Dirent<'a>>,
-    entries: &'a [EntryRow],
-) -> Result<(), PlanFault>
-    requires fault { L.fault look.old ≡ None }
+fn push_entries<'a>(dirents: &mut Vec<Dirent<'a>>, children: &'a [Child]) -> Result<(), PlanFault>
     requires named { All (λ d. IsNamed (entry_of d)) dirents.old.items }
-    ensures entries { look_fault result ≡ None → L.is_clean look.new → (rows : Rows) → IsRowed rows
-        → L.sees look.old rows → AllByRecursion (IsShown rows) entries.now
-        → OnOk result (map entry_of dirents.new.items ≡ map entry_of dirents.old.items
-        ++ map (row_entry rows) entries.now) × IfErr result (λ f. f ≢ PlanFault.NotATree) }
+    ensures entries { OnOk result (map entry_of dirents.new.items
+        ≡ map entry_of dirents.old.items ++ map listed children.now) }
     ensures named { OnOk result (All (λ d. IsNamed (entry_of d)) dirents.new.items) }
-    ensures looked { Looked L.fault L.looks L.fails look.old look.new result }
+    ensures shown { AllByRecursion IsShown children.now → IfErr result (λ f. f ≢ PlanFault.NotATree) }
+    ensures looked { look_fault result ≡ None }
 {
-    for entry in entries {
-        let dirent = dirent_of(look, entry)?;
+    for child in children {
+        let dirent = dirent_of(child)?;
         dirents.push(dirent)?;
     }
     Ok(())
 }
 
-fn dirent_of<'a, L: Look>(look: &mut L, entry: &'a EntryRow) -> Result<Dirent<'a>, PlanFault>
-    requires { L.fault look.old ≡ None }
-    ensures entry { look_fault result ≡ None → L.is_clean look.new → (rows : Rows) → IsRowed rows
-        → L.sees look.old rows → IsShown rows entry.now
-        → IfOk result (λ d. entry_of d ≡ row_entry rows entry.now)
-        × IfErr result (λ f. f ≢ PlanFault.NotATree) }
-    ensures named { IfOk result (λ d. IsNamed (entry_of d)) }
-    ensures looked { Looked L.fault L.looks L.fails look.old look.new result }
+// The row of a child that is listed, within the bounds of every profile.
+pub(crate) fn listed_row(child: &Child) -> Result<NodeRow, PlanFault>
+    ensures row { IfOk result (λ row. child.now.row ≡ Some row) }
+    ensures within { IfOk result IsWithin }
+    ensures some { OnOk result (1 ≤ length child.now.entry.name) }
+    ensures short { OnOk result (length child.now.entry.name ≤ 255) }
+    ensures shown { OnErr result (¬ IsShown child.now) }
+    ensures looked { look_fault result ≡ None }
 {
-    let name = entry.name.as_slice();
+    let name = child.entry.name.as_slice();
     if name.is_empty() || name.len() > MAX_NAME {
         return Err(PlanFault::NotATree);
     }
-    let Some(child) = find_node(look, entry.child)? else {
+    let Some(row) = child.row else {
         return Err(PlanFault::NotATree);
     };
+    if is_beyond(&row) {
+        return Err(PlanFault::NotATree);
+    }
+    Ok(row)
+}
+
+fn dirent_of(child: &Child) -> Result<Dirent<'_>, PlanFault>
+    ensures entry { IfOk result (λ d. entry_of d ≡ listed child.now) }
+    ensures named { IfOk result (λ d. IsNamed (entry_of d)) }
+    ensures shown { OnErr result (¬ IsShown child.now) }
+    ensures looked { look_fault result ≡ None }
+{
+    let row = listed_row(child)?;
     Ok(Dirent {
-        ino: entry.child,
-        off: entry.cookie,
-        kind: type_in(child.mode),
-        name,
+        ino: child.entry.child,
+        off: child.entry.cookie,
+        kind: type_in(row.mode),
+        name: child.entry.name.as_slice(),
     })
 }
 

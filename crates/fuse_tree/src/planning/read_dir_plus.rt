@@ -1,29 +1,30 @@
 ghost use Rattle.std.specs.Prelude.{◌≡◌, ◌≤◌, ◌*◌, ◌++◌, None, All, length, map};
-ghost use Rattle.std.specs.Prelude.{IfOk, IfErr, OnOk, ◌≢◌};
+ghost use Rattle.std.specs.Prelude.{IfOk, IfErr, OnOk, OnErr, ◌≢◌};
 ghost use Rattle.std.specs.List.{AllByRecursion, sum_by};
 ghost use Rattle.fuse_answer.specs.Entries as listed;
 ghost use Rattle.fuse_answer.specs.Entries.{IsNamed};
 ghost use Rattle.fuse_answer.specs.PlusEntries.{plus_of, plus_len};
 ghost use Rattle.fuse_tree.specs.State.{type_of};
-ghost use Rattle.fuse_tree.specs.Rows.{Rows, IsRowed};
 ghost use Rattle.fuse_tree.specs.Plan.{look_fault};
 ghost use Rattle.fuse_tree.specs.inner.PlanListing.{dots_after, IsShown};
 ghost use Rattle.fuse_tree.specs.inner.PlanPlus as planning;
-ghost use Rattle.fuse_tree.specs.inner.PlanPlus.{plus_dot, row_plus, plan_plus_prefix};
+ghost use Rattle.fuse_tree.specs.inner.PlanPlus.{plus_dot, listed_plus, plan_plus_prefix};
 ghost use Rattle.fuse_tree.specs.inner.PlanPlus.{plan_list_plus};
-ghost use Rattle.fuse_tree.specs.inner.Reading.{Reports, LooksUp, Looked, view};
+ghost use Rattle.fuse_tree.specs.inner.Reading.{Reports, LooksUp, view};
 ghost use Rattle.fuse_tree.specs.declared.limits.TheConstants.{MAX_READ as max_read};
 ghost use Rattle.fuse_tree.specs.declared.mode.TheConstants.{S_IFDIR as s_ifdir};
 
 use super::answers::{entry_of, refused, unchanged};
 use super::attributes::is_directory;
 use super::fault::PlanFault;
-use super::finding::{find_node, is_open_at};
-use super::read_dir::{above_of, count_fitting, dot_of, find_entries, list_nothing, type_in};
+use super::finding::is_open_at;
+use super::read_dir::{
+    above_of, count_fitting, dot_of, find_children, list_nothing, listed_row, type_in,
+};
 use crate::limits::{LEAST_ENTRY, MAX_READ};
 use crate::look::Look;
-use crate::rows::{EntryRow, NodeRow, Planned};
-use fuse_answer::{Answer, Dirent, EntryOut, MAX_NAME, PackFault, PlusDirent, pack_plus};
+use crate::rows::{Child, NodeRow, Planned};
+use fuse_answer::{Answer, Dirent, EntryOut, PackFault, PlusDirent, pack_plus};
 use fuse_request::ReadIn;
 use fuse_wire::{Errno, Memory};
 use std::alloc::Global;
@@ -70,39 +71,35 @@ fn list_plus<L: Look>(
         (plan_list_plus valid offset size row.now) }
 {
     let enough = size / (EntryOut::SIZE as u32 + LEAST_ENTRY) + 1;
-    let entries = find_entries(look, row.node, offset, enough as usize)?;
+    let children = find_children(look, row.node, offset, enough as usize)?;
     let dirents = plus_dots_of(alloc, offset, row)?;
-    list_plus_after(alloc, look, valid, dirents, entries.as_slice(), size)
+    list_plus_after(alloc, valid, dirents, children.as_slice(), size)
 }
 
-// After the dots as many entries as fit. No other's child is looked up.
+// After the dots as many entries as fit.
 #[tactic(auto, using(crate::proofs::Cuts::none_plus, crate::proofs::Cuts::dots_fit))]
-fn list_plus_after<'a, L: Look>(
+fn list_plus_after<'a>(
     alloc: Global,
-    look: &mut L,
     valid: u64,
     mut dirents: Vec<PlusDirent<'a>>,
-    entries: &'a [EntryRow],
+    children: &'a [Child],
     size: u32,
 ) -> Result<Planned, PlanFault>
-    requires fault { L.fault look.old ≡ None }
     requires size { size ≤ max_read }
     requires few { length dirents.items ≤ 2 }
     requires dots { sum_by plus_len (map plus_of dirents.items) ≡ 160 * length dirents.items }
     requires named { All (λ d. IsNamed (listed.entry_of d.dirent)) dirents.items }
-    ensures plan { look_fault result ≡ None → L.is_clean look.new → (rows : Rows) → IsRowed rows
-        → L.sees look.old rows → AllByRecursion (IsShown rows) entries.now
-        → Reports result (plan_plus_prefix (map plus_of dirents.entry.items
-        ++ map (row_plus valid rows) entries.now) size) }
-    ensures looked { Looked L.fault L.looks L.fails look.old look.new result }
+    ensures plan { AllByRecursion IsShown children.now → Reports result (plan_plus_prefix
+        (map plus_of dirents.entry.items ++ map (listed_plus valid) children.now) size) }
+    ensures looked { look_fault result ≡ None }
 {
     let dots_len = (EntryOut::SIZE + LEAST_ENTRY as usize) * dirents.len();
     let room = (size as usize).saturating_sub(dots_len);
-    let count = count_fitting(entries, EntryOut::SIZE, room);
+    let count = count_fitting(children, EntryOut::SIZE, room);
     if count == 0 && dirents.is_empty() {
-        return Ok(list_nothing(alloc, entries.is_empty()));
+        return Ok(list_nothing(alloc, children.is_empty()));
     }
-    push_plus(look, valid, &mut dirents, &entries[..count])?;
+    push_plus(valid, &mut dirents, &children[..count])?;
     Ok(list_plus_prefix(alloc, dirents.as_slice(), size)?)
 }
 
@@ -144,56 +141,40 @@ fn plus_dot_of(ino: u64, off: u64, name: &[u8]) -> PlusDirent<'_>
 }
 
 // Appends entries, each with what LOOKUP answers of its node.
-fn push_plus<'a, L: Look>(
-    look: &mut L,
+fn push_plus<'a>(
     valid: u64,
     dirents: &mut Vec<PlusDirent<'a>>,
-    entries: &'a [EntryRow],
+    children: &'a [Child],
 ) -> Result<(), PlanFault>
-    requires fault { L.fault look.old ≡ None }
     requires named { All (λ d. IsNamed (listed.entry_of d.dirent)) dirents.old.items }
-    ensures entries { look_fault result ≡ None → L.is_clean look.new → (rows : Rows) → IsRowed rows
-        → L.sees look.old rows → AllByRecursion (IsShown rows) entries.now
-        → OnOk result (map plus_of dirents.new.items ≡ map plus_of dirents.old.items
-        ++ map (row_plus valid rows) entries.now) × IfErr result (λ f. f ≢ PlanFault.NotATree) }
+    ensures entries { OnOk result (map plus_of dirents.new.items
+        ≡ map plus_of dirents.old.items ++ map (listed_plus valid) children.now) }
     ensures named { OnOk result (All (λ d. IsNamed (listed.entry_of d.dirent)) dirents.new.items) }
-    ensures looked { Looked L.fault L.looks L.fails look.old look.new result }
+    ensures shown { AllByRecursion IsShown children.now → IfErr result (λ f. f ≢ PlanFault.NotATree) }
+    ensures looked { look_fault result ≡ None }
 {
-    for entry in entries {
-        let dirent = plus_of_entry(look, valid, entry)?;
+    for child in children {
+        let dirent = plus_of_child(valid, child)?;
         dirents.push(dirent)?;
     }
     Ok(())
 }
 
-fn plus_of_entry<'a, L: Look>(
-    look: &mut L,
-    valid: u64,
-    entry: &'a EntryRow,
-) -> Result<PlusDirent<'a>, PlanFault>
-    requires { L.fault look.old ≡ None }
-    ensures entry { look_fault result ≡ None → L.is_clean look.new → (rows : Rows) → IsRowed rows
-        → L.sees look.old rows → IsShown rows entry.now
-        → IfOk result (λ d. plus_of d ≡ row_plus valid rows entry.now)
-        × IfErr result (λ f. f ≢ PlanFault.NotATree) }
+fn plus_of_child(valid: u64, child: &Child) -> Result<PlusDirent<'_>, PlanFault>
+    ensures entry { IfOk result (λ d. plus_of d ≡ listed_plus valid child.now) }
     ensures named { IfOk result (λ d. IsNamed (listed.entry_of d.dirent)) }
-    ensures looked { Looked L.fault L.looks L.fails look.old look.new result }
+    ensures shown { OnErr result (¬ IsShown child.now) }
+    ensures looked { look_fault result ≡ None }
 {
-    let name = entry.name.as_slice();
-    if name.is_empty() || name.len() > MAX_NAME {
-        return Err(PlanFault::NotATree);
-    }
-    let Some(child) = find_node(look, entry.child)? else {
-        return Err(PlanFault::NotATree);
-    };
+    let row = listed_row(child)?;
     let dirent = Dirent {
-        ino: entry.child,
-        off: entry.cookie,
-        kind: type_in(child.mode),
-        name,
+        ino: child.entry.child,
+        off: child.entry.cookie,
+        kind: type_in(row.mode),
+        name: child.entry.name.as_slice(),
     };
     Ok(PlusDirent {
-        entry_out: Some(entry_of(valid, &child)),
+        entry_out: Some(entry_of(valid, &row)),
         dirent,
     })
 }

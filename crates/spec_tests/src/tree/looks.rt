@@ -3,7 +3,7 @@ use crate::tree::requests::request_of;
 use fuse_init::{Profile, Settings};
 use fuse_request::{Op, ReadIn};
 use fuse_tree::{
-    Agreement, Counters, EntryRow, HandleRow, Look, LookFault, NodeRow, Planned, ROOT_ID, S_IFDIR,
+    Agreement, Child, Counters, EntryRow, HandleRow, Look, LookFault, NodeRow, Planned, ROOT_ID, S_IFDIR,
     S_IFREG, plan,
 };
 use fuse_wire::{AccessMode, ByteList, InitFlags, Memory, Moment};
@@ -66,6 +66,20 @@ impl Look for Many {
         let count = if dir == ROOT_ID { limit } else { 0 };
         match entries_of(self.alloc, cookie, count) {
             Ok(entries) => Ok(entries),
+            Err(_) => Err(self.fails()),
+        }
+    }
+
+    fn children_after(
+        &mut self,
+        dir: u64,
+        cookie: u64,
+        limit: usize,
+    ) -> Result<Vec<Child>, LookFault> {
+        self.looks[2] = self.looks[2].wrapping_add(1);
+        let count = if dir == ROOT_ID { limit } else { 0 };
+        match children_of(self.alloc, cookie, count) {
+            Ok(children) => Ok(children),
             Err(_) => Err(self.fails()),
         }
     }
@@ -176,6 +190,19 @@ fn entries_of(alloc: Global, cookie: u64, count: usize) -> Result<Vec<EntryRow>,
     Ok(entries)
 }
 
+fn children_of(alloc: Global, cookie: u64, count: usize) -> Result<Vec<Child>, Memory> {
+    let mut children = Vec::new(alloc);
+    let mut next = cookie;
+    for _child in 0..count {
+        next = next.wrapping_add(1);
+        children.push(Child {
+            entry: entry_of(alloc, b"nine.text", 2, next)?,
+            row: Some(row_of(2)),
+        })?;
+    }
+    Ok(children)
+}
+
 /// The next node, fh and cookie, and how many nodes and handles there are.
 pub(crate) fn counting(numbers: [u64; 5]) -> Counters {
     let [next_node, next_fh, next_cookie, nodes, handles] = numbers;
@@ -241,7 +268,7 @@ fn readdir(offset: u64, size: u32) -> Op<'static> {
 }
 
 // Within one directory no node is looked up twice, no file is listed, and the counters are read
-// once. A listing looks up the children that fit: 102 entries of 40 bytes.
+// once. A listing looks its entries up with their children, once.
 fn all_looks() -> [(Op<'static>, Looks); 8] {
     [
         (rename(b"n2", b"x"), [2, 2, 0, 1]),
@@ -250,7 +277,7 @@ fn all_looks() -> [(Op<'static>, Looks); 8] {
         (rename(b"n3", b"n5"), [3, 2, 1, 1]),
         (rename(b"n2", b"n2"), [2, 1, 0, 0]),
         (EXCHANGE, [3, 2, 0, 1]),
-        (readdir(2, 4096), [103, 0, 1, 0]),
+        (readdir(2, 4096), [1, 0, 1, 0]),
         (readdir(0, 64), [1, 0, 1, 0]),
     ]
 }

@@ -1,0 +1,26 @@
+use Rattle.std.proofs.Common.{sym, ap, map, subst, ◌∙◌}
+use Rattle.sqlite.specs.Held.{state}
+use Rattle.fuse_tree.specs.Rows.{Rows, IsRowed, entries_after, children_after}
+use Rattle.fuse_store_tree.specs.inner.Reading.{child_in}
+use Rattle.fuse_store_tree.proofs.Children.{children_told}
+use Rattle.fuse_store_tree.proofs.Described.{inside_of, after_told}
+use Rattle.fuse_store_tree.proofs.Turning.{content_in}
+use Rattle.fuse_store_tree.proofs.Sure.{failed_so}
+use Rattle.fuse_store_tree.proofs.Few.{few_entries}
+use Rattle.fuse_store_tree.proofs.look.TableLookLook.children_after.Goals as goal
+
+pub returns-in-Ok-clause-rows : goal.returns-in-Ok-clause-rows
+returns-in-Ok-clause-rows g c clean rows rowed (x, at, is) =
+    let of_tree = subst IsRowed (sym is) rowed in
+    c.in-Ok.ensures.value clean at.holds.0 (inside_of x (state g.S.Store c.args.self.now.conn) at) at.holds.2.fits
+    ∙ ap (map (child_in at.holds.0)) (after_told x at.holds.0 of_tree at.holds.2 c.args.dir c.args.cookie c.args.limit)
+    ∙ children_told x at.holds.0 of_tree at.holds.2 (entries_after x.rows c.args.dir c.args.cookie c.args.limit)
+    ∙ ap (λ (r : Rows). children_after r c.args.dir c.args.cookie c.args.limit) is
+
+pub returns-in-Err-clause-fails : goal.returns-in-Err-clause-fails
+returns-in-Err-clause-fails g c =
+    let a = state g.S.Store c.args.self.now.conn in
+    rw c.fail.ensures.conn
+    (failed_so a (state g.S.Store c.find_children.new.conn) c.args.self.now.fault c.fail.new.self.fault c.in-Err.fault c.fail.ensures.kept
+    c.in-Err.ensures.fails c.in-Err.ensures.plain
+    (λ clean y at. c.in-Err.ensures.fault clean at.holds.held.0 (content_in y a at) (few_entries y a.now at.holds)))

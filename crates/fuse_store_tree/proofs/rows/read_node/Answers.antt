@@ -1,0 +1,15 @@
+use Rattle.std.proofs.Common.{◌≡◌, [], Option, Some, ap, IfSome}
+use Rattle.fuse_tree.specs.declared.rows.NodeRow.{NodeRow}
+use Rattle.fuse_store_tables.specs.Faults.{IsOutside}
+use Rattle.fuse_store_tree.specs.Fits.{KeepsNode}
+use Rattle.fuse_store_tree.proofs.Children.{first_is}
+use Rattle.fuse_store_tree.proofs.rows.read_node.Goals as goal
+
+pub returns-in-Err-clause-fault : goal.returns-in-Err-clause-fault
+returns-in-Err-clause-fault c o is =
+    first_is (λ _. IsOutside c.in-Err.fault) c.args.rows.now c.in-Some.row.now c.in-Some.ensures.value o is (λ n row. c.in-Err.ensures.fault n [] row)
+
+pub returns-in-Ok-clause-value : goal.returns-in-Ok-clause-value
+returns-in-Ok-clause-value c o keeps is =
+    first_is (λ p. IfSome p (λ n. KeepsNode n × (n.node ≡ c.args.number)) → ◌≡◌ {A = Option NodeRow} (Some c.in-Ok.found) p) c.args.rows.now c.in-Some.row.now
+    c.in-Some.ensures.value o is (λ n row known. ap Some (c.in-Ok.ensures.value n [] known.0.seconds known.1 row)) keeps
