@@ -15,6 +15,7 @@ use Rattle.sqlite_store.specs.FileStore.{view}
 use Rattle.fuse_init.specs.declared.profile.Profile.{Profile}
 use Rattle.fuse_store.specs.Opening.Stored.{Second}
 use Rattle.fuse_store.specs.TableState.{table_told}
+use Rattle.fuse_store_tree.specs.declared.meta.Meta.{Meta}
 use Rattle.fuse_store.specs.declared.table_keeper.TableKeeper.{TableKeeper}
 use Rattle.fuse_store.specs.TableKeeper.{conn_of}
 use Rattle.fuse_store_files.specs.Files.{TreesTell}
@@ -23,9 +24,9 @@ use Rattle.fuse_store_files.specs.inner.Connections.{Ends, IsClosedAs, IsUncopie
 use Rattle.fuse_store_files.proofs.Finding.{holds_more}
 
 -- these trees are a store that a crash of the keeper could leave
-tells : (p : Profile) (memory : Type 0) (s : State) (lot : Option ℕ) (failed : Bool) → (table_told p memory s lot failed).leaves_whole → HasCleanDisk s
-    → (db : Trees) → s.may_leave db → TreesTell (table_told p memory s lot failed).may_leave db
-tells p memory s lot failed whole clean db may =
+tells : (p : Profile) (memory : Type 0) (m : Option Meta) (s : State) (lot : Option ℕ) (failed : Bool) → (table_told p memory m s lot failed).leaves_whole → HasCleanDisk s
+    → (db : Trees) → s.may_leave db → TreesTell (table_told p memory m s lot failed).may_leave db
+tells p memory m s lot failed whole clean db may =
     let some = whole clean db may in
     record {
       store = Second some.holding;
@@ -34,9 +35,9 @@ tells p memory s lot failed whole clean db may =
     }
 
 -- so they are databases
-databases : (p : Profile) (memory : Type 0) (s : State) (lot : Option ℕ) (failed : Bool) → (table_told p memory s lot failed).leaves_whole → HasCleanDisk s
+databases : (p : Profile) (memory : Type 0) (m : Option Meta) (s : State) (lot : Option ℕ) (failed : Bool) → (table_told p memory m s lot failed).leaves_whole → HasCleanDisk s
     → AreDatabases s.may_leave
-databases p memory s lot failed whole clean db may =
+databases p memory m s lot failed whole clean db may =
     let some = whole clean db may in
     let d = some.left.0 in
     (d.schema, subst (λ (t : Trees). IsSound d.schema t) some.left.2 some.left.1.held.1.sound)
@@ -46,12 +47,12 @@ module _ {P D : Type 0} {g : Ghosts D} (p : Profile) (keeper : TableKeeper P (Fi
   conn = conn_of over_files keeper
 
   more : LeavesWhole p keeper → HasCleanDisk (file_state conn) → (db : Trees) → (file_state conn).may_leave db → TellsOf p keeper db
-  more whole clean = tells p ⊥ (file_state conn) keeper.lot keeper.failed whole clean
+  more whole clean = tells p ⊥ keeper.look.known (file_state conn) keeper.lot keeper.failed whole clean
 
   before : (ends : Ends conn) → LeavesWhole p keeper → IsClean (view ends.ended) → LeavesOf (TellsOf p keeper) (own_store keeper)
   before ends whole clean image may =
       let honest = ends.honest clean in
-      holds_more _ _ image (more whole honest) (ends.before clean (databases p ⊥ (file_state conn) keeper.lot keeper.failed whole honest) image may)
+      holds_more _ _ image (more whole honest) (ends.before clean (databases p ⊥ keeper.look.known (file_state conn) keeper.lot keeper.failed whole honest) image may)
 
   at_end : (ends : Ends conn) → LeavesWhole p keeper → LeavesOf (TellsOf p keeper) ends.ended
   at_end ends whole image may =

@@ -91,7 +91,7 @@ impl<P: Profiled, S: Alter + Drop> Keeper for CrashKeeper<P, S> {
     }
 
     ghost sound = { λ k. record {
-      one_holding = λ x y p q one two. one_held _ _ _ _ _ one two;
+      one_holding = λ x y p q one two. one_held _ _ _ _ _ _ one two;
       clean_is_honest = λ clean. clean.0;
     } };
 

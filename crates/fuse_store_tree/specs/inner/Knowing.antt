@@ -20,7 +20,7 @@ use Rattle.fuse_store_tree.specs.Group.{HasLotLeft}
 use Rattle.fuse_store_tree.specs.inner.Reading.{counted_in, agreed_in}
 use Rattle.fuse_store_tree.specs.inner.Writing.{room_over, with_used}
 
--- what these counters tell
+-- what these counters say
 abbrev pub meta_in : List Counter → Meta
 meta_in cs = record { counters = counted_in cs; settings = agreed_in cs }
 

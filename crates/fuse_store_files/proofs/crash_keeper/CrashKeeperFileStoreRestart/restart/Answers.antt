@@ -29,7 +29,7 @@ returns-in-Ok-open-clause-reopened g c =
     let new = c.in-Ok-open.inner in
     let o = c.in-Ok-open.ensures in
     reopened g.D.Crashing.crashed (conn_of over_files old) c.in-Ok.conn left cr c.in-Ok.ensures.opened c.in-Ok.ensures.found g.met.D.Disk.seen_may_stay
-    g.P.Profiled.PROFILE (file_state new.look.conn) old.lot new.lot old.failed new.failed o.honest o.holds o.lots c.lots_are_read.ensures.same o.firm o.going
+    g.P.Profiled.PROFILE old.look.known new.look.known (file_state new.look.conn) old.lot new.lot old.failed new.failed o.honest o.holds o.lots c.lots_are_read.ensures.same o.firm o.going
 
 pub returns-in-Ok-open-clause-crashed : goal.returns-in-Ok-open-clause-crashed
 returns-in-Ok-open-clause-crashed g c =
