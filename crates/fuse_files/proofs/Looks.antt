@@ -12,7 +12,9 @@ use Rattle.fuse_tree.specs.Rows.{IsRowed}
 use Rattle.fuse_store_tables.specs.Faults.{IsOutside, IsPlain}
 use Rattle.fuse_store_tables.specs.Moves.{IsReady}
 use Rattle.fuse_store_tree.specs.Holding.{HeldFor, store_of}
-use Rattle.fuse_store_tree.specs.Looking.{look_fault, sees_in, MayFail}
+use Rattle.fuse_store_tree.specs.Looking.{look_fault, sees_known, MayFail}
+use Rattle.fuse_store_tree.specs.Knowing.{Knows}
+use Rattle.fuse_store_tree.specs.declared.meta.Meta.{Meta}
 use Rattle.fuse_store.specs.Opening.{Stored, WasFor, OpenRefused}
 use Rattle.fuse_store.specs.TableState.{HoldsIn}
 use Rattle.fuse_show.specs.declared.fault.ShowFault.{ShowFault}
@@ -26,7 +28,7 @@ use Rattle.fuse_files.proofs.Ends.{says_nothing, says_so, of_sql, outside_so, sh
 -- ---- what a look sees
 
 module _ (z : Stored) where
-  pub sees_rows : (old new : State) (records : Records) → HoldsIn old (rows_in z) records
+  pub sees_rows : {m : Option Meta} → (old new : State) (records : Records) → HoldsIn m old (rows_in z) records
       → IsTrue new.is_open × (new.in_transaction ≡ true) × (new.now ≡ old.now) → Sees z new
   sees_rows old new records held begun = record {
     holding = held.holding;
@@ -35,11 +37,15 @@ module _ (z : Stored) where
   }
 
   module _ (s : State) (sees : Sees z s) where
-    pub seen : sees_in s (rows_in z)
-    seen = (
-      store_of sees.holding,
-      record { is_open = sees.inside.is_open; in_transaction = sees.inside.in_transaction; holds = sees.inside.holds.held },
-      sees.same,
+    -- by a look that knows nothing yet
+    pub seen : (known : Option Meta) → known ≡ None → sees_known known s (rows_in z)
+    seen known none = (
+      (
+        store_of sees.holding,
+        record { is_open = sees.inside.is_open; in_transaction = sees.inside.in_transaction; holds = sees.inside.holds.held },
+        sees.same,
+      ),
+      subst (λ m. Knows m (rows_in z)) (sym none) tt,
     )
 
     pub of_tree : IsRowed (rows_in z)

@@ -14,6 +14,7 @@ use Rattle.fuse_tree.specs.State.{profile_of}
 use Rattle.fuse_store_tables.specs.Faults.{IsOutside, IsPlain}
 use Rattle.fuse_store_tables.specs.Saying.{IsTabled}
 use Rattle.fuse_store.specs.Opening.{Stored, First, Second, Unindexed, StoredFor, WasFor, version_for}
+use Rattle.fuse_store_tree.specs.declared.meta.Meta.{Meta}
 use Rattle.fuse_store.specs.TableState.{HoldsIn}
 use Rattle.sqlite.specs.State.{State}
 use Rattle.fuse_commands.specs.declared.ending.Ending.{Ending}
@@ -50,7 +51,7 @@ pub rests_now : (b t : Bool) → b ≡ not t → t ≡ false → IsTrue b
 rests_now b t same is = rw (same, is) refl
 
 -- what holds the rows of a store holds a good state
-pub of_good_state : (p : Profile) (s : State) (rows : _) (records : Records) → (held : HoldsIn s rows records) → profile_of held.holding.tree ≡ p → IsRowed (tree_of p) rows
+pub of_good_state : {m : Option Meta} → (p : Profile) (s : State) (rows : _) (records : Records) → (held : HoldsIn m s rows records) → profile_of held.holding.tree ≡ p → IsRowed (tree_of p) rows
 unfolding IsRowed
 of_good_state p s rows records held is = (held.holding.tree, record { tree = held.rests.holds.tree; profile = is }, held.is_of.rows_are)
 
