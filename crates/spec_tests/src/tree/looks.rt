@@ -3,8 +3,8 @@ use crate::tree::requests::request_of;
 use fuse_init::{Profile, Settings};
 use fuse_request::{Op, ReadIn};
 use fuse_tree::{
-    Agreement, Child, Counters, EntryRow, HandleRow, Look, LookFault, NodeRow, Planned, ROOT_ID, S_IFDIR,
-    S_IFREG, plan,
+    Agreement, Child, Counters, EntryRow, HandleRow, Look, LookFault, NodeRow, Planned, ROOT_ID,
+    S_IFDIR, S_IFREG, plan,
 };
 use fuse_wire::{AccessMode, ByteList, InitFlags, Memory, Moment};
 use std::alloc::Global;
