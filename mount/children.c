@@ -36,7 +36,7 @@ static void put_words(const struct supervisor *s, const char *mode, const char *
   words[count] = NULL;
 }
 
-/* What a server has beside an engine that begins a mount. A server that was killed may have left the device so that no read waits. */
+/* What a server has beside an engine that begins a mount. The last server may have been killed while no read of the device waited. */
 static void become_server(const struct supervisor *s, int lines) {
   int flags = fcntl(STDIN_FILENO, F_GETFL);
   if (flags < 0 || fcntl(STDIN_FILENO, F_SETFL, flags & ~O_NONBLOCK) != 0) _exit(CANNOT_RUN);

@@ -21,7 +21,7 @@ enum { DEVICE_MAJOR = 10, DEVICE_MINOR = 229 };
 static char held[1 << 20];
 static size_t begin, end; /* of what isn't given out */
 static bool gathers;
-static int flags;         /* of the device, without O_NONBLOCK */
+static int flags;         /* of the device, whose reads wait */
 
 /* Whether standard input is the device, which the first call finds out. All bytes are written then: where the kernel copies a message
  * into a page that isn't there and the server is killed meanwhile, the caller gets EIO. */
@@ -33,8 +33,8 @@ static bool has_device(void) {
   kind = is_device ? DEVICE : OTHER;
   if (!is_device) return false;
   memset(held, 0, sizeof held);
-  flags = fcntl(STDIN_FILENO, F_GETFL) & ~O_NONBLOCK;
-  gathers = getenv(GROUPS_VARIABLE) && fcntl(STDIN_FILENO, F_SETFL, flags) == 0;
+  flags = fcntl(STDIN_FILENO, F_GETFL);
+  gathers = getenv(GROUPS_VARIABLE) && flags >= 0;
   return true;
 }
 
@@ -52,9 +52,9 @@ static bool waits(void) {
   return poll(&device, 1, 0) == 1 && device.revents & POLLIN;
 }
 
-/* Takes the messages that wait after the first one. A message goes with its caller, so that one which poll(2) has seen may be gone:
- * the read must not block then. The flag for it is one of the open device, which `fusekeep-mount` and the next server have too; it is
- * set meanwhile, and `fusekeep-mount` clears it where a server is killed meanwhile. An error comes again at the next first read. */
+/* Takes the messages that wait after the first one. A message goes with its caller, so one that poll(2) has seen may be gone, and no
+ * read may block while others are held. The flag for that is one of the open device, which fusekeep-mount and the next server have too:
+ * it is set only here, and fusekeep-mount clears it before it starts a server. An error comes again at the next first read. */
 static void take_others(void) {
   if (!gathers || !waits() || fcntl(STDIN_FILENO, F_SETFL, flags | O_NONBLOCK) != 0) return;
   while (sizeof held - end >= LEAST_ROOM && take() > 0) continue;

@@ -43,17 +43,29 @@ trace_server() {
   await 60 is_traced "$server" && kill -CONT "$server"
 }
 
-# A server dies when it has read some messages of those that wait, and answered none. They come again, and the next server waits in its
-# reads as if none had died.
+# A server dies when it has read some messages of those that wait, and answered none. They come again. The next server has no library, and
+# its reads wait.
 gathered() {
-  start store mnt log && start_callers || return 1
+  write_engine_alone
+  start store mnt log && start_callers && touch alone || return 1
   trace_server calls -P /dev/fuse -e trace=read,write -e inject=read:signal=KILL:when=6 || return 1
   end_callers || return 1
   expect "it had read some and answered none ($(xargs -d '\n' <calls))" \
     [ "$(grep -c '^read(0, .* = [1-9]' calls) $(grep -c '^write(1' calls)" = "5 0" ] || return 1
   expect "it was killed" [ "$(kills_in log)" -eq 1 ] || return 1
   server=$("$program" --server store) && await 60 waits_in_reads "$server" || return 1
-  unmount_and_end mnt
+  expect "it has no library" has_no_library "$server" && unmount_and_end mnt
+}
+
+# Where the file `alone` is there a server preloads nothing.
+write_engine_alone() {
+  cat >engine-alone <<END
+#!/bin/sh
+[ ! -e "$PWD/alone" ] || unset LD_PRELOAD
+exec "$engine" "\$@"
+END
+  chmod +x engine-alone
+  export FUSEKEEP=$PWD/engine-alone
 }
 
 # Whether the reads of a server wait, which is so where the device has no O_NONBLOCK.
