@@ -13,6 +13,14 @@ start_workers() {
   done
 }
 
+# Whether each worker has made something.
+have_made() {
+  local number
+  for ((number = 0; number < processes; number++)); do
+    [ -n "$(ls "mnt/own-$number")" ] || return 1
+  done
+}
+
 end_workers() {
   local worker failed=0
   touch stop
