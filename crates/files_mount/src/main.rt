@@ -34,7 +34,7 @@ fn run(rt: &HostRuntime) -> Result<(), &'static str> {
     }
 }
 
-// No buffer may stand between: one read is one message, and one write one answer.
+// No buffer may stand between the answers and the device: one write is one answer.
 fn serve_device(rt: &HostRuntime) -> Result<(), &'static str> {
     let mut port = DevicePort::new(rt.stdin(), rt.stdout());
     serve_new_files(rt.alloc(), &mut port, &mut System::new(rt))

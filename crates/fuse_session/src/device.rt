@@ -69,8 +69,8 @@ fn sent_by(write: io::Result<usize>) -> Sent
     }
 }
 
-/// Receives from a reader and sends to a writer of a FUSE device, of which one read is one whole
-/// message and one write one whole answer. The error number of a call that the system refuses
+/// Receives from a reader and sends to a writer of a FUSE device. A read may bring any bytes, cut
+/// anywhere; one write is one whole answer. The error number of a call that the system refuses
 /// decides its result. An answer taken whole counts as taken by the kernel.
 ///
 /// It counts the slices that were answered `Gone`, and does not know where they end, since the
