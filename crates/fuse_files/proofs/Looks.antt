@@ -12,8 +12,9 @@ use Rattle.fuse_tree.specs.Rows.{IsRowed}
 use Rattle.fuse_store_tables.specs.Faults.{IsOutside, IsPlain}
 use Rattle.fuse_store_tables.specs.Moves.{IsReady}
 use Rattle.fuse_store_tree.specs.Holding.{HeldFor, store_of}
-use Rattle.fuse_store_tree.specs.Looking.{look_fault, sees_known, MayFail}
-use Rattle.fuse_store_tree.specs.Knowing.{Knows}
+use Rattle.fuse_store_tree.specs.Looking.{look_fault, sees_with, MayFail}
+use Rattle.fuse_store_tree.specs.Knowing.{Knows, Recalls}
+use Rattle.fuse_store_tree.specs.declared.look.LastNode.{LastNode}
 use Rattle.fuse_store_tree.specs.declared.meta.Meta.{Meta}
 use Rattle.fuse_store.specs.Opening.{Stored, WasFor, OpenRefused}
 use Rattle.fuse_store.specs.TableState.{HoldsIn}
@@ -38,14 +39,17 @@ module _ (z : Stored) where
 
   module _ (s : State) (sees : Sees z s) where
     -- by a look that knows nothing yet
-    pub seen : (known : Option Meta) → known ≡ None → sees_known known s (rows_in z)
-    seen known none = (
+    pub seen : (known : Option Meta) (last : Option LastNode) → known ≡ None → last ≡ None → sees_with known last s (rows_in z)
+    seen known last none fresh = (
       (
-        store_of sees.holding,
-        record { is_open = sees.inside.is_open; in_transaction = sees.inside.in_transaction; holds = sees.inside.holds.held },
-        sees.same,
+        (
+          store_of sees.holding,
+          record { is_open = sees.inside.is_open; in_transaction = sees.inside.in_transaction; holds = sees.inside.holds.held },
+          sees.same,
+        ),
+        subst (λ m. Knows m (rows_in z)) (sym none) tt,
       ),
-      subst (λ m. Knows m (rows_in z)) (sym none) tt,
+      subst (λ l. Recalls l (rows_in z)) (sym fresh) (λ rowed. tt),
     )
 
     pub of_tree : IsRowed (rows_in z)

@@ -76,6 +76,7 @@ pub(crate) fn open_keeper<S: Alter + Drop>(
 fn look_at<S: Alter + Drop>(alloc: Global, conn: Connection<S>) -> Result<TableLook<S>, Ending>
     ensures begins { IfOk result (λ look. look_fault look.fault ≡ None) }
     ensures unknown { IfOk result (λ look. look.known ≡ None) }
+    ensures fresh { IfOk result (λ look. look.last ≡ None) }
     ensures looks { IfOk result (λ look. IsAlwaysClean S.Store
         → LooksAt (state S.Store conn) (state S.Store look.conn)) }
     ensures fails { IfErr result (λ e. IsAlwaysClean S.Store → Fails (state S.Store conn) e) }

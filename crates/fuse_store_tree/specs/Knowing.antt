@@ -1,12 +1,13 @@
--- What is known of the table `meta` from an earlier read (own profile).
+-- What is known of the tables from an earlier read (own profile).
 use Rattle.std.specs.Prelude.{◌≡◌, ℕ, Option, IfSome, Result, IfErr}
 use Rattle.sqlite.specs.Effect.{Database}
 use Rattle.sqlite.specs.State.{State, HasCleanDisk}
-use Rattle.fuse_tree.specs.Rows.{Rows, rowed}
+use Rattle.fuse_tree.specs.Rows.{Rows, IsRowed, rowed, row_at}
 use Rattle.fuse_keeper.specs.declared.fault.StoreFault.{StoreFault}
 use Rattle.fuse_store_tables.specs.Faults.{IsOutside}
 use Rattle.fuse_store_tables.specs.Moves.{RestsAs, LeavesAlone}
 use Rattle.fuse_store_tables.specs.Saying.{IsRefusal}
+use Rattle.fuse_store_tree.specs.declared.look.LastNode.{LastNode}
 use Rattle.fuse_store_tree.specs.declared.meta.Meta.{Meta}
 use Rattle.fuse_store_tree.specs.Holding.{Holding, HeldFor}
 use Rattle.fuse_store_tree.specs.Group.{HasLotLeft}
@@ -18,6 +19,10 @@ meta_of rows = record { counters = rows.counters; settings = rows.settings }
 -- what is known is that of these rows
 abbrev pub Knows : Option Meta → Rows → Type 0
 Knows known rows = IfSome known (λ m. m ≡ meta_of rows)
+
+-- what the last look for a node found is in these rows
+abbrev pub Recalls : Option LastNode → Rows → Type 0
+Recalls last rows = IsRowed rows → IfSome last (λ l. l.row ≡ row_at rows l.number)
 
 -- a database of the tables that holds this, where what is known is right
 abbrev pub HeldForKnown : Option Meta → Holding → Database → Type 0

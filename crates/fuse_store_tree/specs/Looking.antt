@@ -8,10 +8,11 @@ use Rattle.fuse_tree.specs.declared.look.LookFault.TheVariants.{Memory, Failed}
 use Rattle.fuse_tree.specs.Rows.{Rows}
 use Rattle.fuse_store_tables.specs.Faults.{IsOutside, IsPlain}
 use Rattle.fuse_store_tables.specs.Moves.{InsideAs, IsReady, Looked, Stays}
+use Rattle.fuse_store_tree.specs.declared.look.LastNode.{LastNode}
 use Rattle.fuse_store_tree.specs.declared.meta.Meta.{Meta}
 use Rattle.fuse_store_tree.specs.Store.{Store, Held}
 use Rattle.fuse_store_tree.specs.Holding.{HeldFor}
-use Rattle.fuse_store_tree.specs.Knowing.{Knows}
+use Rattle.fuse_store_tree.specs.Knowing.{Knows, Recalls}
 
 -- the fault of a read, as `plan` gets it
 abbrev pub told_as : StoreFault → LookFault
@@ -30,11 +31,16 @@ sees_in s rows = (x : Store) × InsideAs (Held x) s × (x.rows ≡ rows)
 abbrev pub sees_known : Option Meta → State → Rows → Type 0
 sees_known known s rows = sees_in s rows × Knows known rows
 
+-- and what the last look for a node found is in them
+abbrev pub sees_with : Option Meta → Option LastNode → State → Rows → Type 0
+sees_with known last s rows = sees_known known s rows × Recalls last rows
+
 -- only reads that succeeded lie between the two states, the fault is as it was, and what is known stays right
-pub record WentWell (old new : State) (was is : Option StoreFault) (before after : Option Meta) : Type 0 where
+pub record WentWell (old new : State) (was is : Option StoreFault) (before after : Option Meta) (first last : Option LastNode) : Type 0 where
   pub looked : Looked old new
   pub same : is ≡ was
   pub knows : HasCleanDisk new → (rows : Rows) → sees_in old rows → Knows before rows → Knows after rows
+  pub recalls : HasCleanDisk new → (rows : Rows) → sees_in old rows → Recalls first rows → Recalls last rows
 
 -- only reads lie between the two states, and the last may have failed; its fault is plain, and outside where a tree was held
 pub record MayFail (old new : State) (was is : Option StoreFault) : Type 0 where

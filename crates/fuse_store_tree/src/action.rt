@@ -56,12 +56,14 @@ pub(crate) fn act<S: Alter>(
     ensures plain { IfErr result IsPlain }
 {
     tree_kept();
+    // The look for a node of the request before may be out of date.
+    look.last = None;
     let planned = match plan(alloc, look, request, now) {
         Ok(planned) => planned,
         Err(fault) => return Err(fault_of_plan(fault, look.take_fault())),
     };
     let changes = planned.changes.as_slice();
-    match clear_gap(&mut look.conn, alloc, changes) {
+    match clear_gap(&mut look.conn, look.last, alloc, changes) {
         Ok(()) => {}
         Err(fault) => return Err(fault),
     }

@@ -12,7 +12,7 @@ ghost use Rattle.fuse_store_tree.specs.Fits.{Fits, IsWhole};
 ghost use Rattle.fuse_store_tables.specs.Faults.{IsOutside, IsPlain};
 ghost use Rattle.fuse_store_tables.specs.Moves.{Inside, Looked, Stays};
 ghost use Rattle.fuse_store_tree.specs.Store.{byte_in};
-ghost use Rattle.fuse_store_tree.specs.inner.Reading.{range_of, whole_of, bytes_told};
+ghost use Rattle.fuse_store_tree.specs.inner.Reading.{range_of, whole_of, bytes_told, bytes_within};
 
 use crate::bounds::END;
 use crate::rows::find_node;
@@ -178,6 +178,34 @@ pub(crate) fn find_range<S: Alter>(
     Ok(out)
 }
 
+/// At most `len` bytes of the content of a node of this size, from `offset` on.
+pub(crate) fn find_sized<S: Alter>(
+    conn: &mut Connection<S>,
+    alloc: Global,
+    node: u64,
+    size: u64,
+    offset: u64,
+    len: u32,
+) -> Result<ByteList, StoreFault>
+    requires node { node < 2 ^ 63 }
+    requires size { size ≤ file_limit }
+    ensures looks { OnOk result (Looked (state S.Store conn.old) (state S.Store conn.new)) }
+    ensures fails { OnErr result (Stays (state S.Store conn.old) (state S.Store conn.new)) }
+    ensures value { HasCleanDisk (state S.Store conn.new) → IfOk result (λ r. (c : Content)
+        → Inside c (state S.Store conn.old) → Fits c → r ≡ bytes_within size c.blocks node offset
+        len) }
+    ensures fault { HasCleanDisk (state S.Store conn.new) → IfErr result (λ f. (c : Content)
+        → Inside c (state S.Store conn.old) → Fits c → IsOutside f) }
+    ensures plain { IfErr result IsPlain }
+{
+    if offset >= size {
+        return Ok(ByteList::from_vec(Vec::new(alloc)));
+    }
+    let count = u64::from(len).min(size - offset);
+    let bytes = find_range(conn, alloc, node, offset, count)?;
+    Ok(ByteList::from_vec(bytes))
+}
+
 /// At most `len` bytes of a node's content, from `offset` on.
 pub(crate) fn find_bytes<S: Alter>(
     conn: &mut Connection<S>,
@@ -205,10 +233,6 @@ pub(crate) fn find_bytes<S: Alter>(
     if row.size > MAX_FILE {
         return Err(StoreFault::Damaged);
     }
-    if offset >= row.size {
-        return Ok(ByteList::from_vec(Vec::new(alloc)));
-    }
-    let count = u64::from(len).min(row.size - offset);
-    let bytes = find_range(conn, alloc, node, offset, count)?;
-    Ok(ByteList::from_vec(bytes))
+    let bytes = find_sized(conn, alloc, node, row.size, offset, len)?;
+    Ok(bytes)
 }

@@ -1,5 +1,5 @@
 // The place between the end of a file and what extends it.
-ghost use Rattle.std.specs.Prelude.{◌<◌, ◌^◌, IfErr, IfSome, OnOk, OnErr};
+ghost use Rattle.std.specs.Prelude.{◌≡◌, ◌<◌, ◌≤◌, ◌^◌, true, IfErr, IfSome, OnOk, OnErr};
 ghost use Rattle.sqlite.specs.Held.{state};
 ghost use Rattle.fuse_store_tables.specs.Faults.{IsPlain};
 ghost use Rattle.fuse_store_tables.specs.inner.Performing.{IsSure};
@@ -7,6 +7,7 @@ ghost use Rattle.fuse_store_tree.specs.inner.Changing.{Keeps, LeavesTrees};
 ghost use Rattle.fuse_store_tree.specs.Store.{Held};
 
 use crate::bounds::END;
+use crate::look::LastNode;
 use crate::rows::find_node;
 use crate::truncation::set_size;
 use fuse_keeper::StoreFault;
@@ -27,6 +28,22 @@ fn extended(changes: &[Change]) -> Option<(u64, u64)>
         }
     }
     None
+}
+
+// Whether the last look found this node, with a content that reaches this place.
+fn reaches(last: Option<LastNode>, node: u64, end: u64) -> bool
+    ensures node { result ≡ true → IfSome last (λ l. l.number ≡ node) }
+    ensures size { result ≡ true → IfSome last (λ l. IfSome l.row (λ n. end ≤ n.size)) }
+{
+    match last {
+        Some(
+            LastNode {
+                number,
+                row: Some(row),
+            },
+        ) => number == node && end <= row.size,
+        _ => false,
+    }
 }
 
 // Sets the bytes after the size of a node to 0, if it is smaller than this.
@@ -56,9 +73,11 @@ fn clear_from_size<S: Alter>(
 }
 
 /// Sets the bytes after the size of a file to 0 before changes extend it. A store of this program
-/// has none there but zeros.
+/// has none there but zeros. The node is looked up where the last look doesn't show that there is
+/// no such place.
 pub(crate) fn clear_gap<S: Alter>(
     conn: &mut Connection<S>,
+    last: Option<LastNode>,
     alloc: Global,
     changes: &[Change],
 ) -> Result<(), StoreFault>
@@ -68,7 +87,13 @@ pub(crate) fn clear_gap<S: Alter>(
     ensures plain { IfErr result IsPlain }
 {
     match extended(changes) {
-        Some((node, end)) => clear_from_size(conn, alloc, node, end),
+        Some((node, end)) => {
+            if reaches(last, node, end) {
+                Ok(())
+            } else {
+                clear_from_size(conn, alloc, node, end)
+            }
+        }
         None => Ok(()),
     }
 }

@@ -27,7 +27,7 @@ mod updates;
 
 pub use group::Performed;
 pub use laws::{calls_perform, lots_are_read, one_holding, rows_in_order};
-pub use look::TableLook;
+pub use look::{LastNode, TableLook};
 pub use meta::Meta;
 pub use reads::{answer_at_rest, counts_at_rest, room_at_rest, settings_at_rest, size_at_rest};
 pub use transaction::perform;

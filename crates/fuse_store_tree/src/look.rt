@@ -1,26 +1,38 @@
 // The reads of `plan`, from the tables.
-ghost use Rattle.std.specs.Prelude.{◌≡◌, ◌<◌, None, Some, Option, IfOk, IfErr, OnOk, OnErr};
+ghost use Rattle.std.specs.Prelude.{◌≡◌, ◌<◌, ◌≤◌, ◌^◌, None, Some, Option, IfSome, IfOk, IfErr};
+ghost use Rattle.std.specs.Prelude.{OnOk, OnErr};
 ghost use Rattle.sqlite.specs.State.{HasCleanDisk};
 ghost use Rattle.sqlite.specs.Held.{state};
 ghost use Rattle.fuse_store_tables.specs.Faults.{IsOutside, IsPlain};
 ghost use Rattle.fuse_store_tables.specs.Moves.{Stays};
-ghost use Rattle.fuse_tree.specs.Rows.{Rows};
+ghost use Rattle.fuse_tree.specs.Bounds.{file_limit};
+ghost use Rattle.fuse_tree.specs.Rows.{Rows, IsRowed, row_at, bytes_at};
 ghost use Rattle.fuse_store_tree.specs.Holding.{Holding};
-ghost use Rattle.fuse_store_tree.specs.Knowing.{Knows, meta_of};
+ghost use Rattle.fuse_store_tree.specs.Knowing.{Knows, Recalls, meta_of};
 ghost use Rattle.fuse_store_tree.specs.Looking.{look_fault, told_as, sees_in, WentWell};
 ghost use Rattle.fuse_store_tree.specs.inner.Changing.{InsideFor};
 
-use crate::block_reads::find_bytes;
+use crate::block_reads::{find_bytes, find_sized};
+use crate::bounds::END;
 use crate::counters::find_meta;
 use crate::entries::{find_after, find_children};
 use crate::handles::find_handles_of;
 use crate::meta::{Meta, agreement_of};
 use crate::rows::{find_entry, find_handle, find_node};
 use fuse_keeper::StoreFault;
-use fuse_tree::{Agreement, Child, Counters, EntryRow, HandleRow, Look, LookFault, NodeRow};
+use fuse_tree::{
+    Agreement, Child, Counters, EntryRow, HandleRow, Look, LookFault, MAX_FILE, NodeRow,
+};
 use fuse_wire::ByteList;
 use sqlite::{Alter, Connection};
 use std::alloc::Global;
+
+/// What a look for a node found.
+#[derive(Clone, Copy)]
+pub struct LastNode {
+    pub number: u64,
+    pub row: Option<NodeRow>,
+}
 
 /// The tables within a transaction, as `plan` reads them.
 #[derive(Drop)]
@@ -32,6 +44,8 @@ pub struct TableLook<S: Alter> {
     pub fault: Option<StoreFault>,
     /// What is known of the table `meta`, which is read where nothing is.
     pub known: Option<Meta>,
+    /// What the last look for a node found, which saves another one for its size.
+    pub last: Option<LastNode>,
 }
 
 // The fault of a read, as `plan` gets it.
@@ -53,12 +67,14 @@ impl<S: Alter> TableLook<S> {
         ensures conn { result.conn ≡ conn }
         ensures fault { look_fault result.fault ≡ None }
         ensures known { result.known ≡ None }
+        ensures last { result.last ≡ None }
     {
         TableLook {
             alloc,
             conn,
             fault: None,
             known: None,
+            last: None,
         }
     }
 
@@ -75,7 +91,7 @@ impl<S: Alter> TableLook<S> {
     fn find_meta(&mut self) -> Result<Meta, StoreFault>
         ensures looks { OnOk result (WentWell (state S.Store self.old.conn)
             (state S.Store self.new.conn) self.old.fault self.new.fault self.old.known
-            self.new.known) }
+            self.new.known self.old.last self.new.last) }
         ensures fails { OnErr result (Stays (state S.Store self.old.conn)
             (state S.Store self.new.conn)) }
         ensures value { HasCleanDisk (state S.Store self.new.conn) → IfOk result (λ meta.
@@ -94,6 +110,45 @@ impl<S: Alter> TableLook<S> {
         Ok(meta)
     }
 
+    // The row of this node, if it was looked up last.
+    fn last_row(&self, node: u64) -> Option<NodeRow>
+        ensures node { IfSome result (λ _. node < 2 ^ 63) }
+        ensures size { IfSome result (λ n. n.size ≤ file_limit) }
+        ensures value { IfSome result (λ n. (rows : Rows) → IsRowed rows
+            → Recalls self.now.last rows → row_at rows node ≡ Some n) }
+    {
+        match self.last {
+            Some(
+                LastNode {
+                    number,
+                    row: Some(row),
+                },
+            ) if number == node && node < END && row.size <= MAX_FILE => { Some(row) }
+            _ => None,
+        }
+    }
+
+    // At most `len` bytes of a node's content, whose size is known or read.
+    fn find_bytes(&mut self, node: u64, offset: u64, len: u32) -> Result<ByteList, StoreFault>
+        ensures looks { OnOk result (WentWell (state S.Store self.old.conn)
+            (state S.Store self.new.conn) self.old.fault self.new.fault self.old.known
+            self.new.known self.old.last self.new.last) }
+        ensures fails { OnErr result (Stays (state S.Store self.old.conn)
+            (state S.Store self.new.conn)) }
+        ensures value { HasCleanDisk (state S.Store self.new.conn) → IfOk result (λ bytes.
+            (rows : Rows) → IsRowed rows → sees_in (state S.Store self.old.conn) rows
+            → Recalls self.old.last rows → bytes ≡ bytes_at rows node offset len) }
+        ensures fault { HasCleanDisk (state S.Store self.new.conn) → IfErr result (λ f.
+            (y : Holding) → InsideFor y (state S.Store self.old.conn) → IsOutside f) }
+        ensures plain { IfErr result IsPlain }
+        ensures same { self.new.fault ≡ self.old.fault }
+    {
+        match self.last_row(node) {
+            Some(row) => find_sized(&mut self.conn, self.alloc, node, row.size, offset, len),
+            None => find_bytes(&mut self.conn, self.alloc, node, offset, len),
+        }
+    }
+
     // Keeps the fault.
     fn fail(&mut self, fault: StoreFault) -> LookFault
         ensures kept { self.new.fault ≡ Some fault }
@@ -107,24 +162,27 @@ impl<S: Alter> TableLook<S> {
 }
 
 impl<S: Alter> Look for TableLook<S> {
-    ghost use Rattle.fuse_store_tree.specs.Looking.{sees_known, WentWell, MayFail};
+    ghost use Rattle.fuse_store_tree.specs.Looking.{sees_with, WentWell, MayFail};
     ghost use Rattle.fuse_store_tree.specs.inner.Laws.{well_still, well_then, well_fails};
     ghost use Rattle.fuse_store_tree.specs.inner.Laws.{well_less, looked_clean, well_kept};
 
-    ghost sees = { λ k rows. sees_known k.known (state S.Store k.conn) rows };
+    ghost sees = { λ k rows. sees_with k.known k.last (state S.Store k.conn) rows };
 
     ghost fault = { λ k. look_fault k.fault };
 
     ghost is_clean = { λ k. HasCleanDisk (state S.Store k.conn) };
 
     ghost looks = { λ a b. WentWell (state S.Store a.conn) (state S.Store b.conn) a.fault b.fault
-        a.known b.known };
+        a.known b.known a.last b.last };
 
     ghost fails = { λ a b. MayFail (state S.Store a.conn) (state S.Store b.conn) a.fault b.fault };
 
     fn node(&mut self, number: u64) -> Result<Option<NodeRow>, LookFault> {
         match find_node(&mut self.conn, number) {
-            Ok(row) => Ok(row),
+            Ok(row) => {
+                self.last = Some(LastNode { number, row });
+                Ok(row)
+            }
             Err(fault) => Err(self.fail(fault)),
         }
     }
@@ -175,7 +233,7 @@ impl<S: Alter> Look for TableLook<S> {
     }
 
     fn bytes(&mut self, node: u64, offset: u64, len: u32) -> Result<ByteList, LookFault> {
-        match find_bytes(&mut self.conn, self.alloc, node, offset, len) {
+        match self.find_bytes(node, offset, len) {
             Ok(bytes) => Ok(bytes),
             Err(fault) => Err(self.fail(fault)),
         }
@@ -202,15 +260,15 @@ impl<S: Alter> Look for TableLook<S> {
         }
     }
 
-    ghost still = { λ a. well_still _ _ _ };
+    ghost still = { λ a. well_still _ _ _ _ };
 
-    ghost and_then = { λ a b d p q. well_then _ _ _ _ _ _ _ _ _ p q };
+    ghost and_then = { λ a b d p q. well_then _ _ _ _ _ _ _ _ p _ _ _ _ q };
 
-    ghost and_fails = { λ a b d p q. well_fails _ _ _ _ _ _ _ _ p q };
+    ghost and_fails = { λ a b d p q. well_fails _ _ _ _ _ _ _ _ p _ _ q };
 
-    ghost or_less = { λ a b p. well_less _ _ _ _ _ _ p };
+    ghost or_less = { λ a b p. well_less _ _ _ _ _ _ _ _ p };
 
     ghost was_clean = { λ a b p clean. looked_clean _ _ p.looked clean };
 
-    ghost kept = { λ a b p clean rows sees. well_kept _ _ _ _ _ _ p clean rows sees };
+    ghost kept = { λ a b p clean rows sees. well_kept _ _ _ _ _ _ _ _ p clean rows sees };
 }

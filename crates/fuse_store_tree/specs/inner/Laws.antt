@@ -9,9 +9,10 @@ use Rattle.fuse_keeper.specs.declared.fault.StoreFault.{StoreFault}
 use Rattle.fuse_store_tables.specs.Faults.{IsOutside, IsPlain}
 use Rattle.fuse_store_tables.specs.Moves.{IsReady, Stays, Looked}
 use Rattle.fuse_store_tables.specs.inner.Following.{earlier, stays_then}
+use Rattle.fuse_store_tree.specs.declared.look.LastNode.{LastNode}
 use Rattle.fuse_store_tree.specs.declared.meta.Meta.{Meta}
 use Rattle.fuse_store_tree.specs.Holding.{HeldFor}
-use Rattle.fuse_store_tree.specs.Looking.{sees_in, sees_known, WentWell, MayFail}
+use Rattle.fuse_store_tree.specs.Looking.{sees_in, sees_with, WentWell, MayFail}
 
 -- ---- looks
 
@@ -66,32 +67,38 @@ looked_ready a b p clean (y, at) =
       },
     )
 
-pub well_still : (a : State) (f : Option StoreFault) (m : Option Meta) → WentWell a a f f m m
-well_still a f m = record { looked = looked_still a; same = refl; knows = λ clean rows sees knows. knows }
+pub well_still : (a : State) (f : Option StoreFault) (m : Option Meta) (l : Option LastNode) → WentWell a a f f m m l l
+well_still a f m l = record { looked = looked_still a; same = refl; knows = λ clean rows sees knows. knows; recalls = λ clean rows sees recalls. recalls }
 
-pub well_then : (a b d : State) (f g h : Option StoreFault) (m n o : Option Meta) → WentWell a b f g m n → WentWell b d g h n o → WentWell a d f h m o
-well_then a b d f g h m n o p q = record {
-  looked = looked_then a b d p.looked q.looked;
-  same = q.same ∙ p.same;
-  knows = λ clean rows sees knows.
-      let mid = earlier b d _ q.looked.stays.survives clean in
-      q.knows clean rows (looked_kept a b p.looked mid rows sees) (p.knows mid rows sees knows);
-}
+module _ (a b : State) (f g : Option StoreFault) (m n : Option Meta) (k l : Option LastNode) (p : WentWell a b f g m n k l) where
+  pub well_then : (d : State) (h : Option StoreFault) (o : Option Meta) (j : Option LastNode) → WentWell b d g h n o l j → WentWell a d f h m o k j
+  well_then d h o j q = record {
+    looked = looked_then a b d p.looked q.looked;
+    same = q.same ∙ p.same;
+    knows = λ clean rows sees knows.
+        let mid = earlier b d _ q.looked.stays.survives clean in
+        q.knows clean rows (looked_kept a b p.looked mid rows sees) (p.knows mid rows sees knows);
+    recalls = λ clean rows sees recalls.
+        let mid = earlier b d _ q.looked.stays.survives clean in
+        q.recalls clean rows (looked_kept a b p.looked mid rows sees) (p.recalls mid rows sees recalls);
+  }
 
-pub well_fails : (a b d : State) (f g h : Option StoreFault) (m n : Option Meta) → WentWell a b f g m n → MayFail b d g h → MayFail a d f h
-well_fails a b d f g h m n p q = record {
-  stays = looked_fails a b d p.looked q.stays;
-  plain = λ none. q.plain (p.same ∙ none);
-  sure = λ none clean ready. q.sure (p.same ∙ none) clean (looked_ready a b p.looked (earlier b d _ q.stays.survives clean) ready);
-}
+  pub well_fails : (d : State) (h : Option StoreFault) → MayFail b d g h → MayFail a d f h
+  well_fails d h q = record {
+    stays = looked_fails a b d p.looked q.stays;
+    plain = λ none. q.plain (p.same ∙ none);
+    sure = λ none clean ready. q.sure (p.same ∙ none) clean (looked_ready a b p.looked (earlier b d _ q.stays.survives clean) ready);
+  }
 
-pub well_less : (a b : State) (f g : Option StoreFault) (m n : Option Meta) → WentWell a b f g m n → MayFail a b f g
-well_less a b f g m n p = record {
-  stays = p.looked.stays;
-  plain = λ none. subst (λ o. IfSome o IsPlain) (sym (p.same ∙ none)) tt;
-  sure = λ none clean ready. subst (λ o. IfSome o IsOutside) (sym (p.same ∙ none)) tt;
-}
+  pub well_less : MayFail a b f g
+  well_less = record {
+    stays = p.looked.stays;
+    plain = λ none. subst (λ o. IfSome o IsPlain) (sym (p.same ∙ none)) tt;
+    sure = λ none clean ready. subst (λ o. IfSome o IsOutside) (sym (p.same ∙ none)) tt;
+  }
 
-pub well_kept : (a b : State) (f g : Option StoreFault) (m n : Option Meta) → WentWell a b f g m n → HasCleanDisk b → (rows : Rows) → sees_known m a rows
-    → sees_known n b rows
-well_kept a b f g m n p clean rows sees = (looked_kept a b p.looked clean rows sees.0, p.knows clean rows sees.0 sees.1)
+  pub well_kept : HasCleanDisk b → (rows : Rows) → sees_with m k a rows → sees_with n l b rows
+  well_kept clean rows ((sees, knows), recalls) = (
+    (looked_kept a b p.looked clean rows sees, p.knows clean rows sees knows),
+    p.recalls clean rows sees recalls,
+  )

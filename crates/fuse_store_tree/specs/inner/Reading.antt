@@ -56,10 +56,14 @@ abbrev pub whole_of : Option Block → List ℕ
 whole_of None = replicate block_bytes 0
 whole_of (Some b) = b.bytes
 
--- bytes of a node with this row, as far as its size goes
+-- bytes of a node of this size, as far as that goes
+abbrev pub bytes_within : ℕ → List Block → ℕ → ℕ → ℕ → List ℕ
+bytes_within size blocks node offset len = if nat_lt offset size then range_of (byte_in blocks node) offset (min len (size - offset)) else []
+
+-- those of a node with this row
 abbrev pub bytes_told : Option NodeRow → List Block → ℕ → ℕ → ℕ → List ℕ
 bytes_told None blocks node offset len = []
-bytes_told (Some n) blocks node offset len = if nat_lt offset n.size then range_of (byte_in blocks node) offset (min len (n.size - offset)) else []
+bytes_told (Some n) blocks node offset len = bytes_within n.size blocks node offset len
 
 -- the blocks describe the bytes of each node, and zeros after them, and none begins after them; the size is in the row
 abbrev pub Describes : Store → Content → Type 0

@@ -28,7 +28,7 @@ returns g c = λ clean.
       prints =
           subst (λ (path : List ℕ). ShowsContent (rows_in z) (names_of path) (g.W.Write.contents c.args.writer.now)
           (g.W.Write.contents c.show_content-shown.new.writer) c.show_content-shown.result) c.as_bytes.ensures.value
-          (c.show_content-shown.ensures.shown (clean c.show_content-shown.new.look.conn) (rows_in z) (of_tree z a sees) (seen z a sees c.in-Ok.look.known c.in-Ok.ensures.unknown));
+          (c.show_content-shown.ensures.shown (clean c.show_content-shown.new.look.conn) (rows_in z) (of_tree z a sees) (seen z a sees c.in-Ok.look.known c.in-Ok.look.last c.in-Ok.ensures.unknown c.in-Ok.ensures.fresh));
       ends =
           ended s a b _ _ c.show_content-shown.result at (clean c.show_content-shown.new.look.conn) c.in-Ok.ensures.begins looked.fault looked.fails _
           c.ending_of_shown.ensures z was;

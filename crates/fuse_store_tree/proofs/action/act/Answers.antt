@@ -24,7 +24,7 @@ returns-in-Ok-make_all-clause-acts g c = λ s tree.
     c.in-Ok-make_all.known (state g.S.Store c.make_all.new.conn) s c.in-Ok.planned (done s (asked c.args.request.now) c.args.now) tree
     (c.tree_kept.ensures s (asked c.args.request.now) c.args.now tree).1
     (rw c.as_slice-changes.ensures at c.in-Ok-make_all.ensures.changed)
-    (λ mid sees. c.in-Ok.ensures.meets (earlier b d _ leaves.stays.survives mid) s tree sees)
+    (λ mid sees. c.in-Ok.ensures.meets (earlier b d _ leaves.stays.survives mid) s tree (sees, λ is_rowed. tt))
 
 pub returns-in-Ok-make_all-clause-keeps : goal.returns-in-Ok-make_all-clause-keeps
 returns-in-Ok-make_all-clause-keeps g c =
@@ -78,7 +78,7 @@ returns-in-Err-make_all-clause-sure g c clean (y, at) =
     let late = earlier d e _ c.in-Err-make_all.ensures.fails.survives clean in
     let mid = earlier b d _ leaves.stays.survives late in
     let looks = c.in-Ok.ensures.looks (refl {a = None}) in
-    let meets = c.in-Ok.ensures.meets mid y.tree at.holds.0.tree ((store_of y, told_in y a (held_for m y a at), refl), at.holds.1) in
+    let meets = c.in-Ok.ensures.meets mid y.tree at.holds.0.tree (((store_of y, told_in y a (held_for m y a at), refl), at.holds.1), λ is_rowed. tt) in
     acted_sure m c.plan.new.look.known a d (trees_then a b d looks.looked leaves) (λ first. looks.knows (earlier b d _ leaves.stays.survives first))
     e c.in-Err-make_all.fault c.in-Err-make_all.ensures.fails ((rw c.as_slice-changes.ensures at c.in-Err-make_all.ensures.fault) meets.fits) clean (y, at)
 
@@ -86,7 +86,8 @@ pub returns-in-Err-clause-sure : goal.returns-in-Err-clause-sure
 returns-in-Err-clause-sure g c =
     rw (c.take_fault.ensures.conn, c.fault_of_plan.ensures, c.take_fault.ensures.was)
     (no_plan c.in-Err.fault c.args.look.now.known c.args.look.now.fault c.plan.new.look.fault (state g.S.Store c.args.look.now.conn)
-    (state g.S.Store c.plan.new.look.conn) c.requires c.in-Err.ensures.fault c.in-Err.ensures.fails c.in-Err.ensures.not_a_tree)
+    (state g.S.Store c.plan.new.look.conn) c.requires c.in-Err.ensures.fault c.in-Err.ensures.fails
+    (λ not_tree clean s tree sees. c.in-Err.ensures.not_a_tree not_tree clean s tree (sees, λ is_rowed. tt)))
 
 pub returns-in-Err-clause-plain : goal.returns-in-Err-clause-plain
 returns-in-Err-clause-plain g c =

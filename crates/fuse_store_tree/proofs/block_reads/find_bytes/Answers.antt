@@ -15,5 +15,5 @@ returns-then-node-ge-END-clause-value g c clean k at fits =
 pub returns-in_err-bytes-clause-fails : goal.returns-in_err-bytes-clause-fails
 returns-in_err-bytes-clause-fails g c =
     always_err c.from_residual-in_err-bytes.result _
-    (looked_fails (state g.S.Store c.args.conn.now) (state g.S.Store c.find_node.new.conn) (state g.S.Store c.find_range.new.conn) c.in_ok-row.ensures.looks
+    (looked_fails (state g.S.Store c.args.conn.now) (state g.S.Store c.find_node.new.conn) (state g.S.Store c.find_sized.new.conn) c.in_ok-row.ensures.looks
     c.in_err-bytes.ensures.fails)

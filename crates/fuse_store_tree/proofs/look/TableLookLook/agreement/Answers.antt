@@ -5,7 +5,7 @@ use Rattle.fuse_store_tree.proofs.Sure.{failed_so}
 use Rattle.fuse_store_tree.proofs.look.TableLookLook.agreement.Goals as goal
 
 pub returns-in-Ok-clause-row : goal.returns-in-Ok-clause-row
-returns-in-Ok-clause-row g c clean rows rowed sees = c.agreement_of.ensures ∙ ap agreed_on (c.in-Ok.ensures.value clean rows sees.0 sees.1)
+returns-in-Ok-clause-row g c clean rows rowed sees = c.agreement_of.ensures ∙ ap agreed_on (c.in-Ok.ensures.value clean rows sees.0.0 sees.0.1)
 
 pub returns-in-Err-clause-fails : goal.returns-in-Err-clause-fails
 returns-in-Err-clause-fails g c =

@@ -10,7 +10,7 @@ use Rattle.fuse_store_tree.proofs.Few.{few_entries}
 use Rattle.fuse_store_tree.proofs.look.TableLookLook.children_after.Goals as goal
 
 pub returns-in-Ok-clause-rows : goal.returns-in-Ok-clause-rows
-returns-in-Ok-clause-rows g c clean rows rowed ((x, at, is), knows) =
+returns-in-Ok-clause-rows g c clean rows rowed (((x, at, is), knows), recalls) =
     let of_tree = subst IsRowed (sym is) rowed in
     c.in-Ok.ensures.value clean at.holds.0 (inside_of x (state g.S.Store c.args.self.now.conn) at) at.holds.2.fits
     ∙ ap (map (child_in at.holds.0)) (after_told x at.holds.0 of_tree at.holds.2 c.args.dir c.args.cookie c.args.limit)

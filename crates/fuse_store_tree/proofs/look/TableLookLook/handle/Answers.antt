@@ -5,7 +5,7 @@ use Rattle.fuse_store_tree.proofs.Described.{inside_of, handle_told}
 use Rattle.fuse_store_tree.proofs.look.TableLookLook.handle.Goals as goal
 
 pub returns-in-Ok-clause-row : goal.returns-in-Ok-clause-row
-returns-in-Ok-clause-row g c clean rows rowed ((x, at, is), knows) =
+returns-in-Ok-clause-row g c clean rows rowed (((x, at, is), knows), recalls) =
     c.in-Ok.ensures.value clean at.holds.0 (inside_of x (state g.S.Store c.args.self.now.conn) at) at.holds.2.fits
     ∙ handle_told x at.holds.0 (subst IsRowed (sym is) rowed) at.holds.2 c.args.fh
     ∙ ap (λ (r : Rows). handle_at r.handles c.args.fh) is

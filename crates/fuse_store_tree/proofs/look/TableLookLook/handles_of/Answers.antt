@@ -8,7 +8,7 @@ use Rattle.fuse_store_tree.proofs.Few.{few_handles}
 use Rattle.fuse_store_tree.proofs.look.TableLookLook.handles_of.Goals as goal
 
 pub returns-in-Ok-clause-rows : goal.returns-in-Ok-clause-rows
-returns-in-Ok-clause-rows g c clean rows rowed ((x, at, is), knows) =
+returns-in-Ok-clause-rows g c clean rows rowed (((x, at, is), knows), recalls) =
     c.in-Ok.ensures.value clean at.holds.0 (inside_of x (state g.S.Store c.args.self.now.conn) at) at.holds.2.fits
     ∙ handles_told x at.holds.0 (subst IsRowed (sym is) rowed) at.holds.2 c.args.node c.args.limit
     ∙ ap (λ (r : Rows). handles_of r.handles c.args.node c.args.limit) is
