@@ -101,7 +101,7 @@ fn the_first_groups_log(rt: HostRuntime) -> Result<(), Fail> {
 #[test]
 fn the_first_groups_file(rt: HostRuntime) -> Result<(), Fail> {
     let work = Work::in_groups(State::second(0), State::second(4));
-    assert!(rt; stopped(&rt, work, Which::File, [60, 25, 0])?);
+    assert!(rt; stopped(&rt, work, Which::File, [50, 20, 0])?);
     Ok(())
 }
 
