@@ -59,7 +59,7 @@ fn a_mount_begins_log(rt: HostRuntime) -> Result<(), Fail> {
 #[test]
 fn a_mount_begins_file(rt: HostRuntime) -> Result<(), Fail> {
     let work = Work::at_once(State::second(MORE), MOUNTED);
-    assert!(rt; stopped(&rt, work, Which::File, [60, 6, 0])?);
+    assert!(rt; stopped(&rt, work, Which::File, [55, 5, 0])?);
     Ok(())
 }
 
@@ -80,21 +80,21 @@ fn a_store_is_migrated_file(rt: HostRuntime) -> Result<(), Fail> {
 #[test]
 fn the_run_in_one_group_log(rt: HostRuntime) -> Result<(), Fail> {
     let work = Work::at_once(State::second(0), State::second(MESSAGES));
-    assert!(rt; stopped(&rt, work, Which::Log, [250, 20, 1])?);
+    assert!(rt; stopped(&rt, work, Which::Log, [240, 20, 1])?);
     Ok(())
 }
 
 #[test]
 fn the_run_in_one_group_file(rt: HostRuntime) -> Result<(), Fail> {
     let work = Work::at_once(State::second(0), State::second(MESSAGES));
-    assert!(rt; stopped(&rt, work, Which::File, [30, 12, 0])?);
+    assert!(rt; stopped(&rt, work, Which::File, [28, 11, 0])?);
     Ok(())
 }
 
 #[test]
 fn the_first_groups_log(rt: HostRuntime) -> Result<(), Fail> {
     let work = Work::in_groups(State::second(0), State::second(4));
-    assert!(rt; stopped(&rt, work, Which::Log, [250, 20, 4])?);
+    assert!(rt; stopped(&rt, work, Which::Log, [240, 20, 4])?);
     Ok(())
 }
 
@@ -108,13 +108,13 @@ fn the_first_groups_file(rt: HostRuntime) -> Result<(), Fail> {
 #[test]
 fn the_last_groups_log(rt: HostRuntime) -> Result<(), Fail> {
     let work = Work::in_groups(State::second(4), State::second(MESSAGES));
-    assert!(rt; stopped(&rt, work, Which::Log, [140, 20, 4])?);
+    assert!(rt; stopped(&rt, work, Which::Log, [130, 18, 4])?);
     Ok(())
 }
 
 #[test]
 fn the_last_groups_file(rt: HostRuntime) -> Result<(), Fail> {
     let work = Work::in_groups(State::second(4), State::second(MESSAGES));
-    assert!(rt; stopped(&rt, work, Which::File, [90, 20, 0])?);
+    assert!(rt; stopped(&rt, work, Which::File, [80, 20, 0])?);
     Ok(())
 }
