@@ -1,8 +1,10 @@
 """A process that serves requests of six opcodes over a store, and the processor time that each opcode takes."""
+import fcntl
 import os
 import socket
 import subprocess
 import sys
+import termios
 import time
 
 sys.path.insert(0, f"{os.path.dirname(os.path.realpath(__file__))}/../tests")
@@ -50,6 +52,12 @@ def await_reading(process):
         time.sleep(0.0005)
 
 
+def await_taken(sender):
+    """Waits until all that was sent has been read."""
+    while any(fcntl.ioctl(sender, termios.TIOCOUTQ, bytes(4))):
+        time.sleep(0.0005)
+
+
 def processor_time(process):
     """The nanoseconds of processor time that a process has had."""
     with open(f"/proc/{process}/schedstat", encoding="ascii") as times:
@@ -73,6 +81,7 @@ class Server:
         before = processor_time(process)
         for piece in pieces:
             self.socket.send(piece)
+        await_taken(self.socket)
         await_reading(process)
         return processor_time(process) - before
 

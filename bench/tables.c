@@ -1,6 +1,7 @@
 /* Serves a stream of INIT, LOOKUP, MKNOD, OPEN, WRITE, READ and RELEASE over a store file by libsqlite3, to be measured beside the
- * program: with the program's statements, in the same groups and with the same durability. Every request must be answered without
- * an error. Each read of standard input must give whole messages. The statements are those of the words that follow the store:
+ * program, in the same groups and with the same durability. Every request must be answered without an error. Each read of standard
+ * input must give whole messages. The statements are those of the words that follow the store. The program's are those of `changed`,
+ * `held` and `known`:
  *   changed   only the counters that changed are written
  *   held      settings and counters are read once, at the opening
  *   known     no row is looked for again that the request has already found or missed
