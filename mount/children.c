@@ -4,6 +4,7 @@
 #include <errno.h>
 #include <fcntl.h>
 #include <stdio.h>
+#include <stdlib.h>
 #include <string.h>
 #include <sys/prctl.h>
 #include <sys/wait.h>
@@ -36,37 +37,49 @@ static void put_words(const struct supervisor *s, const char *mode, const char *
   words[count] = NULL;
 }
 
+__attribute__((noreturn)) static void end_child(const char *what) {
+  dprintf(STDERR_FILENO, "%s: %s\n", what, strerror(errno));
+  _exit(CANNOT_RUN);
+}
+
 /* What a server has beside an engine that begins a mount. The last server may have been killed while no read of the device waited. */
-static void become_server(const struct supervisor *s, int lines) {
+static void become_server(const struct supervisor *s) {
   int flags = fcntl(STDIN_FILENO, F_GETFL);
   if (flags < 0 || fcntl(STDIN_FILENO, F_SETFL, flags & ~O_NONBLOCK) != 0) _exit(CANNOT_RUN);
-  if (s->library >= 0) preload_library(s, lines);
-  if (!s->is_volatile || ignore_flushes()) return;
-  dprintf(STDERR_FILENO, "seccomp: %s\n", strerror(errno));
-  _exit(CANNOT_RUN);
+  if (s->is_volatile && !ignore_flushes()) end_child("seccomp");
+}
+
+/* An engine has the standard descriptors, those that its library uses, an environment for the library alone, and no privileges. */
+static void become_engine(const struct supervisor *s, const char *mode, pid_t parent, int lines) {
+  close_range(FIRST_OTHER, ~0U, CLOSE_RANGE_CLOEXEC);
+  give_back_signals(s);
+  clearenv();
+  preload_library(s, lines);
+  if (strcmp(mode, "--resume") == 0) become_server(s);
+  if (!drop_privileges(s)) end_child("privileges");
+  if (getppid() != parent) _exit(CANNOT_RUN);
 }
 
 pid_t start_engine(const struct supervisor *s, const char *mode, int device) {
   const char *words[MOST_WORDS];
   if (ftruncate(s->lock, 0) != 0) refused("lock");
-  pid_t child = fork_child();
+  fallocate(s->lock, FALLOC_FL_KEEP_SIZE, 0, LINE_SIZE);
+  pid_t parent = getpid(), child = fork_child();
   if (child != 0) return child;
   int lines = s->shows ? fcntl(STDERR_FILENO, F_DUPFD, FIRST_OTHER) : -1;
   if (dup2(s->lock, STDERR_FILENO) < 0) _exit(CANNOT_RUN);
   if (dup2(device, STDIN_FILENO) < 0 || dup2(device, STDOUT_FILENO) < 0) _exit(CANNOT_RUN);
-  close_range(FIRST_OTHER, ~0U, CLOSE_RANGE_CLOEXEC);
-  give_back_signals(s);
-  if (strcmp(mode, "--resume") == 0) become_server(s, lines);
+  become_engine(s, mode, parent, lines);
   put_words(s, mode, words);
-  execvp(s->engine, (char **)words);
-  dprintf(STDERR_FILENO, "%s: %s\n", s->engine, strerror(errno));
-  _exit(CANNOT_RUN);
+  execveat(s->engine_file, "", (char **)words, environ, AT_EMPTY_PATH);
+  end_child(s->engine);
 }
 
-const char *last_line(const struct supervisor *s) {
+/* The last line as the engine wrote it. */
+static const char *raw_line(const struct supervisor *s) {
   static char text[LINE_SIZE + PATH_SIZE], joined[sizeof text + sizeof "; "];
   off_t room = sizeof text - 1, end = lseek(s->lock, 0, SEEK_END);
-  ssize_t length = pread(s->lock, text, room, end < room ? 0 : end - room);
+  ssize_t length = pread(s->lock, text, (size_t)room, end < room ? 0 : end - room);
   while (length > 0 && text[length - 1] == '\n') length--;
   text[length > 0 ? length : 0] = '\0';
   char *cause = strrchr(text, '\n');
@@ -78,8 +91,15 @@ const char *last_line(const struct supervisor *s) {
   return joined;
 }
 
+const char *last_line(const struct supervisor *s) {
+  static char text[ESCAPED_BYTE * (LINE_SIZE + PATH_SIZE)];
+  const char *line = raw_line(s);
+  escape(text, sizeof text, line, strlen(line), "");
+  return text;
+}
+
 const char *ending(const struct supervisor *s, int status) {
-  static char text[LINE_SIZE + 64];
+  static char text[ESCAPED_BYTE * (LINE_SIZE + PATH_SIZE) + 64];
   const char *line = last_line(s);
   int number = WIFSIGNALED(status) ? WTERMSIG(status) : WEXITSTATUS(status);
   const char *kind = WIFSIGNALED(status) ? "killed by signal" : "status";

@@ -11,12 +11,13 @@
 #include <sys/wait.h>
 
 static bool mount_as_root(struct supervisor *s) {
-  char data[OPTIONS_SIZE + 128];
+  char data[OPTIONS_SIZE + 128], place[LINE_SIZE];
   s->device = open("/dev/fuse", O_RDWR | O_CLOEXEC);
   if (s->device < 0) return refused("/dev/fuse");
   snprintf(data, sizeof data, "fd=%d,rootmode=40000,user_id=%u,group_id=%u,default_permissions%s",
            s->device, getuid(), getgid(), s->data);
-  return mount(s->store, s->mountpoint, "fuse.fusekeep", s->flags, data) == 0 || refused(s->mountpoint);
+  snprintf(place, sizeof place, "/proc/self/fd/%d", s->place);
+  return mount(s->store, place, "fuse.fusekeep", s->flags, data) == 0 || refused(s->mountpoint);
 }
 
 /* The descriptor that fusermount3 sends, or -1 where it sends none. */
@@ -28,7 +29,8 @@ static int received_descriptor(int socket) {
   int device = -1;
   if (recvmsg(socket, &message, MSG_CMSG_CLOEXEC) != 1) return -1;
   struct cmsghdr *head = CMSG_FIRSTHDR(&message);
-  if (head && head->cmsg_type == SCM_RIGHTS) memcpy(&device, CMSG_DATA(head), sizeof device);
+  bool has_descriptor = head && head->cmsg_level == SOL_SOCKET && head->cmsg_type == SCM_RIGHTS && head->cmsg_len == CMSG_LEN(sizeof device);
+  if (has_descriptor) memcpy(&device, CMSG_DATA(head), sizeof device);
   return device;
 }
 
@@ -40,6 +42,7 @@ static void put_words(const struct supervisor *s, char *out) {
   *out = '\0';
 }
 
+/* fusermount3 takes a path alone. So it is given the working directory, which it resolves anew. */
 static bool mount_by_fusermount(struct supervisor *s) {
   char words[OPTIONS_SIZE + 2 * PATH_MAX + 64], number[16];
   int ends[2], status;
@@ -50,7 +53,7 @@ static bool mount_by_fusermount(struct supervisor *s) {
     put_words(s, words);
     snprintf(number, sizeof number, "%d", dup(ends[1]));
     setenv("_FUSE_COMMFD", number, 1);
-    execlp("fusermount3", "fusermount3", "-o", words, "--", s->mountpoint, NULL);
+    if (fchdir(s->place) == 0) execlp("fusermount3", "fusermount3", "-o", words, "--", ".", NULL);
     refused("fusermount3");
     _exit(CANNOT_RUN);
   }
@@ -67,23 +70,36 @@ bool has_ended(const struct supervisor *s) {
 }
 
 bool mount_store(struct supervisor *s) {
-  return geteuid() == 0 ? mount_as_root(s) : mount_by_fusermount(s);
+  return (geteuid() == 0 ? mount_as_root(s) : mount_by_fusermount(s)) && note_mount(s);
 }
 
+/* By its root, which is open. */
+static void detach(const struct supervisor *s, int root) {
+  char place[LINE_SIZE];
+  say("%s is in use: it is detached, and served until nobody uses it", s->mountpoint);
+  snprintf(place, sizeof place, "/proc/self/fd/%d", root);
+  _exit(umount2(place, MNT_DETACH) == 0 ? 0 : errno);
+}
+
+/* An open root keeps a mount in use. So it is closed before the mount is unmounted by its name in the parent, which nobody can give to
+ * another directory while this one is mounted on. */
 pid_t start_unmounting(const struct supervisor *s) {
+  int root;
   pid_t child = fork_child();
   if (child != 0) return child;
-  close_range(FIRST_OTHER, ~0U, 0);
-  if (!is_on_top(s)) {
+  enter_parent(s);
+  const char *name = open_root(s, &root);
+  if (!name) {
     say_detached(s);
     _exit(0);
   }
   if (geteuid() != 0) {
-    execlp("fusermount3", "fusermount3", "-u", "-z", "--", s->mountpoint, NULL);
+    execlp("fusermount3", "fusermount3", "-u", "-z", "--", name, NULL);
     _exit(errno);
   }
-  if (umount2(s->mountpoint, 0) == 0) _exit(0);
+  close(root);
+  if (umount2(name, UMOUNT_NOFOLLOW) == 0) _exit(0);
   if (errno != EBUSY) _exit(errno);
-  say("%s is in use: it is detached, and served until nobody uses it", s->mountpoint);
-  _exit(umount2(s->mountpoint, MNT_DETACH) == 0 ? 0 : errno);
+  if (open_root(s, &root)) detach(s, root);
+  _exit(errno);
 }

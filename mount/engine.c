@@ -2,21 +2,37 @@
 #define _GNU_SOURCE
 #include "supervisor.h"
 #include <errno.h>
+#include <fcntl.h>
 #include <stdio.h>
 #include <stdlib.h>
 #include <string.h>
 #include <sys/stat.h>
 #include <unistd.h>
 
-static bool is_program(const char *path) {
+/* Opens a program, or returns -1. A script isn't one, since its interpreter would be confined as the engine is. */
+static int open_program(const char *path) {
   struct stat found;
-  if (stat(path, &found) != 0) return false;
-  if (!S_ISREG(found.st_mode)) return errno = EACCES, false;
-  return access(path, X_OK) == 0;
+  char first[2];
+  int file = open(path, O_RDONLY | O_NONBLOCK | O_CLOEXEC), error = 0;
+  if (file < 0) return -1;
+  if (fstat(file, &found) != 0 || !S_ISREG(found.st_mode) || faccessat(file, "", X_OK, AT_EMPTY_PATH) != 0) error = EACCES;
+  else if (pread(file, first, sizeof first, 0) != sizeof first || memcmp(first, "#!", sizeof first) == 0) error = ENOEXEC;
+  if (error == 0) return file;
+  close(file);
+  errno = error;
+  return -1;
+}
+
+static bool is_program(struct supervisor *s, const char *path) {
+  int file = open_program(path);
+  if (file < 0) return false;
+  s->engine = path;
+  s->engine_file = file;
+  return true;
 }
 
 /* Searches PATH for a program. A relative folder of PATH is made absolute, since this process leaves the folder in which it was
- * started. */
+ * started, and may open the engine again. */
 static bool find_on_path(struct supervisor *s, const char *name) {
   static char path[3 * PATH_MAX];
   char here[PATH_MAX];
@@ -26,7 +42,7 @@ static bool find_on_path(struct supervisor *s, const char *name) {
   for (;;) {
     int length = (int)strcspn(folder, ":");
     snprintf(path, sizeof path, "%s/%.*s/%s", *folder == '/' ? "" : here, length, folder, name);
-    if (is_program(path)) return s->engine = path, true;
+    if (is_program(s, path)) return true;
     if (!folder[length]) return false;
     folder += length + 1;
   }
@@ -41,15 +57,11 @@ const char *near_program(const char *name) {
   return path;
 }
 
-/* Searches the source tree and the folder of this program. */
+/* Looks into the folder of this program, and nowhere else near it: who may write above that folder isn't known. */
 static bool find_near(struct supervisor *s) {
-  static const char *const near[] = {"../../dist/x86_64-linux/fusekeep", "fusekeep"};
   static char found[PATH_MAX + 64];
-  for (size_t i = 0; i < sizeof near / sizeof *near; i++) {
-    const char *path = near_program(near[i]);
-    if (path && is_program(path)) return s->engine = strcpy(found, path), true;
-  }
-  return false;
+  const char *path = near_program("fusekeep");
+  return path && is_program(s, strcpy(found, path));
 }
 
 bool find_engine(struct supervisor *s) {
@@ -57,12 +69,17 @@ bool find_engine(struct supervisor *s) {
   const char *named = getenv("FUSEKEEP");
   bool is_named = named && *named;
   if (!is_named && find_near(s)) return true;
-  if (is_named && strchr(named, '/')) {
-    if (!realpath(named, path) || !is_program(path)) return refused(named);
-    return s->engine = path, true;
-  }
+  if (is_named && strchr(named, '/')) return (realpath(named, path) && is_program(s, path)) || refused(named);
   const char *name = is_named ? named : "fusekeep";
   if (find_on_path(s, name)) return true;
   say("the engine, %s, is %son PATH", name, is_named ? "not " : "neither beside this program nor ");
   return false;
+}
+
+bool reopen_engine(struct supervisor *s) {
+  int file = open_program(s->engine);
+  if (file < 0) return refused(s->engine);
+  close(s->engine_file);
+  s->engine_file = file;
+  return true;
 }

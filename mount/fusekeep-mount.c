@@ -8,24 +8,35 @@
 #include <stdarg.h>
 #include <stdlib.h>
 #include <string.h>
+#include <sys/auxv.h>
 #include <sys/mount.h>
 #include <sys/signalfd.h>
 #include <sys/wait.h>
-#include <syslog.h>
 
-enum { FIRST_PAUSE = 50, LONGEST_PAUSE = 5000, LOOK_PAUSE = 10, LATER_LOOK_PAUSE = 100 }; /* milliseconds */
-enum { MOST_FAILED_LIVES = 10 };
+enum { LOOK_PAUSE = 10, LATER_LOOK_PAUSE = 100 }; /* milliseconds */
 
+static const struct supervisor *supervised; /* NULL until the mount is made */
 static bool in_background;
 
+/* Whether standard error takes a line at once. Its reader may wait for the mount. */
+static bool takes_line(void) {
+  struct pollfd out = {.fd = STDERR_FILENO, .events = POLLOUT};
+  return poll(&out, 1, 0) != 0;
+}
+
 void say(const char *form, ...) {
-  char line[LINE_SIZE + 3 * PATH_MAX];
-  va_list words;
-  va_start(words, form);
-  vsnprintf(line, sizeof line, form, words);
-  va_end(words);
-  if (in_background) syslog(LOG_NOTICE, "%s", line);
-  else dprintf(STDERR_FILENO, "fusekeep-mount: %s\n", line);
+  char words[LINE_SIZE + 3 * PATH_MAX];
+  static char line[ESCAPED_BYTE * sizeof words];
+  int error = errno;
+  va_list values;
+  va_start(values, form);
+  vsnprintf(words, sizeof words, form, values);
+  va_end(values);
+  escape(line, sizeof line, words, strlen(words), "");
+  bool is_taken = in_background ? log_line(line) : !supervised || takes_line();
+  if (!is_taken) list_line(supervised, line);
+  else if (!in_background) dprintf(STDERR_FILENO, "fusekeep-mount: %s\n", line);
+  errno = error;
 }
 
 bool refused(const char *what) {
@@ -39,20 +50,15 @@ long long now(void) {
   return at.tv_sec * 1000LL + at.tv_nsec / 1000000;
 }
 
-static bool find_mountpoint(struct supervisor *s, const char *mountpoint) {
-  struct stat found;
-  if (!realpath(mountpoint, s->mountpoint) || stat(s->mountpoint, &found) != 0) return refused(mountpoint);
-  if (!S_ISDIR(found.st_mode)) say("%s: not a directory", mountpoint);
-  return S_ISDIR(found.st_mode);
-}
-
 /* Asks for the root's attributes, which are answered after the first INIT. */
 static pid_t start_probe(const struct supervisor *s) {
-  struct stat root;
+  struct stat found;
+  int root;
   pid_t child = fork_child();
   if (child != 0) return child;
-  close_range(FIRST_OTHER, ~0U, 0);
-  _exit(stat(s->mountpoint, &root) == 0 ? 0 : errno);
+  enter_parent(s);
+  if (!open_root(s, &root)) _exit(ENOTCONN);
+  _exit(fstatat(root, "", &found, AT_EMPTY_PATH) == 0 ? 0 : errno);
 }
 
 /* Supervision. */
@@ -64,27 +70,24 @@ static void say_end(const struct supervisor *s, int status, long long pause) {
   else if (s->failed_lives < MOST_FAILED_LIVES) say("server %d ended, %s; the next one runs in %lld ms", s->server, how, pause);
 }
 
-/* A server ended for lack of room: the reserve gives the next one some. Without it calls wait. */
-static void wait_for_room(struct supervisor *s) {
-  s->next_start = now();
-  if (give_up_reserve(s)) return;
-  s->next_start += FULL_PAUSE;
-  if (!s->is_full) say("%s has no room left: calls wait until there is room", folder_of(s));
-  s->is_full = true;
+
+/* The time until the server was ready goes into the line of the last death. */
+static void note_restart(struct supervisor *s) {
+  if (asked_at(s) != 0) write_death(s, asked_at(s) - s->death.ended);
 }
 
-/* A server ended, or could not be started. After each failed life in a row the pause before the next server doubles. */
+/* A server ended. */
 static void server_ended(struct supervisor *s, int status) {
-  if (s->asked != 0 && (status == 0 || WIFSIGNALED(status))) write_death(s, s->asked - s->death.ended);
+  note_restart(s);
+  note_commits(s);
+  if (ended_for_work(s, status)) return;
   if (status != 0) note_death(s, status);
   s->last_status = status;
   if (!WIFSIGNALED(status) && !has_ended(s) && lacks_room(s)) {
-    wait_for_room(s);
+    s->next_start = now() + (use_reserve(s) ? 0 : FULL_PAUSE);
   } else {
-    bool failed = has_failed(s, status);
-    long long pause = failed ? FIRST_PAUSE << s->failed_lives : now() - s->started < SHORT_LIFE ? FIRST_PAUSE : 0;
-    if (pause > LONGEST_PAUSE) pause = LONGEST_PAUSE;
-    s->failed_lives = failed ? s->failed_lives + 1 : 0;
+    long long pause = count_life(s, status);
+    if (!was_killed(status)) blame_request(s);
     s->next_start = now() + pause;
     say_end(s, status, pause);
   }
@@ -92,36 +95,43 @@ static void server_ended(struct supervisor *s, int status) {
 }
 
 static void start_server(struct supervisor *s) {
-  if (!can_start(s)) {
+  if (is_at_rest(s) || !can_start(s)) {
     s->next_start = now() + FULL_PAUSE;
     return;
   }
+  keep_control(s);
+  keep_log_room(s);
   s->started = now();
-  s->asked = 0;
-  s->mark = mark_log(s);
-  s->server = start_engine(s, "--resume", s->device);
-  if (s->server < 0) server_ended(s, W_EXITCODE(CANNOT_RUN, 0));
+  s->sight = (struct sight){.since = s->started};
+  clear_report(s);
+  pid_t server = start_engine(s, "--resume", s->device);
+  s->server = server > 0 ? server : 0;
+  if (server > 0) s->history.servers++;
+  else s->next_start = now() + FULL_PAUSE;
 }
 
-/* What is looked for while a server runs: that it has asked for the pending requests, and that there is room again. There is if the
- * reserve was made again, or if the server goes on with less. */
+/* What is looked for while a server runs: that it has asked for the pending requests, that it goes on, and that there is room again.
+ * Then the next server gets what this one didn't. */
 static void look_at_server(struct supervisor *s) {
   keep_reserve(s);
-  if (!has_asked(s)) return;
-  write_death(s, s->asked - s->death.ended);
-  if (!s->is_full || (!s->has_reserve && now() - s->started < FULL_PAUSE)) return;
-  s->is_full = false;
-  say("there is room again: %s is served", s->store);
+  watch_server(s);
+  if (asked_at(s) != 0) note_restart(s);
+  if (look_for_room(s)) kill(s->server, SIGKILL);
+}
+
+/* Leaves the folder and, for the background, the session in which this process was started, before it has children. */
+static bool leave_place(const struct supervisor *s) {
+  if (!s->foreground && setsid() < 0) return refused("setsid");
+  return chdir("/") == 0 || refused("/");
 }
 
 /* Reports that the mount is ready, and continues in the background. Later lines go to the system's log. */
 static bool leave_terminal(const struct supervisor *s) {
   int null = open("/dev/null", O_RDWR | O_CLOEXEC);
-  if (null < 0 || setsid() < 0 || chdir("/") != 0) return refused("background");
+  if (null < 0) return refused("background");
   for (int standard = STDIN_FILENO; standard <= STDERR_FILENO; standard++)
     if (dup2(null, standard) < 0) return refused("background");
   close(null);
-  openlog("fusekeep-mount", LOG_PID, LOG_DAEMON);
   in_background = true;
   return write(s->readiness, "", 1) == 1 && close(s->readiness) == 0;
 }
@@ -143,7 +153,7 @@ static void probe_ended(struct supervisor *s, int status) {
   }
   s->ready = status == 0;
   if (!s->ready && !s->stop_requested) say("%s doesn't answer: %s", s->mountpoint, strerror(WEXITSTATUS(status)));
-  if (s->ready && s->foreground) say("%s is mounted on %s", s->store, s->mountpoint);
+  if (s->ready && s->foreground) say("%s is mounted on %s", s->store, s->mountpoint), notify_manager("READY=1");
   if (!s->ready || (!s->foreground && !leave_terminal(s))) stop(s);
 }
 
@@ -156,20 +166,24 @@ static void unmounter_ended(struct supervisor *s, int status) {
 
 static void reap(struct supervisor *s) {
   int status;
-  has_asked(s);
   for (pid_t child; (child = waitpid(-1, &status, WNOHANG)) > 0;) {
     if (child == s->server) server_ended(s, status);
     else if (child == s->probe) probe_ended(s, status);
     else if (child == s->unmounter) unmounter_ended(s, status);
+    else has_copied(s, child, status);
   }
+  look_at_stop(s);
 }
 
 /* The milliseconds until this process must look for itself; below 0 where only events wake it. */
 static int pause_before_look(const struct supervisor *s) {
   long long until = s->next_start - now();
+  if (s->server == 0 && s->stop_requested && until > SHORT_LIFE) return SHORT_LIFE;
   if (s->server == 0) return until > 0 ? (int)until : 0;
-  if (s->asked == 0) return now() - s->started < SHORT_LIFE ? LOOK_PAUSE : LATER_LOOK_PAUSE;
-  return s->is_full || !s->has_reserve ? FULL_PAUSE : -1;
+  if (asked_at(s) == 0) return now() - s->started < SHORT_LIFE ? LOOK_PAUSE : LATER_LOOK_PAUSE;
+  int pause = pause_of_watchdog(s);
+  if (s->is_full) return pause < 0 || pause > SHORT_LIFE ? SHORT_LIFE : pause;
+  return pause < 0 && !s->has_reserve ? FULL_PAUSE : pause;
 }
 
 static void take_signal(struct supervisor *s) {
@@ -178,28 +192,32 @@ static void take_signal(struct supervisor *s) {
   if (event.ssi_signo == SIGCHLD) {
     reap(s);
   } else {
+    if (!s->stop_requested) s->stop_asked = now();
     s->stop_requested = true;
     stop(s);
   }
 }
 
-/* Waits for a signal, for a change of the store's files and, while no server runs, for the end of the connection and for the time
- * of the next server. While a server runs the device isn't polled, since each request would wake this process. */
+/* Waits for a signal, for a change of the store's files, for a request and, while no server runs, for the end of the connection and for
+ * the time of the next server. While a server runs the device isn't polled, since each request would wake this process. */
 static void await_event(struct supervisor *s) {
-  struct pollfd awaited[] = {{.fd = s->signals, .events = POLLIN}, {.fd = s->watch, .events = POLLIN}, {.fd = s->device}};
-  int count = poll(awaited, s->server ? 2 : 3, pause_before_look(s));
+  struct pollfd awaited[] = {{.fd = s->signals, .events = POLLIN}, {.fd = s->watch, .events = POLLIN},
+                             {.fd = s->control.events, .events = POLLIN}, {.fd = s->device}};
+  int count = poll(awaited, s->server ? 3 : 4, pause_before_look(s));
   if (count > 0 && awaited[0].revents & POLLIN) take_signal(s);
   if (count > 0 && awaited[1].revents & POLLIN) look_at_files(s);
+  if (count > 0 && awaited[2].revents & POLLIN) serve_control(s);
   if (s->server > 0) look_at_server(s);
 }
 
 /* Closes the last descriptor, which ends the connection and all waiting calls. A mount that was ready stays in its place and
  * answers with errors, so that nobody mistakes the directory under it for the store. */
 static int give_up(struct supervisor *s) {
+  static const char fault[] = "ended by themselves before the kernel took an answer";
   if (s->trouble == REMOVED) say("gave up: %s was removed", s->store);
-  else say("gave up: %d servers in a row ended before their first commit, the last one with %s",
-           s->failed_lives, ending(s, s->last_status));
+  else say("gave up: %d servers in a row %s, the last one with %s", s->failed_lives, fault, ending(s, s->last_status));
   explain(s);
+  if (s->trouble != REMOVED) add_to_death(s, "gave up: %d servers in a row %s", s->failed_lives, fault);
   write_death(s, -1);
   close(s->device);
   if (s->ready || s->is_unmounted) return FAILED;
@@ -209,16 +227,36 @@ static int give_up(struct supervisor *s) {
   return FAILED;
 }
 
+/* Ends the connection of a mount that was to end, with the calls that wait for room. */
+static void end_waiting_calls(struct supervisor *s) {
+  say("%s has no room left: the calls that wait for room end with an error", folder_of(s));
+  if (s->server > 0 && kill(s->server, SIGKILL) == 0) waitpid(s->server, NULL, 0);
+  close(s->device);
+}
+
+/* Children that look at the mount, or unmount it, have the store's folder open. */
+static void end_children(const struct supervisor *s) {
+  const pid_t children[] = {s->probe, s->unmounter};
+  for (size_t i = 0; i < sizeof children / sizeof *children; i++)
+    if (children[i] > 0 && kill(children[i], SIGKILL) == 0) waitpid(children[i], NULL, 0);
+}
+
 static int supervise(struct supervisor *s) {
+  supervised = s;
+  begin_list(s);
+  clock_gettime(CLOCK_REALTIME, &s->history.mounted);
   start_server(s);
   s->probe = start_probe(s);
   if (s->probe < 0) stop(s);
-  for (;;) {
+  while (!is_stuck(s)) {
     if (s->server == 0 && has_ended(s)) break;
     if (s->failed_lives == MOST_FAILED_LIVES || (s->server == 0 && s->trouble == REMOVED)) return give_up(s);
     if (s->server == 0 && now() >= s->next_start) start_server(s);
     await_event(s);
   }
+  if (is_stuck(s)) end_waiting_calls(s);
+  leave_reserve(s);
+  end_children(s);
   write_death(s, -1);
   say("the connection of %s has ended", s->mountpoint);
   return s->ready || s->stop_requested ? 0 : FAILED;
@@ -238,11 +276,14 @@ static bool take_signals(struct supervisor *s) {
 }
 
 static int run(struct supervisor *s, const char *store, const char *mountpoint) {
-  if (!find_engine(s) || !find_mountpoint(s, mountpoint)) return FAILED;
-  find_library(s);
-  int status = hold_store(s, store) ? begin_in_store(s) : FAILED;
-  if (status == 0) watch_store(s);
-  if (status == 0 && take_signals(s) && mount_store(s)) return supervise(s);
+  if (!find_engine(s) || !find_library(s) || !make_report(s) || !find_mountpoint(s, mountpoint)) return FAILED;
+  int status = hold_store(s, store) && leave_place(s) ? begin_in_store(s) : FAILED;
+  if (status == 0) say_unconfined(s), watch_store(s);
+  if (status == 0 && take_signals(s) && mount_store(s)) {
+    status = supervise(s);
+    close_control(s);
+    return status;
+  }
   leave_no_trace(s);
   return status == 0 ? FAILED : status;
 }
@@ -256,20 +297,34 @@ static int await_readiness(pid_t child, int readiness) {
   return WEXITSTATUS(status);
 }
 
+/* Runs a command that mounts nothing. */
+static int run_command(struct supervisor *s, const char *operand) {
+  switch (s->command) {
+  case PRINTS_HELP: return print_help();
+  case PRINTS_VERSION: return print_version();
+  case PRINTS_SERVER: return print_server(operand);
+  case RESTARTS: return restart_server(operand);
+  case BACKS_UP: return back_up(s, s->copy, operand);
+  default: return print_status(operand, s->as_json);
+  }
+}
+
 int main(int argc, char **argv) {
-  static struct supervisor s = {.flags = MS_NOSUID | MS_NODEV};
+  static struct supervisor s = {.flags = MS_NOSUID | MS_NODEV, .control.events = -1};
   int ends[2], null;
   close_range(FIRST_OTHER, ~0U, 0);
   do null = open("/dev/null", O_RDWR | O_CLOEXEC);
   while (null >= 0 && null < FIRST_OTHER);
   close(null);
-  if (argc == 2 && !is_helper(argv[0]) && strcmp(argv[1], "--help") == 0) return print_help();
-  if (argc == 2 && !is_helper(argv[0]) && strcmp(argv[1], "--version") == 0) return print_version();
-  if (argc == 3 && !is_helper(argv[0]) && strcmp(argv[1], "--server") == 0) return print_server(argv[2]);
+  if (getauxval(AT_SECURE) != 0)
+    return say("this program can't run with its file's owner or capabilities: its caller names the engine"), FAILED;
   if (!read_arguments(&s, argc, argv)) return USAGE;
-  if (s.fake) return 0;
-  signal(SIGPIPE, SIG_IGN);
   signal(SIGCHLD, SIG_DFL);
+  if (s.command != MOUNTS) return run_command(&s, argv[optind]);
+  if (s.fake) return 0;
+  umask(S_IRWXG | S_IRWXO);
+  if (s.remounts) return remount(&s, argv[optind], argv[optind + 1]);
+  signal(SIGPIPE, SIG_IGN);
   sigprocmask(SIG_BLOCK, NULL, &s.mask);
   if (s.foreground) return run(&s, argv[optind], argv[optind + 1]);
   if (pipe2(ends, O_CLOEXEC) != 0) return refused("pipe"), FAILED;

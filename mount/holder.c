@@ -7,17 +7,22 @@
 
 enum { NAME_SIZE = 32 }; /* bytes of /proc/PID/comm, and more */
 
+/* The process that a line of /proc/locks names as the owner of a lock by flock(2) on this file, or 0. */
+static pid_t owner_in_line(const char *line, ino_t file) {
+  int process;
+  unsigned long long inode;
+  bool is_whole = sscanf(line, "%*d: FLOCK %*s %*s %9d %*x:%*x:%20llu", &process, &inode) == 2;
+  return is_whole && inode == file ? process : 0;
+}
+
 /* The process that took the lock, or 0. Some file systems show another device there than fstat(2) does. */
 static pid_t owner_of_lock(const struct supervisor *s) {
   struct stat lock;
   char line[LINE_SIZE];
-  int process, owner = 0;
-  unsigned long long inode;
-  FILE *locks = fopen("/proc/locks", "re");
-  if (!locks || stat(beside(s, LOCK_SUFFIX), &lock) != 0) return 0;
-  while (owner == 0 && fgets(line, sizeof line, locks))
-    if (sscanf(line, "%*d: FLOCK %*s %*s %d %*x:%*x:%llu", &process, &inode) == 2 && inode == lock.st_ino) owner = process;
-  fclose(locks);
+  pid_t owner = 0;
+  FILE *locks = stat(beside(s, LOCK_SUFFIX), &lock) == 0 ? fopen("/proc/locks", "re") : NULL;
+  while (locks && owner == 0 && fgets(line, sizeof line, locks)) owner = owner_in_line(line, lock.st_ino);
+  if (locks) fclose(locks);
   return owner;
 }
 

@@ -1,51 +1,51 @@
-/* Whether the life of a server failed. Ten that failed in a row end a mount, and any number of others doesn't. */
+/* The lives of servers: which of them fail, and how long it takes until the next server starts. Ten that failed in a row end a mount,
+ * and any number of others doesn't. */
 #define _GNU_SOURCE
 #include "supervisor.h"
-#include <stdio.h>
+#include <string.h>
 #include <sys/wait.h>
 
-enum { NOTICE_SIZE = 16, COUNT_SIZE = 64 }; /* bytes: the notice by which a server asks for the pending requests; a line of /proc */
+enum { FIRST_PAUSE = 50, LONGEST_PAUSE = 5000, MOST_DOUBLED = 7 }; /* milliseconds; times that a pause doubles */
 
-struct log_mark mark_log(const struct supervisor *s) {
-  struct stat found;
-  if (lstat(beside(s, LOG_SUFFIX), &found) != 0) return (struct log_mark){0};
-  return (struct log_mark){found.st_dev, found.st_ino, found.st_size, found.st_mtim};
+static const char locked_out[] = " is in use by another server";
+
+long long asked_at(const struct supervisor *s) {
+  uint64_t noticed = s->report->notice, moment = (uint64_t)now();
+  return (long long)(noticed < moment ? noticed : moment);
 }
 
-static bool has_changed_log(const struct supervisor *s) {
-  struct log_mark log = mark_log(s);
-  return log.device != s->mark.device || log.inode != s->mark.inode || log.size != s->mark.size ||
-         log.written.tv_sec != s->mark.written.tv_sec || log.written.tv_nsec != s->mark.written.tv_nsec;
-}
-
-/* A server without counts in /proc is taken for one that asked. */
-static bool has_written_notice(pid_t server) {
-  char path[COUNT_SIZE], line[COUNT_SIZE];
-  unsigned long long written = NOTICE_SIZE;
-  snprintf(path, sizeof path, "/proc/%d/io", server);
-  FILE *counts = fopen(path, "re");
-  if (!counts) return true;
-  while (fgets(line, sizeof line, counts) && sscanf(line, "wchar: %llu", &written) != 1) continue;
-  fclose(counts);
-  return written >= NOTICE_SIZE;
-}
-
-bool has_asked(struct supervisor *s) {
-  if (s->asked == 0 && s->server > 0 && has_written_notice(s->server)) s->asked = now();
-  return s->asked != 0;
-}
-
-/* Whether a process was ended by a signal that its own instructions raise. */
-static bool has_crashed(int status) {
+bool was_killed(int status) {
   static const int own[] = {SIGSEGV, SIGBUS, SIGILL, SIGFPE, SIGABRT, SIGTRAP, SIGSYS};
   for (size_t i = 0; i < sizeof own / sizeof *own; i++)
-    if (WIFSIGNALED(status) && WTERMSIG(status) == own[i]) return true;
-  return false;
+    if (WIFSIGNALED(status) && WTERMSIG(status) == own[i]) return false;
+  return WIFSIGNALED(status);
 }
 
-/* A commit that failed may have changed the log too. So a server that ended by itself must have served for some time. */
-bool has_failed(const struct supervisor *s, int status) {
-  bool was_killed = WIFSIGNALED(status) && !has_crashed(status);
-  if (s->asked == 0) return true;
-  return !was_killed && !(has_changed_log(s) && now() - s->asked >= SHORT_LIFE);
+bool was_locked_out(const struct supervisor *s, int status) {
+  const char *line = last_line(s);
+  size_t length = strlen(line), ending_length = sizeof locked_out - 1;
+  return !WIFSIGNALED(status) && asked_at(s) == 0 && length > ending_length && strcmp(line + length - ending_length, locked_out) == 0;
+}
+
+/* Whether a server has done what there was to do, as far as it came: it has answered, or it was killed while no request was there. */
+static bool has_served(const struct supervisor *s, int status) {
+  const struct counts *counts = &s->report->counts;
+  return counts->answers > 0 || (was_killed(status) && asked_at(s) != 0 && counts->requests == 0);
+}
+
+/* A server that ended by itself without an answer has failed. Killed ones, and those that the store was locked for, aren't counted. */
+static void count_failures(struct supervisor *s, int status) {
+  if (s->report->counts.answers > 0) s->failed_lives = 0;
+  else if (!was_killed(status) && !was_locked_out(s, status)) s->failed_lives++;
+}
+
+long long count_life(struct supervisor *s, int status) {
+  count_failures(s, status);
+  if (has_served(s, status)) {
+    s->idle_lives = 0;
+    return now() - s->started < SHORT_LIFE ? FIRST_PAUSE : 0;
+  }
+  long long pause = FIRST_PAUSE << (s->idle_lives < MOST_DOUBLED ? s->idle_lives : MOST_DOUBLED);
+  s->idle_lives++;
+  return pause < LONGEST_PAUSE ? pause : LONGEST_PAUSE;
 }

@@ -6,7 +6,8 @@
 #include <string.h>
 #include <sys/statvfs.h>
 
-enum { BLOCK = 4096 }; /* bytes */
+enum { BLOCK = 4096 };                        /* bytes */
+enum { SHARE = 8, LEAST_FOR_TABLES = 64 << 20 }; /* of the free space that tables and log take: a part, and bytes */
 
 static const char plain[] = "plain", everyday[] = "everyday";
 static const unsigned long long largest = (1ULL << 63) - BLOCK;
@@ -31,6 +32,7 @@ bool take_size(struct supervisor *s, const char *word) {
   unsigned long long number = strtoull(word, &suffix, 10), unit = unit_of(suffix);
   bool is_number = *word >= '0' && *word <= '9' && errno == 0 && unit > 0 && number <= largest / unit;
   if (!is_number) return say("size=%s: no number of bytes", word), false;
+  if (number * unit < BLOCK) return say("size=%s: a store has room for %d bytes at least", word, BLOCK), false;
   s->size = number * unit / BLOCK * BLOCK;
   s->has_size = true;
   return true;
@@ -42,6 +44,13 @@ bool fits_profile(const struct supervisor *s) {
   return fits;
 }
 
+/* The capacity of a new store: nine tenths of the free space, less what tables and log take. A small disk leaves an eighth. */
+static unsigned long long capacity_for(unsigned long long room) {
+  unsigned long long share = room / SHARE, tables = share > LEAST_FOR_TABLES ? share : LEAST_FOR_TABLES;
+  unsigned long long most = room / 10 * 9, capacity = most > tables + share ? most - tables : share;
+  return (capacity < largest ? capacity : largest) / BLOCK * BLOCK;
+}
+
 void choose_profile(struct supervisor *s) {
   struct statvfs room;
   if (!s->is_new) {
@@ -49,16 +58,24 @@ void choose_profile(struct supervisor *s) {
     return;
   }
   if (!s->profile) s->profile = everyday;
-  if (s->profile == plain || s->has_size || statvfs(folder_of(s), &room) != 0) return;
-  unsigned long long tenth = room.f_bavail / 10 * room.f_frsize;
-  s->size = tenth < largest / 9 ? 9 * tenth / BLOCK * BLOCK : largest;
+  if (s->profile == plain || s->has_size || fstatvfs(s->folder, &room) != 0) return;
+  s->size = capacity_for((unsigned long long)room.f_bavail * room.f_frsize);
   s->has_size = true;
 }
 
+/* The maker of a new store is the caller. Where root finds an empty file of another user, that user is. */
+static void put_maker(const struct supervisor *s, char *owner) {
+  bool is_caller = s->made_store || getuid() != 0;
+  sprintf(owner, "%u:%u", is_caller ? getuid() : s->owner, is_caller ? getgid() : s->group);
+}
+
 size_t words_of_store(const struct supervisor *s, const char **words) {
-  static char size[32];
+  static char size[32], owner[32];
   size_t count = 0;
   if (!s->is_new) return 0;
+  put_maker(s, owner);
+  words[count++] = "--owner";
+  words[count++] = owner;
   words[count++] = "--profile";
   words[count++] = s->profile;
   if (!s->has_size) return count;

@@ -1,6 +1,9 @@
 /* The state of a mount, and what the files of fusekeep-mount share. */
 #ifndef SUPERVISOR_H
 #define SUPERVISOR_H
+#include "gather/report.h"
+#include "gather/text.h"
+#include "operations.h"
 #include <limits.h>
 #include <signal.h>
 #include <stdbool.h>
@@ -14,6 +17,7 @@
 enum { FAILED = 1, USAGE = 2, CANNOT_RUN = 127 }; /* exit statuses */
 enum { OPTIONS_SIZE = 1024, LINE_SIZE = 512, PATH_SIZE = PATH_MAX + 16 }; /* bytes; a path has room for a suffix */
 enum { SHORT_LIFE = 1000, FULL_PAUSE = 5000 };  /* milliseconds */
+enum { MOST_FAILED_LIVES = 10 };
 enum { FIRST_OTHER = STDERR_FILENO + 1 };       /* descriptor */
 
 /* What the names of the files beside a store have after that of the store. */
@@ -22,59 +26,90 @@ enum { FIRST_OTHER = STDERR_FILENO + 1 };       /* descriptor */
 #define DEATHS_SUFFIX "-mount.log"
 #define RESERVE_SUFFIX "-reserve"
 
-/* The state of a store's log. Opening a store leaves it as it is, and a commit changes it. */
-struct log_mark {
-  dev_t device;
-  ino_t inode;
-  off_t size;
-  struct timespec written;
-};
-
 /* A server's death, until the next server asks for the pending requests. */
 struct death {
   bool is_open;                                    /* it isn't in the list yet */
   struct timespec at;                              /* of the real clock */
   long long ended, lived;                          /* milliseconds, of the monotonic clock */
   int status;                                      /* of waitpid(2) */
-  char line[LINE_SIZE];                            /* the last one that the server wrote */
+  char line[LINE_SIZE];                            /* the last one that the server wrote, and what follows from the death */
+};
+
+/* The request at which servers end by themselves. */
+struct culprit {
+  unsigned long long id;                           /* 0 for none */
+  int deaths;                                      /* in a row */
+};
+
+/* What servers did, in all. */
+struct totals {
+  unsigned long long requests, answers, groups, flushes;
+};
+
+/* What a server was last seen to do. */
+struct sight {
+  unsigned long long requests, answers;
+  long long since;                                 /* milliseconds of the monotonic clock */
+  bool hangs;                                      /* it was killed for that */
 };
 
 /* What another process has done to the files of a mounted store. */
 enum trouble { NO_TROUBLE, LINKED, MOVED, REMOVED, LOG_REMOVED, OTHER_LOG };
 
 struct supervisor {
-  bool foreground, fake, sloppy;
+  enum { MOUNTS, PRINTS_HELP, PRINTS_VERSION, PRINTS_SERVER, PRINTS_STATUS, RESTARTS, BACKS_UP } command;
+  const char *copy;                                /* the name of a backup */
+  bool as_json, replaces;                          /* the state is printed so; the backup may be there already */
+  bool foreground, fake, sloppy, remounts;
   bool wary;                                       /* the servers suppose nothing of torn writes */
   bool is_volatile;                                /* the servers flush nothing */
-  enum { BY_DEFAULT, GROUPS, NO_GROUPS } groups;   /* whether a server gets all messages that wait at once */
+  enum { BY_DEFAULT, GROUPS, NO_GROUPS } groups;   /* whether a server gets messages that wait together */
   bool shows;                                      /* a line is written for each message */
   const char *profile;                             /* of a new store; NULL where nothing is said */
   unsigned long long size;                         /* bytes for which it has room */
   bool has_size, is_new;                           /* there is a size; the store is to be made */
-  const char *engine;
+  const char *engine;                              /* its path */
+  int engine_file;                                 /* its descriptor, by which it is run */
   char store[PATH_MAX], mountpoint[PATH_MAX];
+  bool allows_entries;                             /* the mountpoint need not be empty */
+  int place, parent;                               /* descriptors: of the mountpoint until it is mounted on, and of its parent */
+  int mount_id;                                    /* in the table of mounts */
   unsigned long flags;                             /* of mount(2) */
   char data[OPTIONS_SIZE], options[OPTIONS_SIZE];  /* for mount(2) beside the flags; for fusermount3 */
+  uid_t owner;                                     /* of the store's file, and its group; servers have them */
+  gid_t group;
   int lock, device, signals, readiness;            /* descriptors; the last one reports that the mount is ready */
-  int store_file, log_file, watch;                 /* descriptors: of the files, and of inotify(7) */
-  int library;                                     /* descriptor of what servers preload; -1 for none */
+  int folder;                                      /* descriptor of the store's folder */
+  int store_file, log_file, watch;                 /* descriptors: of the files, which are locked, and of inotify(7) */
+  int library, report_file;                        /* descriptors: of what engines preload, and of the memory of `report` */
+  struct report *report;                           /* of the server that runs, or ran last */
+  struct totals totals;                            /* of the servers before it */
   sigset_t mask;                                   /* with which this process was called */
   pid_t server, probe, unmounter;                  /* 0 for none */
   bool ready, stop_requested, is_unmounted;
-  bool made_store, made_lock;                      /* by this process */
-  bool is_full;                                    /* servers end because the disk has no room */
+  bool made_store, made_lock, made_log;            /* by this process */
+  bool has_store, has_lock;                        /* this process has the file locked */
+  bool is_full;                                    /* the disk has no room: calls that take some wait */
   bool has_reserve, gave_reserve;                  /* the reserve is there; it was given up */
   enum trouble trouble;
+  long long next_try, stop_asked;                  /* when a full disk may have room again; when the mount was to end */
   long long started, next_start;                   /* milliseconds of the monotonic clock */
-  long long asked;                                 /* when the server asked for the pending requests; 0 before */
-  struct log_mark mark;                            /* of the log when the server was started */
-  int failed_lives, last_status;                   /* in a row; of waitpid(2) */
+  int failed_lives, idle_lives, last_status;       /* in a row: that failed, that did nothing; of waitpid(2) */
+  struct culprit culprit;
+  unsigned long long committed;                    /* no request up to this id may be refused: a commit may have it */
+  long long watchdog;                              /* milliseconds that a server may do nothing; 0 for any time */
+  int hangs;                                       /* in a row, that the watchdog ended */
+  struct sight sight;
   struct death death;                              /* the last one */
+  struct control control;
+  struct history history;
+  struct work work;
 };
 
 /* fusekeep-mount.c */
 
-/* Writes one line to standard error, or to the system's log once the mount is in the background. */
+/* Writes one line to standard error or, once the mount is in the background, to the system's log. Where that can't be done at once the line
+ * of a mount goes into the list of deaths. `errno` stays. */
 __attribute__((format(printf, 1, 2))) void say(const char *form, ...);
 
 /* Writes the error of the last system call, and returns false. */
@@ -82,6 +117,11 @@ bool refused(const char *what);
 
 /* Milliseconds of the monotonic clock. */
 long long now(void);
+
+/* log.c */
+
+/* Gives a line to the system's log. False where there is none, or where it takes no line at once. */
+bool log_line(const char *line);
 
 /* arguments.c, engine.c, preload.c, server.c */
 
@@ -95,21 +135,34 @@ bool is_helper(const char *name);
 int print_help(void);
 int print_version(void);
 
-/* Finds the engine: the one that FUSEKEEP names, else the one in the source tree or the folder of this program, else the one on
- * PATH, which mount(8) doesn't pass on. */
+/* Sets and clears what an option says of the flags of mount(2). False where it says nothing. */
+bool apply_flag(const char *word, unsigned long *flags);
+
+/* Changes the flags of a mount to those of the command line, and returns this program's exit status. */
+int remount(const struct supervisor *s, const char *store, const char *mountpoint);
+
+/* Finds and opens the engine: the one that FUSEKEEP names, else the one in the folder of this program, else the one on PATH, which
+ * mount(8) doesn't pass on. */
 bool find_engine(struct supervisor *s);
+
+/* Opens the engine again, so that the next server is of the program that now lies at its path. Where that is none, the old one stays. */
+bool reopen_engine(struct supervisor *s);
 
 /* A path that begins at the folder of this program. The next call overwrites it. NULL where that folder isn't known. */
 const char *near_program(const char *name);
 
-/* Opens the library that servers preload, where the mount has groups or lines. It may be missing: a mount has neither then. */
-void find_library(struct supervisor *s);
+/* Opens the library that engines preload. */
+bool find_library(struct supervisor *s);
 
-/* Preloads the library, in a child that becomes a server. It writes lines to this descriptor. */
+/* Whether the engine that began the mount had loaded it. */
+bool has_library(const struct supervisor *s);
+
+/* Preloads the library, in a child that becomes an engine. A server writes lines to this descriptor, unless it is below 0. */
 void preload_library(const struct supervisor *s, int lines);
 
 /* Prints the process number of the server of a mounted store, and returns the exit status of this program. */
-int print_server(const char *store);
+int print_server(const char *operand);
+
 
 /* children.c */
 
@@ -123,6 +176,20 @@ void give_back_signals(const struct supervisor *s);
 /* Runs `fusekeep serve`. With `--fresh` a new store gets its profile. With `--resume` it is a server, over the device. */
 pid_t start_engine(const struct supervisor *s, const char *mode, int device);
 
+/* privileges.c */
+
+/* Takes all privileges from a child that becomes an engine, and makes it a process of the store's owner. */
+bool drop_privileges(const struct supervisor *s);
+
+/* Whether the owner of the store may use its file. Notes the owner. */
+bool suits_owner(struct supervisor *s, int file, const char *store);
+
+/* Says so where the kernel can't confine engines to the store's files. */
+void say_unconfined(const struct supervisor *s);
+
+/* Whether the owner of the store may look into its folder. */
+bool owner_may_enter(const struct supervisor *s);
+
 /* volatile.c */
 
 /* From here on this process flushes nothing: fsync(2) and fdatasync(2) return 0. */
@@ -135,19 +202,54 @@ const char *last_line(const struct supervisor *s);
 /* How an engine ended, and the last line that it wrote. The next call overwrites it. */
 const char *ending(const struct supervisor *s, int status);
 
-/* store.c */
+/* folder.c */
+
+/* The real path of a file that may be missing. It takes PATH_MAX bytes. */
+bool find_store(const char *file, char *path);
 
 /* The path of a file beside the store, whose name ends so. The next call overwrites it. */
 const char *beside(const struct supervisor *s, const char *suffix);
 
+/* Its name in the folder. The next call overwrites it. */
+const char *name_beside(const struct supervisor *s, const char *suffix);
+
 /* The folder of the store. The next call overwrites it. */
 const char *folder_of(const struct supervisor *s);
 
-/* Says that a file can't be written, and returns false. */
+/* Says why a file can't be written, by the error of the last call, and returns false. */
 bool unwritable(const char *path);
 
-/* Creates the store's file if it is missing (an empty file is no store yet), so that it has one real path, and takes the lock
- * beside it. The engines get the lock's file as their standard error. So a server that outlives this process holds the lock. */
+/* Opens the store's folder and its file. One that is missing is made; an empty file is no store yet. False, with a line, where it can't
+ * be opened, or where it isn't safe to use. */
+bool open_store(struct supervisor *s, const char *store);
+
+/* Opens a file beside the store, with O_CREAT one that is missing too, and says in `made` whether this call made it (NULL where nobody
+ * asks). Only its owner may open it. It is -1 for anything else than a regular file of the store's owner or of this user. */
+int open_beside(const struct supervisor *s, const char *suffix, int flags, bool *made);
+
+/* Whether an open file is the one of this name beside the store. */
+bool is_named(const struct supervisor *s, int file, const char *suffix);
+
+/* Removes a file beside the store. */
+void remove_beside(const struct supervisor *s, const char *suffix);
+
+/* locks.c */
+
+/* Locks the bytes of an open database or of its log that SQLite and servers lock. Waits for a second. */
+bool lock_bytes(int file);
+
+/* Locks the store. Says who has it locked otherwise. */
+bool lock_store(struct supervisor *s, const char *store);
+
+/* Takes the lock's file, in which the engines write their standard error. So a server that outlives this process holds it. */
+bool take_lock(struct supervisor *s);
+
+/* Hands the locked files on, in a child that becomes an engine. */
+void pass_locks(const struct supervisor *s);
+
+/* store.c */
+
+/* Opens the store's file and takes its locks. */
 bool hold_store(struct supervisor *s, const char *store);
 
 /* Begins a mount in the store. Returns this program's exit status; unless it is 0, the engine's line was written. */
@@ -163,10 +265,10 @@ bool take_profile(struct supervisor *s, const char *word);
 bool take_size(struct supervisor *s, const char *word);
 bool fits_profile(const struct supervisor *s);
 
-/* Sets what the options leave open: a new store is everyday, with room for nine tenths of the disk's free space. */
+/* Sets what the options leave open: a new store is everyday, with a capacity that leaves room on its disk. */
 void choose_profile(struct supervisor *s);
 
-/* The words with which an engine makes a new store, four at most; their number. */
+/* The words with which an engine makes a new store, six at most; their number. */
 size_t words_of_store(const struct supervisor *s, const char **words);
 
 /* room.c */
@@ -177,32 +279,89 @@ bool lacks_room(const struct supervisor *s);
 /* Says why an engine could not write, if the disk is full or the store's folder is read-only. */
 void explain(const struct supervisor *s);
 
-/* Removes the reserve, so that its room serves the store. False where there is none. */
-bool give_up_reserve(struct supervisor *s);
+/* Takes room for the log, unless the disk is full. A server has it until it ends in order. */
+void keep_log_room(const struct supervisor *s);
 
-/* Makes the reserve where it is missing and there is room for it. */
+/* Makes the reserve where it is missing and the disk isn't full. */
 void keep_reserve(struct supervisor *s);
+
+/* From here on the disk is full: the next server gets no request that takes room. The reserve is removed, so that its room serves the
+ * store. False where there was none. */
+bool use_reserve(struct supervisor *s);
+
+/* Whether the disk was full, and the next server may get all requests again. */
+bool look_for_room(struct supervisor *s);
+
+/* Whether a mount that was to end has only calls left that wait for room. */
+bool is_stuck(const struct supervisor *s);
+
+/* Makes the reserve of what room there is, for the next mount. */
+void leave_reserve(struct supervisor *s);
+
+/* report.c */
+
+/* Makes the memory in which servers report. */
+bool make_report(struct supervisor *s);
+
+/* A server begins or has ended. Its counts go into the totals. */
+void clear_report(struct supervisor *s);
+
+/* The counts of all servers. */
+struct totals totals_of(const struct supervisor *s);
+
+/* The request that the server works on, or worked on when it ended, as text. The next call overwrites it. */
+const char *name_of_work(const struct supervisor *s);
 
 /* life.c */
 
-/* The log's state. All is 0 where it is missing. */
-struct log_mark mark_log(const struct supervisor *s);
+/* When the server had asked for the pending requests, in milliseconds of the monotonic clock; 0 if it hasn't. */
+long long asked_at(const struct supervisor *s);
 
-/* Whether the server has asked for the pending requests, which is the first thing that it writes. It may have ended, as long as it
- * isn't reaped. */
-bool has_asked(struct supervisor *s);
+/* Whether a process was ended by a signal that its own instructions don't raise. */
+bool was_killed(int status);
 
-/* Whether a server that ended so has served nothing, by a fault of its own, of the store or of the disk. */
-bool has_failed(const struct supervisor *s, int status);
+/* Whether another process has the store locked, so that the server ended. */
+bool was_locked_out(const struct supervisor *s, int status);
+
+/* Counts the life of a server that ended so, and returns the milliseconds until the next one may start. */
+long long count_life(struct supervisor *s, int status);
+
+/* culprit.c */
+
+/* A server ended. Notes the requests that it may have committed and hasn't answered. */
+void note_commits(struct supervisor *s);
+
+/* A server ended by itself. A request at which three in a row did is refused from now on. */
+void blame_request(struct supervisor *s);
+
+/* watchdog.c */
+
+/* Reads the seconds of the option watchdog=, and returns whether they are valid. */
+bool take_watchdog(struct supervisor *s, const char *word);
+
+/* Ends a server that does nothing while there is work. */
+void watch_server(struct supervisor *s);
+
+/* The milliseconds until the server must be looked at for that; below 0 for any time. */
+int pause_of_watchdog(const struct supervisor *s);
 
 /* deaths.c */
 
 /* Notes the server's death, which `write_death` writes. */
 void note_death(struct supervisor *s, int status);
 
+/* Adds to the line of the last death, after what is there. */
+__attribute__((format(printf, 2, 3))) void add_to_death(struct supervisor *s, const char *form, ...);
+
+/* Makes the list where it is missing, with room for lines on a disk that gets full. */
+void begin_list(const struct supervisor *s);
+
 /* Writes the last death into the list, unless it is there, with the milliseconds from it until the next server asked for the
  * pending requests, or with a dash where none did (-1). */
 void write_death(struct supervisor *s, long long restart);
+
+/* Writes a line into the list that is no death. */
+void list_line(const struct supervisor *s, const char *line);
 
 /* holder.c */
 
@@ -217,15 +376,56 @@ void say_detached(const struct supervisor *s);
 
 /* mounts.c */
 
-/* Whether this store is the last file system mounted on the mountpoint. */
-bool is_on_top(const struct supervisor *s);
+/* What the table of mounts has of a mount of this program. The next one overwrites it. */
+struct mounted {
+  int id;
+  unsigned minor;                                  /* of its device, which is the number of the connection */
+  uid_t user;                                      /* who mounted it */
+  char *place, *flags, *kind, *source;
+};
+
+/* The table of mounts of a process. */
+struct table {
+  FILE *file;
+  char *line;
+  size_t size;
+};
+
+bool open_table(struct table *table, pid_t process);
+bool next_mount(struct table *table, struct mounted *found);
+void close_table(struct table *table);
+
+/* The id of the mount that has an open file, and the file's path, which takes PATH_MAX bytes. They ask no server. */
+int mount_id_of(int file);
+bool path_of(int file, char *path);
 
 /* The first mountpoint of this store in the namespace of a process. False where there is none. */
 bool find_place(const struct supervisor *s, pid_t process, char *place);
 
+/* notify.c */
+
+/* Sends a line to the service manager that started this program, if it waits for one. */
+void notify_manager(const char *state);
+
+/* mountpoint.c */
+
+/* Finds and opens the mountpoint, which must be empty unless the options allow entries. */
+bool find_mountpoint(struct supervisor *s, const char *mountpoint);
+
+/* Notes which mount was made on the mountpoint. */
+bool note_mount(struct supervisor *s);
+
+/* In a child: makes the parent of the mountpoint its working directory, and closes all but the standard descriptors and the store's folder,
+ * in which it may write lines. */
+void enter_parent(const struct supervisor *s);
+
+/* Opens the root of the mount from the parent of the mountpoint, and returns the name by which it was reached. NULL where the mount isn't
+ * there any more, or another one lies over it. */
+const char *open_root(const struct supervisor *s, int *root);
+
 /* watch.c */
 
-/* Opens the store's file and its log, and watches them. */
+/* Watches the store's file and its log. */
 void watch_store(struct supervisor *s);
 
 /* Looks at the files again, and says what has changed. The server whose log was removed is killed. */

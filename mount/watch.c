@@ -1,22 +1,26 @@
 /* The files of a mounted store: what another process does to their names while servers have them open. */
 #define _GNU_SOURCE
 #include "supervisor.h"
+#include <errno.h>
 #include <fcntl.h>
 #include <string.h>
 #include <sys/inotify.h>
 
+#define NEW_LOG_SUFFIX LOG_SUFFIX ".new"
+
 enum { CHANGES = IN_ATTRIB | IN_MOVE_SELF | IN_DELETE_SELF, PIECE = 1 << 16 };
 
-static void watch_log(struct supervisor *s) {
-  s->log_file = open(beside(s, LOG_SUFFIX), O_RDONLY | O_CLOEXEC | O_NOFOLLOW);
-  if (s->log_file >= 0 && s->watch >= 0) inotify_add_watch(s->watch, beside(s, LOG_SUFFIX), CHANGES);
+/* Watches an open file, by the name that a process has for it. */
+static void watch(const struct supervisor *s, int file) {
+  char name[LINE_SIZE];
+  snprintf(name, sizeof name, "/proc/self/fd/%d", file);
+  if (s->watch >= 0) inotify_add_watch(s->watch, name, CHANGES);
 }
 
 void watch_store(struct supervisor *s) {
   s->watch = inotify_init1(IN_CLOEXEC | IN_NONBLOCK);
-  s->store_file = open(s->store, O_RDONLY | O_CLOEXEC);
-  if (s->watch >= 0) inotify_add_watch(s->watch, s->store, CHANGES);
-  watch_log(s);
+  watch(s, s->store_file);
+  watch(s, s->log_file);
 }
 
 static bool is_same(const struct stat *one, const struct stat *other) {
@@ -81,25 +85,23 @@ static bool copy_log(const struct supervisor *s, int file) {
   static char piece[PIECE];
   off_t at = 0;
   for (ssize_t length; (length = pread(s->log_file, piece, sizeof piece, at)) != 0; at += length)
-    if (length < 0 || write(file, piece, length) != length) return false;
+    if (length < 0 || write(file, piece, (size_t)length) != length) return false;
   return fsync(file) == 0;
 }
 
 /* Writes the removed log anew, whole or not at all. Its bytes are there as long as it is open here. */
 static bool restore_log(struct supervisor *s) {
   char made[PATH_SIZE];
-  struct stat own;
-  snprintf(made, sizeof made, "%s", beside(s, LOG_SUFFIX ".new"));
-  if (fstat(s->log_file, &own) != 0) return false;
-  int file = open(made, O_WRONLY | O_CREAT | O_TRUNC | O_CLOEXEC | O_NOFOLLOW, own.st_mode & 0777);
-  if (file < 0) return unwritable(made);
-  bool is_copied = fchown(file, own.st_uid, own.st_gid) == 0 && copy_log(s, file) && rename(made, beside(s, LOG_SUFFIX)) == 0;
-  close(file);
-  if (!is_copied) return unwritable(beside(s, LOG_SUFFIX));
-  int folder = open(folder_of(s), O_RDONLY | O_DIRECTORY | O_CLOEXEC);
-  if (folder >= 0) fsync(folder), close(folder);
+  remove_beside(s, NEW_LOG_SUFFIX);
+  int file = open_beside(s, NEW_LOG_SUFFIX, O_RDWR | O_CREAT, NULL);
+  if (file < 0) return unwritable(beside(s, NEW_LOG_SUFFIX));
+  strcpy(made, name_beside(s, NEW_LOG_SUFFIX));
+  bool is_copied = lock_bytes(file) && copy_log(s, file) && renameat(s->folder, made, s->folder, name_beside(s, LOG_SUFFIX)) == 0;
+  if (!is_copied) return close(file), unwritable(beside(s, LOG_SUFFIX));
+  fsync(s->folder);
   close(s->log_file);
-  watch_log(s);
+  s->log_file = file;
+  watch(s, file);
   return true;
 }
 

@@ -1,5 +1,5 @@
 /* Preloaded into a server, whose standard input is the device. One read(2) of the device gives one message, and a server commits the
- * messages of a read together. Here its read gets all messages that wait. They are read into bytes of this library and given out as
+ * messages of a read together. Here its read gets those that wait, 16 at most. They are read into bytes of this library and given out as
  * the server asks for them, cut anywhere. What was read and not given out is among what the next server gets if this one dies.
  *
  * A server has one thread, and only it reads. */
@@ -8,6 +8,7 @@
 #include <errno.h>
 #include <fcntl.h>
 #include <poll.h>
+#include <signal.h>
 #include <stdlib.h>
 #include <string.h>
 #include <sys/stat.h>
@@ -16,12 +17,23 @@
 #include <unistd.h>
 
 enum { LEAST_ROOM = 131152 }; /* bytes, without which the kernel gives no message: the headers of a WRITE and 128 KiB */
+enum { MOST_ROOM = 135168 };  /* bytes; the kernel makes a BATCH_FORGET as long as there is room, and a server takes no longer message */
 enum { DEVICE_MAJOR = 10, DEVICE_MINOR = 229 };
 
 static char held[1 << 20];
 static size_t begin, end; /* of what isn't given out */
 static bool gathers;
 static int flags;         /* of the device, whose reads wait */
+
+/* The signal by which fusekeep-mount ends a read that waits, as it asks the server to end. */
+static void wake(int signal) {
+  (void)signal;
+}
+
+static void take_wakes(void) {
+  struct sigaction action = {.sa_handler = wake};
+  sigaction(SIGUSR1, &action, NULL);
+}
 
 /* Whether standard input is the device, which the first call finds out. All bytes are written then: where the kernel copies a message
  * into a page that isn't there and the server is killed meanwhile, the caller gets EIO. */
@@ -33,17 +45,22 @@ static bool has_device(void) {
   kind = is_device ? DEVICE : OTHER;
   if (!is_device) return false;
   memset(held, 0, sizeof held);
+  take_wakes();
   flags = fcntl(STDIN_FILENO, F_GETFL);
   gathers = getenv(GROUPS_VARIABLE) && flags >= 0;
   return true;
 }
 
-/* Reads one message after what is held. */
+/* Reads one message after what is held. Nothing is held of one that is kept back, or answered here. */
 static ssize_t take(void) {
-  ssize_t size = syscall(SYS_read, STDIN_FILENO, held + end, sizeof held - end);
+  size_t room = sizeof held - end;
+  ssize_t size;
+  do size = report()->ends ? 0 : syscall(SYS_read, STDIN_FILENO, held + end, room < MOST_ROOM ? room : MOST_ROOM);
+  while (size < 0 && errno == EINTR);
   if (size <= 0) return size;
-  if (shows()) show_request(held + end, size);
-  end += size;
+  report()->counts.requests++;
+  if (shows()) show_request(held + end, (size_t)size);
+  if (!keep_back(held + end, (size_t)size) && !refuse_request(held + end, (size_t)size)) end += (size_t)size;
   return size;
 }
 
@@ -56,9 +73,22 @@ static bool waits(void) {
  * read may block while others are held. The flag for that is one of the open device, which fusekeep-mount and the next server have too:
  * it is set only here, and fusekeep-mount clears it before it starts a server. An error comes again at the next first read. */
 static void take_others(void) {
-  if (!gathers || !waits() || fcntl(STDIN_FILENO, F_SETFL, flags | O_NONBLOCK) != 0) return;
-  while (sizeof held - end >= LEAST_ROOM && take() > 0) continue;
+  if (!gathers || report()->is_single || report()->is_full || !waits() || fcntl(STDIN_FILENO, F_SETFL, flags | O_NONBLOCK) != 0) return;
+  for (int count = 1; count < GATHERED_MOST && sizeof held - end >= LEAST_ROOM && take() > 0;) count++;
   fcntl(STDIN_FILENO, F_SETFL, flags);
+}
+
+/* Takes the messages of a turn. */
+static ssize_t take_turn(void) {
+  ssize_t first;
+  begin = end = 0;
+  end_turn();
+  do first = take();
+  while (first > 0 && end == 0);
+  if (first <= 0) return first;
+  take_others();
+  begin_turn(held, end);
+  return first;
 }
 
 #pragma GCC visibility push(default)
@@ -66,21 +96,24 @@ static void take_others(void) {
 ssize_t read(int file, void *to, size_t size) {
   if (file != STDIN_FILENO || !has_device()) return syscall(SYS_read, file, to, size);
   if (begin == end) {
-    begin = end = 0;
-    ssize_t first = take();
+    ssize_t first = take_turn();
     if (first <= 0) return first;
-    take_others();
   }
   if (size > end - begin) size = end - begin;
   memcpy(to, held + begin, size);
   begin += size;
-  return size;
+  note_given(held + begin);
+  return (ssize_t)size;
 }
 
 /* An answer, or a notice, is one write. */
 ssize_t write(int file, const void *from, size_t size) {
+  bool is_answer = file == STDOUT_FILENO && has_device();
   ssize_t done = syscall(SYS_write, file, from, size);
-  if (file == STDOUT_FILENO && shows() && has_device()) show_answer(from, size, done < 0 ? errno : 0);
+  int error = done < 0 ? errno : 0;
+  if (is_answer) note_answer(from, size, done >= 0);
+  if (is_answer && shows()) show_answer(from, size, error);
+  if (error != 0) errno = error;
   return done;
 }
 

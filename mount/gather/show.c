@@ -12,55 +12,7 @@
 #include <time.h>
 #include <unistd.h>
 
-enum { LINE_SIZE = 2048, TIME_SIZE = 16, ASKED = 1024 };
-enum { SYNCFS = 50, TMPFILE = 51, STATX = 52, NOTIFY_RESEND = 7, NOTIFY_INC_EPOCH = 8 }; /* of newer headers */
-
-static const uint64_t resend_bit = 1ULL << 63;
-
-/* The requests by opcode: the bytes between header and names, and how many names follow. */
-static const struct { const char *name; size_t before; int names; } opcodes[] = {
-  [FUSE_LOOKUP] = {"LOOKUP", 0, 1},
-  [FUSE_FORGET] = {"FORGET", 0, 0},
-  [FUSE_GETATTR] = {"GETATTR", 0, 0},
-  [FUSE_SETATTR] = {"SETATTR", 0, 0},
-  [FUSE_READLINK] = {"READLINK", 0, 0},
-  [FUSE_SYMLINK] = {"SYMLINK", 0, 2},
-  [FUSE_MKNOD] = {"MKNOD", sizeof(struct fuse_mknod_in), 1},
-  [FUSE_MKDIR] = {"MKDIR", sizeof(struct fuse_mkdir_in), 1},
-  [FUSE_UNLINK] = {"UNLINK", 0, 1},
-  [FUSE_RMDIR] = {"RMDIR", 0, 1},
-  [FUSE_RENAME] = {"RENAME", sizeof(struct fuse_rename_in), 2},
-  [FUSE_LINK] = {"LINK", sizeof(struct fuse_link_in), 1},
-  [FUSE_OPEN] = {"OPEN", 0, 0},
-  [FUSE_READ] = {"READ", 0, 0},
-  [FUSE_WRITE] = {"WRITE", 0, 0},
-  [FUSE_STATFS] = {"STATFS", 0, 0},
-  [FUSE_RELEASE] = {"RELEASE", 0, 0},
-  [FUSE_FSYNC] = {"FSYNC", 0, 0},
-  [FUSE_SETXATTR] = {"SETXATTR", FUSE_COMPAT_SETXATTR_IN_SIZE, 1},
-  [FUSE_GETXATTR] = {"GETXATTR", sizeof(struct fuse_getxattr_in), 1},
-  [FUSE_LISTXATTR] = {"LISTXATTR", 0, 0},
-  [FUSE_REMOVEXATTR] = {"REMOVEXATTR", 0, 1},
-  [FUSE_FLUSH] = {"FLUSH", 0, 0},
-  [FUSE_INIT] = {"INIT", 0, 0},
-  [FUSE_OPENDIR] = {"OPENDIR", 0, 0},
-  [FUSE_READDIR] = {"READDIR", 0, 0},
-  [FUSE_RELEASEDIR] = {"RELEASEDIR", 0, 0},
-  [FUSE_FSYNCDIR] = {"FSYNCDIR", 0, 0},
-  [FUSE_ACCESS] = {"ACCESS", 0, 0},
-  [FUSE_CREATE] = {"CREATE", sizeof(struct fuse_create_in), 1},
-  [FUSE_INTERRUPT] = {"INTERRUPT", 0, 0},
-  [FUSE_DESTROY] = {"DESTROY", 0, 0},
-  [FUSE_BATCH_FORGET] = {"BATCH_FORGET", 0, 0},
-  [FUSE_FALLOCATE] = {"FALLOCATE", 0, 0},
-  [FUSE_READDIRPLUS] = {"READDIRPLUS", 0, 0},
-  [FUSE_RENAME2] = {"RENAME2", sizeof(struct fuse_rename2_in), 2},
-  [FUSE_LSEEK] = {"LSEEK", 0, 0},
-  [FUSE_COPY_FILE_RANGE] = {"COPY_FILE_RANGE", 0, 0},
-  [SYNCFS] = {"SYNCFS", 0, 0},
-  [TMPFILE] = {"TMPFILE", sizeof(struct fuse_create_in), 1},
-  [STATX] = {"STATX", 0, 0},
-};
+enum { LINE_SIZE = 2048, TIME_SIZE = 16, ASKED = 1024, LAST_ERROR = 4095 };
 
 /* The last requests, by their ids. An answer has no opcode. */
 static struct { uint64_t id; uint32_t opcode; struct timespec at; } asked[ASKED];
@@ -81,8 +33,9 @@ bool shows(void) {
 __attribute__((format(printf, 1, 2))) static void put(const char *form, ...) {
   va_list words;
   va_start(words, form);
-  length += vsnprintf(line + length, sizeof line - length, form, words);
+  int added = vsnprintf(line + length, sizeof line - length, form, words);
   va_end(words);
+  if (added > 0) length += (size_t)added;
   if (length > sizeof line - 2) length = sizeof line - 2;
 }
 
@@ -102,34 +55,30 @@ static void end_line(void) {
 }
 
 static void put_opcode(uint32_t opcode) {
-  bool is_known = opcode < sizeof opcodes / sizeof *opcodes && opcodes[opcode].name;
-  if (is_known) put("%s", opcodes[opcode].name);
+  const char *name = name_of_opcode(opcode);
+  if (name) put("%s", name);
   else put("opcode=%u", opcode);
 }
 
-/* A name in quotes. Bytes that aren't printed are written as three octal digits. Returns its size, with the zero at its end. */
+/* A name in quotes. Returns its size, with the zero at its end. */
 static size_t put_name(const char *name, size_t most) {
-  size_t size = 0;
-  put(" \"");
-  for (; size < most && name[size]; size++) {
-    unsigned char byte = name[size];
-    put(byte < ' ' || byte == '"' || byte == '\\' || byte == 0177 ? "\\%03o" : "%c", byte);
-  }
-  put("\"");
-  return size < most ? size + 1 : size;
+  char text[LINE_SIZE];
+  size_t length = strnlen(name, most);
+  escape(text, sizeof text, name, length, "\"\\");
+  put(" \"%s\"", text);
+  return length < most ? length + 1 : length;
 }
 
 static void put_names(uint32_t opcode, const char *body, size_t size) {
-  if (opcode >= sizeof opcodes / sizeof *opcodes) return;
-  size_t at = opcodes[opcode].before;
-  for (int left = opcodes[opcode].names; left > 0 && at < size; left--) at += put_name(body + at, size - at);
+  int left;
+  for (size_t at = place_of_names(opcode, &left); left > 0 && at < size; left--) at += put_name(body + at, size - at);
 }
 
 void show_request(const char *message, size_t size) {
   struct fuse_in_header head;
   if (size < sizeof head) return;
   memcpy(&head, message, sizeof head);
-  uint64_t id = head.unique & ~resend_bit;
+  uint64_t id = plain_id(head.unique);
   begin_line();
   put_opcode(head.opcode);
   put(" id=%llu resend=%d node=%llu len=%u pid=%u",
@@ -155,12 +104,13 @@ static void put_notice(int code) {
 }
 
 static void put_answer(const struct fuse_out_header *head) {
-  uint64_t id = head->unique & ~resend_bit, place = id / 2 % ASKED;
+  uint64_t id = plain_id(head->unique), place = id / 2 % ASKED;
+  int number = head->error < 0 && head->error >= -LAST_ERROR ? -head->error : 0;
   bool is_known = asked[place].id == id;
   if (is_known) put_opcode(asked[place].opcode), put(" ");
-  put("id=%llu resend=%d errno=%d len=%u", (unsigned long long)id, id != head->unique, -head->error, head->len);
+  put("id=%llu resend=%d errno=%lld len=%u", (unsigned long long)id, id != head->unique, -(long long)head->error, head->len);
   if (is_known) put(" us=%lld", microseconds_since(&asked[place].at));
-  if (head->error != 0) put(" %s", strerror(-head->error));
+  if (number != 0) put(" %s", strerror(number));
 }
 
 void show_answer(const char *answer, size_t size, int error) {

@@ -31,8 +31,7 @@ FILES = {
 FAULTS = [
     ("README.md", "PAGE.md#its", "PAGES.md#its", "README.md, line 3: the link docs/PAGES.md#its-one-part leads nowhere"),
     ("README.md", "#its-one-part", "#two", "README.md, line 3: the link docs/PAGE.md#two leads nowhere"),
-    ("README.md", "See", "word " * 1000, "README.md has 1,004 words; 1,000 are allowed"),
-    ("docs/PAGE.md", "Prose", "word " * 20000, "README.md and docs/ have 20,022 words; 20,000 are allowed"),
+    ("README.md", "See", "word " * 1200, "README.md has 1,204 words of prose; 1,200 are allowed"),
     ("docs/PAGE.md", "Prose", "It stands behind it", "docs/PAGE.md, line 5: 'behind': say after"),
     ("docs/BUILDING_ON_IT.md", "act()", "act(1)", "docs/BUILDING_ON_IT.md: no example crate has the block that begins with fn sample() {"),
     ("docs/BUILDING_ON_IT.md", "```rust", "```text", "docs/BUILDING_ON_IT.md: it has no block of code"),

@@ -54,6 +54,7 @@ from dataclasses import dataclass
 from pathlib import Path
 
 from edits.holes import Holes
+from edits.seen import digest_of, keep_seen, part_of
 from edits.sources import TOP, Edit, Sources, batches_of, edits_of, touches
 from lib.counts import print_counts
 
@@ -102,6 +103,11 @@ def closure(crates):
     return found
 
 
+def below(crate):
+    """The crates of the repository that a crate stands on, directly or not."""
+    return closure([crate]) - {crate}
+
+
 def library(tree, crate):
     return tree / "crates" / crate / "out" / "rlib" / f"{crate}.rlib"
 
@@ -109,7 +115,7 @@ def library(tree, crate):
 def words_over(tree, crate):
     """The words with which `rt` calls `rattle` on a crate whose libraries are built in a tree."""
     libraries = {it: library(tree, it) if it in STANDS_ON else KIT / "rlibs" / f"{it}.rlib" for it in ["std", *STANDS_ON[crate]]}
-    folders = [KIT / "rlibs", *(library(tree, it).parent for it in sorted(closure([crate]) - {crate}))]
+    folders = [KIT / "rlibs", *(library(tree, it).parent for it in sorted(below(crate)))]
     words = ["--crate-name", crate, "src/lib.rt", "--links", f"{crate}=", "--jobs", "1"]
     words += [word for name, path in libraries.items() for word in ("--extern", f"{name}={path}")]
     words += [word for folder in folders for word in ("-L", f"dependency={folder}")]
@@ -151,11 +157,11 @@ def built_tree(crates, room):
     tree, needed = Path(room) / "built", closure(crates)
     for crate in needed:
         shutil.copytree(TOP / "crates" / crate, tree / "crates" / crate, ignore=shutil.ignore_patterns("out", "must-fail"))
-    runs, below = {}, set().union(*(closure([it]) - {it} for it in crates))
+    runs, needs = {}, set().union(*(below(it) for it in crates))
     with ThreadPoolExecutor(lanes()) as pool:
         # Each waits only for libraries that were submitted before it.
-        for crate in sorted(below, key=lambda it: len(closure([it]))):
-            ready = [runs[it] for it in sorted(closure([crate]) - {crate})]
+        for crate in sorted(needs, key=lambda it: len(closure([it]))):
+            ready = [runs[it] for it in sorted(below(crate))]
             runs[crate] = pool.submit(lambda it=crate, ready=ready: all(run.result() for run in ready) and build(tree, it))
     return tree, all(it.result() for it in runs.values())
 
@@ -345,9 +351,8 @@ def is_proved_unedited(scratch, edits):
     return bool(re.search(r"(?m)^(logic=proved|only=(\d+) proved=\2$)", said))
 
 
-def try_crate(tree, crate):
-    """Tries a crate's edits, and makes sure that the functions that they change are proved without them."""
-    edits = edits_of(crate)
+def try_crate(tree, crate, edits):
+    """Tries edits of a crate, and makes sure that the functions that they change are proved without them."""
     with tempfile.TemporaryDirectory(prefix="edits-") as room:
         scratch = Scratch(tree, crate, room)
         tried = [it for batch in batches_of(edits) for it in try_batch(scratch, batch)]
@@ -363,9 +368,9 @@ def summary_of(crate, edits, scratch):
     return f"edits: {crate}: {counts}; the longest proofs, by the clock: {longest}"
 
 
-def check_unedited(tree, crate):
-    """Checks the functions that a crate's edits change, in the same way but without the edits."""
-    edits, wrong = edits_of(crate), []
+def check_unedited(tree, crate, edits):
+    """Checks the functions that edits of a crate change, in the same way but without the edits."""
+    wrong = []
     with tempfile.TemporaryDirectory(prefix="edits-") as room:
         scratch = Scratch(tree, crate, room)
         for batch in batches_of(edits):
@@ -397,15 +402,32 @@ def misplaced():
     return [it for it in sorted((TOP / "crates").glob("*/must-fail/*")) if it.suffix not in (".edit", ".md") or not it.is_file()]
 
 
-def try_all(tree, crates, way):
-    """Tries the edits of crates in one of the two ways; how many passed, and how many failed."""
-    refused, failed = 0, 0
+def chosen_edits(crate, given):
+    """The edits of a crate that are tried, and what is said of the choice."""
+    edits = edits_of(crate)
+    return part_of(crate, edits, below(crate)) if given.changed else (edits, "")
+
+
+def try_chosen(tree, crate, given):
+    """Tries the chosen edits of a crate; what came of them, the lines about the crate, and whether all its edits were refused."""
+    edits, choice = chosen_edits(crate, given)
+    tried, summary = (check_unedited if given.unedited else try_crate)(tree, crate, edits)
+    is_whole = not choice and not given.unedited and all(it.refused for it in tried)
+    return tried, [it for it in (choice, summary) if it], is_whole
+
+
+def try_all(tree, crates, given):
+    """Tries the chosen edits of crates; how many passed, and how many failed."""
+    refused, failed, whole = 0, 0, []
     with ThreadPoolExecutor(lanes()) as pool:
-        for crate, (tried, summary) in zip(crates, pool.map(lambda it: way(tree, it), crates)):
+        for crate, (tried, lines, is_whole) in zip(crates, pool.map(lambda it: try_chosen(tree, it, given), crates)):
             for it in tried:
                 print(f"edit {crate}/{it.edit.name}: {it.text}")
                 refused, failed = refused + it.refused, failed + (not it.refused)
-            print(summary, flush=True)
+            print("\n".join(lines), flush=True)
+            whole += [crate] if is_whole else []
+    if given.keep:
+        keep_seen({it: digest_of(it, below(it)) for it in whole})
     return refused, failed
 
 
@@ -413,6 +435,8 @@ def main():
     words = argparse.ArgumentParser(prog="tests/edits/run")
     words.add_argument("--over", type=Path, metavar="TREE")
     words.add_argument("--unedited", action="store_true")
+    words.add_argument("--changed", action="store_true")
+    words.add_argument("--keep", action="store_true")
     words.add_argument("crates", nargs="*", metavar="CRATE")
     given = words.parse_args()
     crates, wrong = given.crates or with_edits(), misplaced()
@@ -420,7 +444,7 @@ def main():
         print(f"edit {it.relative_to(TOP)}: BAD EDIT: its name doesn't end with .edit")
     with tempfile.TemporaryDirectory(prefix="edits-") as room:
         tree, is_built = (given.over.resolve(), True) if given.over else built_tree(crates, room)
-        refused, failed = try_all(tree, crates, check_unedited if given.unedited else try_crate) if is_built else (0, 1)
+        refused, failed = try_all(tree, crates, given) if is_built else (0, 1)
     right, other = ("proved unedited", "not proved") if given.unedited else ("refused", "not refused")
     print(f"edits: {refused} {right}, {failed + len(wrong)} {other}")
     return print_counts("edits", refused, failed + len(wrong))

@@ -114,11 +114,24 @@ def removing(found):
     return parts
 
 
-def messages_of(path, anew):
+def linking(found):
+    """Requests that only an everyday store serves."""
+    parts = [(m.READLINK, node, b"") for node in found.nodes] + [(m.STATFS, 1, b"")]
+    for place in found.directories:
+        parts.append((m.SYMLINK, place, m.symlink_body(b"newest", b"x" * 4000)))
+        parts.append((m.CREATE, place, m.create_body(b"created", 2)))
+    for handle, node in found.handles:
+        for offset, size in ((0, 4096), (3, 300), (0, 1 << 20)):
+            parts.append((m.READDIRPLUS, node, m.read_body(handle, offset, size)))
+    return parts + [(m.STATFS, 1, b"")]
+
+
+def messages_of(path, anew, everyday=False):
     """The messages for a hostile store. Those of a new mount begin with an INIT; the others begin with resends of recorded ids."""
     found = Found(path)
     parts = [init()] if anew else []
-    parts += looking(found) + opening(found) + changing(found) + naming(found) + removing(found) + looking(found) + [init()]
+    links = linking(found) if everyday else []
+    parts += looking(found) + links + opening(found) + changing(found) + naming(found) + links + removing(found) + looking(found) + [init()]
     whole = [m.message(opcode, FIRST_ID + 2 * at, node, body) for at, (opcode, node, body) in enumerate(parts)]
     again = [m.message(m.GETATTR, at | m.RESEND, 1, bytes(16)) for at in range(2, 140, 2)]
     again += [m.message(m.GETATTR, m.RESEND | (1 << 63) - 1, 1, bytes(16))]

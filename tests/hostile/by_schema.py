@@ -15,6 +15,7 @@ COLUMNS = {
 ROWS = {table: f"{NUMBERS} SELECT {columns} FROM n" for table, columns in COLUMNS.items()}
 # Rows that refer to others are gone with those: else the file is no database, since a reference leads nowhere.
 REFERRING = {"nodes": ("entries", "blocks", "handles"), "lots": ("kept",)}
+DAMAGED = "store: Damaged"
 SLOW = "WITH RECURSIVE n (i) AS (SELECT 1 UNION ALL SELECT i + 1 FROM n WHERE i < 1000000000) SELECT sum(i) FROM n"
 
 
@@ -30,15 +31,15 @@ def with_value(name, column, value):
 
 def missing():
     for table in TABLES:
-        refused = {"wanted": "store: NotAStore" if table == "meta" else "store: Damaged"}
+        refused = {"wanted": "store: NotAStore" if table == "meta" else DAMAGED}
         drop = *[f"DELETE FROM {other}" for other in REFERRING.get(table, ())], f"DROP TABLE {table}"
         yield by_schema(f"no table {table}", *drop, **refused)
         yield by_schema(f"the schema doesn't name {table}", f"DELETE FROM sqlite_master WHERE name = '{table}'")
         renamed = f"ALTER TABLE {table} RENAME TO old"
         yield by_schema(f"{table} is a view", renamed, f"CREATE VIEW {table} AS SELECT * FROM old", **refused)
         yield by_schema(f"{table} is a view without an end", *drop, f"CREATE VIEW {table} AS {ROWS[table]}", **refused)
-        yield by_schema(f"{table} isn't strict", in_text(table, " STRICT", ""))
-        yield by_schema(f"{table} has one column more", f"ALTER TABLE {table} ADD COLUMN more INTEGER")
+        yield by_schema(f"{table} isn't strict", in_text(table, " STRICT", ""), wanted=DAMAGED)
+        yield by_schema(f"{table} has one column more", f"ALTER TABLE {table} ADD COLUMN more INTEGER", wanted=DAMAGED)
         yield by_schema(f"{table} has columns of any type", in_text(table, "INTEGER NOT NULL", "ANY"))
         yield by_schema(f"{table} has no rowid by its text", in_text(table, " STRICT", " WITHOUT ROWID"))
     for index in INDEXES:

@@ -10,13 +10,14 @@ CONSTRAINTS = (" STRICT", " NOT NULL")
 @dataclass
 class Hostile:
     """A hostile file: its kind, its name, the function that makes it from a copy of the good store, whether each sample has it,
-    whether opening it must be refused, and the line of that refusal, where only one is right."""
+    whether opening it must be refused, the line of that refusal, where only one is right, and whether the good store is the everyday one."""
     kind: str
     name: str
     make: Callable[[str], None]
     always: bool = False
     is_no_store: bool = False
     wanted: str = ""
+    everyday: bool = False
 
 
 def connect(path):
@@ -68,9 +69,9 @@ def edit_schema(path, *statements):
     store.close()
 
 
-def by_sql(kind, name, *statements, always=True):
+def by_sql(kind, name, *statements, always=True, everyday=False, wanted=""):
     """A store that statements changed."""
-    return Hostile(kind, name, lambda path: edit(path, *statements), always)
+    return Hostile(kind, name, lambda path: edit(path, *statements), always, everyday=everyday, wanted=wanted)
 
 
 def by_schema(name, *statements, always=True, wanted=""):

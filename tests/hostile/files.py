@@ -13,6 +13,7 @@ import time
 
 from hostile.asking import messages_of
 from hostile.by_bytes import all_of_bytes, bytes_of
+from hostile.by_everyday import all_of_everyday
 from hostile.by_rows import all_of_rows
 from hostile.by_schema import all_of_schema
 from hostile.good import m, make, make_killed, program
@@ -140,7 +141,7 @@ class Try:
         """Makes the file, alone in its folder."""
         shutil.rmtree(self.folder, ignore_errors=True)
         os.mkdir(self.folder)
-        shutil.copyfile(self.good, self.path)
+        shutil.copyfile(self.good + ("-everyday" if self.hostile.everyday else ""), self.path)
         self.hostile.make(self.path)
 
     def run(self, mode, messages, must_stay):
@@ -214,12 +215,12 @@ class Try:
         if self.hostile.wanted and line != self.hostile.wanted:
             self.outcome.wrong.append(f"'{line}', but '{self.hostile.wanted}' is right")
         if not line:
-            self.replay(messages_of(self.path, False))
+            self.replay(messages_of(self.path, False, self.hostile.everyday))
         self.look("store: NotAStore" if self.hostile.kind == "empty" else line)
         self.place()
         readable = os.path.isfile(self.path)
-        self.serve("fresh", messages_of(self.path, True) if readable else [])
-        self.serve("resume", messages_of(self.path, False) if readable and not line else [])
+        self.serve("fresh", messages_of(self.path, True, self.hostile.everyday) if readable else [])
+        self.serve("resume", messages_of(self.path, False, self.hostile.everyday) if readable and not line else [])
         return self.outcome
 
 
@@ -246,12 +247,13 @@ def try_one(at):
 
 
 def collect(folder):
-    """Collects all hostile files: of a good store that is made now, and of one whose server was killed."""
+    """Collects all hostile files: of two good stores that are made now, and of one whose server was killed."""
     make(f"{folder}/good")
+    make(f"{folder}/good-everyday", everyday=True)
     make_killed(f"{folder}/killed", folder)
     log = f"{folder}/killed-wal"
     held = bytes_of(log) if os.path.exists(log) else b""
-    ALL.extend(all_of_rows() + all_of_schema() + all_of_bytes(bytes_of(f"{folder}/good"), bytes_of(f"{folder}/killed"), held))
+    ALL.extend(all_of_rows() + all_of_everyday() + all_of_schema() + all_of_bytes(bytes_of(f"{folder}/good"), bytes_of(f"{folder}/killed"), held))
 
 
 def chosen(words):

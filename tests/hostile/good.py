@@ -10,6 +10,8 @@ LONG = b"n" * 255
 # The first id of the requests for a hostile store. The store's own records have lower ones.
 FIRST_ID = 1000
 MANY = 40
+# The capacity of the everyday store: a thousand blocks.
+CAPACITY = 1000 * 4096
 
 
 def numbered(parts, first=2):
@@ -43,10 +45,22 @@ def making():
     return parts + [(m.UNLINK, 1, b"gone\0"), (m.READ, 4, m.read_body(1, 0, 12000)), (m.LOOKUP, 1, b"no\0")]
 
 
-def make(path):
+def making_everyday():
+    """The same in an everyday store, with links, with files that CREATE makes, and with an open file and a directory without names."""
+    parts = making()
+    parts += [(m.SYMLINK, 2, m.symlink_body(b"link", b"../f")), (m.SYMLINK, 1, m.symlink_body(b"far", b"t" * 4095))]
+    parts += [(m.CREATE, 8, m.create_body(b"made", 2)), (m.WRITE, 53, m.write_body(7, 5000, b"m" * 100))]
+    parts += [(m.MKDIR, 8, m.mkdir_body(b"lost")), (m.OPENDIR, 54, m.open_body(0)), (m.RMDIR, 8, b"lost\0")]
+    parts += [(m.READLINK, 51, b""), (m.STATFS, 1, b""), (m.READDIRPLUS, 1, m.read_body(4, 0, 4096))]
+    return parts
+
+
+def make(path, everyday=False):
     """Makes the store by a run that closes it."""
     words = ["replay", "--db", path, "--at", "1000", "-"]
-    ran = program.run(words, b"".join(numbered(making())), 60)
+    if everyday:
+        words[1:1] = ["--profile", "everyday", "--capacity", str(CAPACITY)]
+    ran = program.run(words, b"".join(numbered(making_everyday() if everyday else making())), 60)
     if ran.status != 0:
         raise SystemExit(f"hostile: the good store could not be made: {ran.err.decode()}")
 

@@ -19,19 +19,11 @@ def count_tests(sources):
     return sum(path.read_text(encoding="utf-8").count("#[test]\n") for path in Path(sources).rglob("*.rt"))
 
 
-def add_module(sources):
-    """Adds a test that lists can't pass: of a row that is refused."""
-    shutil.copy(f"{HERE}/refused.rt.in", f"{sources}/refused.rt")
-    with open(f"{sources}/lib.rt", "a", encoding="utf-8") as file:
-        file.write("#[cfg(test)]\nmod refused;\n")
-
-
 def main():
     with tempfile.TemporaryDirectory(prefix="keepers-") as copy:
         sources = copy_crates(copy, "spec_tests", "fuse_store_tables fuse_store_tree fuse_store sqlite")
         leave_out_others(sources, KEPT)
         shutil.copy(f"{HERE}/keepers.rt.in", f"{sources}/keepers.rt")
-        add_module(sources)
         count = count_tests(sources)
         words = ["rt", "try", "--test", "--seconds", "600"]
         ran = subprocess.run(words, cwd=f"{copy}/crates/spec_tests", capture_output=True, text=True, check=False)

@@ -1,9 +1,10 @@
 # Compares a program that was built of a tree's sources with the one in its dist/: compare_dist TREE PROGRAM. It fails where dist/SOURCES
-# names these sources and the bytes differ. Where it names other sources it says so. Without PROGRAM it compares no bytes.
+# names these sources and the bytes differ, or has another digest of the program. Where it names other sources it says so. Without PROGRAM
+# it compares no bytes.
 compare_dist() {
   local sources kept=$1/dist/x86_64-linux/fusekeep built=${2-}
   sources=$("$1/dist/sources") || { echo "dist: FAILED, the sources have no digest"; return 1; }
-  if [ "$sources" != "$(cat "$1/dist/SOURCES" 2>/dev/null)" ]; then
+  if [ "$sources" != "$(head -n 2 "$1/dist/SOURCES" 2>/dev/null)" ]; then
     echo "dist: dist/SOURCES names other sources; dist/update puts the program of these sources into dist/"
   elif [ -z "$built" ]; then
     echo "dist: dist/SOURCES names these sources; no program was built to be compared"
@@ -15,6 +16,9 @@ compare_dist() {
     return 1
   elif ! cmp -s "$built" "$kept"; then
     echo "dist: FAILED, dist/x86_64-linux/fusekeep differs from the program that was built of the same sources"
+    return 1
+  elif [ "$(sed -n 3p "$1/dist/SOURCES")" != "program $(sha256sum <"$kept" | cut -d ' ' -f 1)" ]; then
+    echo "dist: FAILED, dist/SOURCES names another program than dist/x86_64-linux/fusekeep"
     return 1
   else
     echo "dist: passed, dist/x86_64-linux/fusekeep is the program that was built, to the byte"

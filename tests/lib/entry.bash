@@ -3,7 +3,8 @@
 #   here       the entry's folder
 #   tests      the folder of all tests
 #   top        the top of the repository
-# An entry counts by `compare`, `part` and `skip`, and ends by `finish`. Its leading comment is what --help prints.
+# An entry counts by `compare`, `part` and `skip`, and ends by `finish`. Its leading comment is what --help prints. One that takes the name
+# of a case, by `take_case`, then counts that comparison alone.
 
 set -u
 here=$(cd "$(dirname "$(readlink -f "$0")")" && pwd)
@@ -13,6 +14,7 @@ test_name=$(basename "$here")
 passed=0
 failed=0
 skipped=0
+only_case=
 export PYTHONDONTWRITEBYTECODE=1 PYTHONSAFEPATH=1 PYTHONPATH=$tests
 
 # Prints the entry's leading comment.
@@ -37,8 +39,19 @@ take_words() {
   [ "$takes" = yes ] || [ $# -eq 0 ] || refuse_words
 }
 
+# Takes the name of a comparison, or nothing: take_case "$@"
+take_case() {
+  take_words yes "$@"
+  [ $# -le 1 ] && [[ ${1-} != -* ]] || refuse_words
+  only_case=${1-}
+}
+
 # Prints the counts, and exits by them.
 finish() {
+  if [ -n "$only_case" ] && [ $((passed + failed)) -eq 0 ]; then
+    echo "$test_name: there is no case $only_case"
+    failed=1
+  fi
   local line="$test_name: $passed passed, $failed failed"
   [ "$skipped" -eq 0 ] || line+=", $skipped skipped"
   echo "$line"
@@ -79,21 +92,27 @@ require_program() {
   export FUSEKEEP=$program
 }
 
-# Compares what is wanted with what is found: compare WHAT WANTED FOUND
+# Compares what is wanted with what is found: compare WHAT WANTED FOUND. A difference is printed with the place of the comparison and the
+# command that runs it alone.
 compare() {
+  local line file
+  [ -z "$only_case" ] || [ "$only_case" = "$1" ] || return 0
   if [ "$2" = "$3" ]; then
     passed=$((passed + 1))
   else
     failed=$((failed + 1))
+    read -r line _ file < <(caller 0)
     echo "$test_name: $1: FAILED; < is wanted, > is found"
     diff <(echo "$2") <(echo "$3") | head -n 20
+    echo "  at ${file#"$top/"}:$line; alone: tests/$test_name/run $(printf '%q' "$1")"
   fi
 }
 
 # Runs a program that prints its counts in its last line, as an entry does, and adds them: part COMMAND WORD.. The line itself is left
-# out where it has the entry's name.
+# out where it has the entry's name. Where a case was asked for, it isn't run.
 part() {
   local said status before=$failed
+  [ -z "$only_case" ] || return 0
   said=$(mktemp) || exit 1
   "$@" | tee "$said" | sed "\$ { /^$test_name: / d }"
   status=${PIPESTATUS[0]}

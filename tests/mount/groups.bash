@@ -43,29 +43,16 @@ trace_server() {
   await 60 is_traced "$server" && kill -CONT "$server"
 }
 
-# A server dies when it has read some messages of those that wait, and answered none. They come again. The next server has no library, and
-# its reads wait.
+# A server dies when it has read some messages of those that wait, and answered none. They come again. The next server finds none that
+# wait, and its reads wait.
 gathered() {
-  write_engine_alone
-  start store mnt log && start_callers && touch alone || return 1
+  start store mnt log && start_callers || return 1
   trace_server calls -P /dev/fuse -e trace=read,write -e inject=read:signal=KILL:when=6 || return 1
   end_callers || return 1
   expect "it had read some and answered none ($(xargs -d '\n' <calls))" \
     [ "$(grep -c '^read(0, .* = [1-9]' calls) $(grep -c '^write(1' calls)" = "5 0" ] || return 1
   expect "it was killed" [ "$(kills_in log)" -eq 1 ] || return 1
-  server=$("$program" --server store) && await 60 waits_in_reads "$server" || return 1
-  expect "it has no library" has_no_library "$server" && unmount_and_end mnt
-}
-
-# Where the file `alone` is there a server preloads nothing.
-write_engine_alone() {
-  cat >engine-alone <<END
-#!/bin/sh
-[ ! -e "$PWD/alone" ] || unset LD_PRELOAD
-exec "$engine" "\$@"
-END
-  chmod +x engine-alone
-  export FUSEKEEP=$PWD/engine-alone
+  server=$("$program" --server store) && await 60 waits_in_reads "$server" && unmount_and_end mnt
 }
 
 # Whether the reads of a server wait, which is so where the device has no O_NONBLOCK.
@@ -129,39 +116,32 @@ has_library() {
   grep -q fusekeep-gather.so "/proc/$1/maps"
 }
 
-has_no_library() {
-  ! has_library "$1"
+# Compiles a program that is linked statically, so that it preloads nothing: cc_static NAME TEXT
+cc_static() {
+  "${CC:-cc}" -static -O1 -x c -o "$1" - <<<"$2"
 }
 
-# Without the library a mount is served, a message a read, and says so once where groups or lines were asked for. With it, the library may
-# go while the store is mounted.
+# Without the library nothing is mounted. With it, the library may go while the store is mounted. An engine that doesn't load it is refused.
 no_library() {
   local program=$program
   mkdir bin && cp "$program" bin && program=$PWD/bin/fusekeep-mount || return 1
-  works_without "" "" && works_without groups "fusekeep-gather.so is missing: each request is committed by itself" || return 1
-  switch=-d works_without "" "fusekeep-gather.so is missing: no request is shown" || return 1
-  mkdir -p lib/fusekeep && cp "$top/mount/out/fusekeep-gather.so" lib/fusekeep || return 1
+  for options in groups nogroups; do
+    refuses 1 "fusekeep-mount: fusekeep-gather.so is missing: .*" "$program" -o "$options" store || return 1
+  done
   options=
+  mkdir -p lib/fusekeep && cp "$top/mount/out/fusekeep-gather.so" lib/fusekeep || return 1
+  cc_static deaf 'int main(void) { return 0; }' && refuses 1 "fusekeep-mount: $PWD/deaf doesn't load fusekeep-gather.so: .*" \
+    env FUSEKEEP="$PWD/deaf" "$program" store || return 1
   start store mnt log && expect "it has the library" has_library "$("$program" --server store)" || return 1
   rm lib/fusekeep/fusekeep-gather.so && kill -KILL "$("$program" --server store)" && mkdir mnt/last || return 1
   expect "the next one has it, too" has_library "$("$program" --server store)" || return 1
   unmount_and_end mnt
 }
 
-# works_without OPTIONS LINE
-works_without() {
-  options=$1
-  start store mnt log && mkdir "mnt/1$1$switch" && python3 "$here/killer.py" "$supervisor" 2 0.3 && mkdir "mnt/2$1$switch" || return 1
-  expect "no server has it" has_no_library "$("$program" --server store)" || return 1
-  unmount_and_end mnt || return 1
-  expect "it says so once" [ "$(grep -c "is missing" log)" -eq $([ -z "$2" ]; echo $?) ] && grep -qF "$2" log
-}
-
 # In a server of a volatile mount neither fsync(2) nor fdatasync(2) reaches the kernel, which refuses both for a pipe. The engine that
 # begins a mount flushes.
 flushes() {
-  cat >flushing-engine <<END
-#!/bin/sh
+  make_engine flushing-engine <<END
 python3 - "\$@" <<'CALLS'
 import os, sys
 for flush in os.fsync, os.fdatasync:
@@ -173,10 +153,8 @@ for flush in os.fsync, os.fdatasync:
     with open("$PWD/flushes", "a") as file:
         print("serves" if "--resume" in sys.argv else "begins", word, file=file)
 CALLS
-exec "$engine" "\$@"
+LD_PRELOAD=\$PRELOAD exec "$engine" "\$@"
 END
-  chmod +x flushing-engine
-  export FUSEKEEP=$PWD/flushing-engine
   flushes_as "begins made begins made serves made serves made" && options=volatile || return 1
   flushes_as "begins made begins made serves ignored serves ignored"
 }

@@ -43,6 +43,7 @@ round() {
   local log=log-$1 status=0
   start store mnt "$log" || return 1
   start_workers
+  await 120 have_made || return 1
   python3 "$here/killer.py" "$supervisor" "$2" || status=1
   if [ "$3" = stop ]; then
     kill -TERM "$supervisor"
@@ -113,12 +114,11 @@ differential() {
 
 # Of five servers four die as they enter a call of one kind for the Nth time, and one is killed after more than a second.
 write_dying_engine() {
-  cat >dying-engine <<END
-#!/bin/sh
-[ "\$4" = --resume ] || exec "$engine" "\$@"
+  make_engine dying-engine <<END
+[ "\$4" = --resume ] || LD_PRELOAD=\$PRELOAD exec "$engine" "\$@"
 lives=\$(wc -c <"$PWD/lives")
 printf . >>"$PWD/lives"
-[ \$((lives % 5)) -ne 4 ] || exec "$engine" "\$@"
+[ \$((lives % 5)) -ne 4 ] || LD_PRELOAD=\$PRELOAD exec "$engine" "\$@"
 case \$((lives % 5)) in
   0) calls=read,readv ;;
   1) calls=write,writev ;;
@@ -126,11 +126,9 @@ case \$((lives % 5)) in
   3) calls=fsync,fdatasync ;;
 esac
 place=\$((lives / 5 * (lives / 5) + 1))
-exec strace -D -qq -o /dev/null -e trace=\$calls -e inject=\$calls:signal=KILL:when=\$place "$engine" "\$@"
+exec strace -D -qq -o /dev/null -E "LD_PRELOAD=\$PRELOAD" -e trace=\$calls -e inject=\$calls:signal=KILL:when=\$place "$engine" "\$@"
 END
-  chmod +x dying-engine
   : >lives
-  export FUSEKEEP=$PWD/dying-engine
 }
 
 can_trace() {
@@ -180,20 +178,19 @@ deaths() {
   expect "they are summed up" [ "$("$engine" store store | tail -n 1)" = "$(deaths_summed)" ] || return 1
   start store mnt log-broken && touch broken && kill -KILL "$("$program" --server store)" && ended 1 || return 1
   expect "one was killed" [ "$(grep -cE "$line signal=9 lived=[0-9.]+ restart=-\$" store-mount.log)" -eq 1 ] || return 1
-  expect "ten ended" [ "$(grep -cE "$line status=3 lived=[0-9.]+ restart=- store: Damaged\$" store-mount.log)" -eq 10 ] || return 1
+  expect "ten ended" [ "$(grep -cE "$line status=3 lived=[0-9.]+ restart=- store: Damaged(; gave up: 10 servers .*)?\$" store-mount.log)" -eq 10 ] || return 1
+  expect "the last line has the reason" grep -qE "store: Damaged; gave up: 10 servers in a row ended by themselves" <(tail -n 1 store-mount.log) || return 1
   expect "all are summed up" [ "$("$engine" store store | tail -n 1)" = "$(deaths_summed)" ] || return 1
   umount -l mnt
 }
 
 # The process that asks for the root is killed before the first server serves: another one asks.
 killed_probe() {
-  cat >slow-engine <<END
-#!/bin/sh
+  make_engine slow-engine <<END
 [ "\$4" != --resume ] || until [ -e "$PWD/may-serve" ]; do sleep 0.1; done
-exec "$engine" "\$@"
+LD_PRELOAD=\$PRELOAD exec "$engine" "\$@"
 END
-  chmod +x slow-engine
-  FUSEKEEP=$PWD/slow-engine "$program" -f store mnt 2>log &
+  "$program" -f store mnt 2>log &
   supervisor=$!
   record "$supervisor"
   await 120 has_probe || return 1
@@ -287,13 +284,10 @@ killed_caller() {
 
 # While the file `pauses` is there a server waits for three seconds before each read of the device.
 write_pausing_engine() {
-  cat >pausing-engine <<END
-#!/bin/sh
-[ -e "$PWD/pauses" ] || exec "$engine" "\$@"
-exec strace -D -qq -o /dev/null -P /dev/fuse -e trace=read,readv -e inject=read,readv:delay_enter=3000000 "$engine" "\$@"
+  make_engine pausing-engine <<END
+[ -e "$PWD/pauses" ] || LD_PRELOAD=\$PRELOAD exec "$engine" "\$@"
+exec strace -D -qq -o /dev/null -E "LD_PRELOAD=\$PRELOAD" -P /dev/fuse -e trace=read,readv -e inject=read,readv:delay_enter=3000000 "$engine" "\$@"
 END
-  chmod +x pausing-engine
-  export FUSEKEEP=$PWD/pausing-engine
 }
 
 is_traced() {

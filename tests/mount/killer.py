@@ -1,8 +1,8 @@
 #!/usr/bin/env python3
 """Kills the servers of a fusekeep-mount by SIGKILL: killer.py SUPERVISOR KILLS [SHORTEST]
 
-After ten servers in a row that were killed before they asked for the pending requests the supervisor gives up. So of each five servers
-four are killed at any moment of their first 300 ms, even before they ask, and one more than a second after it asked. With SHORTEST
+Of each five servers four are killed at any moment of their first 300 ms, even before they ask for the pending requests, and one
+more than a second after it asked: after servers that answered nothing the supervisor starts the next one more and more slowly. With SHORTEST
 each is killed so many seconds after it asked; then it goes on until the supervisor has ended."""
 import os
 import random

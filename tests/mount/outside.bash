@@ -17,7 +17,7 @@ another_on_top() {
 
 # A relative folder in PATH: later servers are found by it too, though the supervisor has left the folder by then.
 relative_path() {
-  mkdir alone programs && cp "$program" alone && cp "$engine" programs/fusekeep || return 1
+  mkdir alone programs && cp "$program" "${program%/*}/fusekeep-gather.so" alone && cp "$engine" programs/fusekeep || return 1
   env -u FUSEKEEP PATH="programs:$PATH" alone/fusekeep-mount store mnt || return 1
   supervisor=$(process_of "alone/fusekeep-mount store mnt")
   record "$supervisor"
@@ -64,7 +64,7 @@ isnt_running() {
 }
 
 # --server prints the number of this store's server: by any path of the store, beside another mount, and again when the next server
-# runs. Without a mount, and for a user who may not see the server, it prints a line and no number.
+# runs. Without a mount, and for another user, it prints a line and no number.
 server_number() {
   local server other
   mkdir other && start other-store other log-other && other=$supervisor || return 1
@@ -76,10 +76,10 @@ server_number() {
   kill -KILL "$server"
   await 120 has_other_server "$server" && mkdir mnt/a || return 1
   expect "only this server was killed" [ "$(kills_in log) $(kills_in log-other)" = "1 0" ] || return 1
-  expect "another user sees no server" has_no_server "no server that this user may see" $user "$program" --server store || return 1
+  expect "another user sees no server" has_no_server "can't be asked by this user" $user "$program" --server store || return 1
   unmount_and_end mnt || return 1
   expect "no server after the end of the mount" has_no_server "store isn't mounted" "$program" --server store || return 1
-  expect "no server of a missing store" has_no_server "missing: No such file" "$program" --server missing || return 1
+  expect "no server of a missing store" has_no_server "missing isn't mounted" "$program" --server missing || return 1
   supervisor=$other && stop_and_end
 }
 
@@ -96,11 +96,45 @@ has_no_server() {
   [ $? -eq 1 ] && ! [ -s number ] && grep -qF "$line" line
 }
 
-# The unit for systemd, with its program in the folder that it names.
+# The unit for systemd, with its program in the folder that it names. It has no option that gives it a mount namespace of its own.
 unit() {
+  local status own='Private(Tmp|Devices|Mounts|Network|IPC)|Protect(System|Home|Proc|KernelTunables|KernelModules|KernelLogs|ControlGroups)'
   # shellcheck disable=SC2016
   unshare --mount sh -c 'mount -t tmpfs none /usr/local/bin && cp "$0" /usr/local/bin && systemd-analyze verify "$1"' \
-    "$program" "$top/mount/fusekeep@.service"
+    "$program" "$top/mount/fusekeep@.service" || return 1
+  cp "$top/mount/fusekeep@.service" fusekeep@srv-data.service || return 1
+  systemd-analyze security --offline=true --no-pager --threshold=45 "$PWD/fusekeep@srv-data.service" >exposure 2>&1
+  status=$?
+  expect "its exposure is 4.5 at most ($(tail -n 1 exposure))" [ "$status" -eq 0 ] || return 1
+  own+='|ProcSubset|MountFlags|MountAPIVFS|(Read|Inaccessible|Exec|NoExec)[A-Za-z]*Paths|Bind[A-Za-z]*|TemporaryFileSystem|Root[A-Z][a-z]*'
+  expect "others see its mount" [ -z "$(grep -E "^($own)=" fusekeep@srv-data.service)" ]
+}
+
+# Whether a process has reported this state: has_said LINE
+has_said() {
+  [ "$(cat states)" = "$1" ]
+}
+
+# With the capabilities of the unit, and with a socket of a path or of an abstract name, on which the manager of services listens.
+unit_starts() {
+  local name words
+  words=$(sed -n 's/^CapabilityBoundingSet=//p' "$top/mount/fusekeep@.service" | xargs -n 1 | sed 's/CAP_/+/' | tr A-Z a-z | paste -sd ,)
+  mkdir folder && touch folder/store && chown 65534:65534 folder/store || return 1
+  for name in "$PWD/socket" "@$PWD/socket"; do
+    : >states
+    python3 -c 'import socket, sys
+listener = socket.socket(socket.AF_UNIX, socket.SOCK_DGRAM)
+listener.bind(sys.argv[1].replace("@", "\0", 1))
+open("listens", "w")
+open("states", "wb").write(listener.recv(100))' "$name" &
+    record $!
+    await 10 [ -e listens ] && rm listens || return 1
+    NOTIFY_SOCKET=$name setpriv --bounding-set="-all,$words" --no-new-privs "$program" -f folder/store mnt 2>log &
+    supervisor=$!
+    record "$supervisor"
+    await 60 has_said READY=1 && echo one >mnt/one || return 1
+    python3 "$here/killer.py" "$supervisor" 2 0.3 2>line && expect "the file is there" [ "$(cat mnt/one)" = one ] && stop_and_end || return 1
+  done
 }
 
 # The command that the unit runs after its program: a mount that answers stays, as after a refused second start, and a dead one goes.

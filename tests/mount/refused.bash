@@ -1,4 +1,4 @@
-# Phases of tests/mount/run: refused mounts, and a store whose disk gets full. Each runs in a folder of its own.
+# Phases of tests/mount/run: refused mounts. Each runs in a folder of its own.
 
 # Runs fusekeep-mount, which must end with this status, print this line, mount nothing, and leave no file that wasn't there, before the
 # pauses between ten servers would end (16 seconds): refuses STATUS LINE WORD..
@@ -25,6 +25,12 @@ refusals() {
   refuses 2 ".*usage: .*" "$program" || return 1
   refuses 2 ".*the option no_such_option isn't known" "$program" -o no_such_option store || return 1
   refuses 2 ".*size=10X: no number of bytes" "$program" -o size=10X store || return 1
+  refuses 2 ".*size=0: a store has room for 4096 bytes at least" "$program" -o size=0 store || return 1
+  refuses 2 ".*the option gus isn't known" "$program" -o gus store || return 1
+  refuses 2 ".*--bogus isn't known, or lacks its word" "$program" --bogus store || return 1
+  refuses 2 ".*usage: .*" "$program" --status --server store || return 1
+  refuses 2 ".*the option uid=1 can't be given: a store has the owner of each file" "$program" -o uid=1 store || return 1
+  refuses 2 ".*the option allow_root can't be given: .*" "$program" -o allow_root store || return 1
   refuses 2 ".*size=8388608T: no number of bytes" "$program" -o size=8388608T store || return 1
   refuses 2 ".*a plain store has no size" "$program" -o size=1M,profile=plain store || return 1
   refuses 2 ".*the profile none isn't known: it is plain or everyday" "$program" -o profile=none store || return 1
@@ -37,8 +43,8 @@ refusals() {
   expect "no store is made" [ ! -e store ] || return 1
   expect "no lock is made" [ ! -e store-mount ] || return 1
   printf 'this is no store, and was never one' >junk
-  refuses 3 "store: NotAStore" "$program" junk || return 1
-  printf '#!/bin/sh\necho "store: Sql" >&2\necho "$3: no room left" >&2\nexit 3\n' >full && chmod 755 full
+  refuses 3 "store: NotAStore; $PWD/junk is no database of SQLite" "$program" junk || return 1
+  (make_engine full <<<'echo "store: Sql" >&2; echo "$3: no room left" >&2; exit 3')
   refuses 3 "store: Sql; $PWD/store: no room left" env FUSEKEEP=./full "$program" store || return 1
   refuses 3 "fusekeep-mount: $PWD has no room left" env FUSEKEEP=./full "$program" store || return 1
   mkdir first below
@@ -80,94 +86,11 @@ held_store() {
 unwritable_store() {
   touch store && chmod 444 store
   refuses 1 "fusekeep-mount: store can't be written: Permission denied" $user "$program" store || return 1
-  mkdir folder && touch folder/store && chmod 666 folder/store
+  mkdir folder && touch folder/store && chmod 600 folder/store && chown 65534:65534 folder/store
   refuses 1 "fusekeep-mount: .*/folder/store-mount can't be written: Permission denied" $user "$program" folder/store || return 1
-  touch folder/store-mount && chmod 666 folder/store-mount
-  refuses 3 "fusekeep-mount: .*/folder can't be written: Permission denied" $user "$program" folder/store || return 1
+  touch folder/store-mount && chmod 600 folder/store-mount && chown 65534:65534 folder/store-mount
+  refuses 1 "fusekeep-mount: .*/folder/store-wal can't be written: Permission denied" $user "$program" folder/store || return 1
   mkdir disk && mount -t tmpfs none disk && touch disk/store && mount -o remount,ro disk || return 1
   refuses 1 "fusekeep-mount: disk/store can't be written: Read-only file system" "$program" disk/store || return 1
   umount disk
-}
-
-# Writes files of 20,000 bytes, which follow from their number, until a write fails or the file `enough` exists.
-write_pieces() {
-  local number=0
-  while ! [ -e enough ]; do
-    piece "$number" >"mnt/$number" || return 1
-    number=$((number + 1))
-    echo "$number" >written
-  done
-}
-
-piece() {
-  yes "piece $1" | head -c 20000
-}
-
-compare_pieces() {
-  local number
-  for ((number = 0; number < $(cat written); number++)); do
-    piece "$number" | cmp - "mnt/$number" || return 1
-  done
-}
-
-# Whether the log of the supervisor has this line so many times.
-has_lines() {
-  [ "$(grep -c "$2" log)" -eq "$1" ]
-}
-
-# Whether it was said that calls wait, and each time then that there is room again.
-has_room_again() {
-  grep -oE "calls wait|room again" log | xargs | grep -qxE "(calls wait room again ?)+"
-}
-
-# While the disk is full calls wait, without end. They go on once there is room, and the reserve is made again. The disk may get full
-# again at once. The store has a capacity beyond that of the disk at first.
-full_disk() {
-  options=size=1G
-  mkdir disk && mount -t tmpfs -o size=8m none disk && start disk/store mnt log || return 1
-  expect "there is a reserve" [ "$(stat -c '%s %a' disk/store-reserve)" = "1048576 600" ] || return 1
-  write_pieces &
-  local writer=$! written_before
-  record "$writer"
-  await 120 has_lines 1 "disk has no room left: calls wait until there is room" || return 1
-  expect "the reserve was given up" [ ! -e disk/store-reserve ] || return 1
-  expect "it was said once" has_lines 1 "disk/store-reserve is given up" || return 1
-  sleep 5
-  written_before=$(cat written)
-  sleep 30
-  expect "the writer waits" [ "$(cat written)" = "$written_before" ] && kill -0 "$writer" || return 1
-  mount -o remount,size=16m disk && sleep 10 && mount -o remount,size=1g disk && await 120 has_room_again || return 1
-  touch enough
-  wait "$writer"
-  expect "no write failed" [ $? -eq 0 ] || return 1
-  expect "more was written than had room at first" [ "$(cat written)" -gt "$written_before" ] || return 1
-  compare_pieces && unmount_and_end mnt || return 1
-  expect "it was said each time" has_room_again || return 1
-  expect "the reserve is made again" [ -e disk/store-reserve ] || return 1
-  start disk/store mnt log-again && compare_pieces && unmount_and_end mnt && umount disk
-}
-
-# Fills a disk to its last byte.
-fill() {
-  cat /dev/zero >"$1" 2>line
-  expect "the disk is full" grep -q "No space left" line
-}
-
-has_no_handles() {
-  "$engine" store "$1" | grep -qx handles=0
-}
-
-# A store on a disk that has become full keeps its reserve when it is unmounted. It is mounted, and files are removed from it. The second
-# time there is no reserve.
-full_mount() {
-  mkdir disk && mount -t tmpfs -o size=8m none disk && start disk/store mnt log || return 1
-  piece 1 >mnt/1 && piece 2 >mnt/2 && await 60 has_no_handles disk/store && fill disk/filler && unmount_and_end mnt || return 1
-  expect "an unmount leaves the reserve" [ -e disk/store-reserve ] || return 1
-  start disk/store mnt log-full && piece 2 | cmp - mnt/2 && rm mnt/1 || return 1
-  expect "it names the reserve" grep -q "disk has no room left: .*disk/store-reserve is given up" log-full || return 1
-  stop_and_end && fill disk/filler-too || return 1
-  refuses 3 "fusekeep-mount: .*disk has no room left" "$program" disk/store || return 1
-  rm disk/filler && start disk/store mnt log-again && piece 2 | cmp - mnt/2 || return 1
-  expect "the file that was removed is gone" [ "$(ls mnt)" = 2 ] || return 1
-  unmount_and_end mnt && umount disk
 }

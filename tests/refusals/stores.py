@@ -144,7 +144,8 @@ def fault_at(work, known, library, place):
     """The failure where this allocation is refused, or an empty text."""
     with Room(work, library) as room:
         ran, _ = room.run(place)
-        line = (ran.err.decode(errors="replace").splitlines() or [""])[-1]
+        lines = [line for line in ran.err.decode(errors="replace").splitlines() if not line.startswith("served ")]
+        line = (lines or [""])[0]
         whole = ran.status == 0 and answers_in(work, ran.out) == known.out
         if not whole and (ran.status, line) not in ((5, "memory"), (4, "port: failed")):
             return f"it ends with {ran.status} {line}"

@@ -3,10 +3,12 @@ import difflib
 import glob
 import os
 import re
+import shlex
 import sys
 import tempfile
 
 from lib import program
+from lib.answers import with_words
 from lib.counts import print_counts
 from lib.device import run_program, store_of
 from lib.folders import quick_folder
@@ -95,6 +97,12 @@ def fault_in_dump(line):
     return found.group() if found else "well-formed"
 
 
+def shown(line):
+    """A line of a difference, cut, with the answer that it has in words."""
+    worded = with_words(line)
+    return line[:MOST_COLUMNS] + worded[len(line):]
+
+
 # ---- cases
 
 
@@ -114,7 +122,9 @@ class Cases:
             return True
         print(f"spec: {name}, by {way}:")
         lines = list(difflib.unified_diff(wanted, seen, "wanted", "seen", lineterm="", n=1))
-        print(*[f"  {line[:MOST_COLUMNS]}" for line in lines[2:2 + MOST_LINES]], sep="\n")
+        print(*[f"  {shown(line)}" for line in lines[2:2 + MOST_LINES]], sep="\n")
+        place = f"tests/spec/{self.cases[name].place}" if name in self.cases else "tests/spec/README.md"
+        print(f"  at {place}; alone: tests/spec/run {shlex.quote(name)}")
         return False
 
     def count(self, case, kind, runs):
@@ -190,7 +200,7 @@ class Cases:
             self.runs["simulate"] += 1
             seen += [repr(script[-40:]), *ran.lines, f"status {ran.status}", *ran.err]
             wanted += [repr(script[-40:]), *lines]
-        return self.is_same("script-extra-byte and other lines", "simulate", wanted, seen)
+        return self.is_same("script-extra-byte", "simulate, with other lines", wanted, seen)
 
     def settles_after_fault(self):
         """Runs case settled-after-fault; whether it passed."""
@@ -209,7 +219,17 @@ class Cases:
 
     def refuses(self):
         """Whether `serve` refuses bad words."""
-        return self.is_same("bad words", "serve", *serving.refused(self.program, self.work))
+        return self.is_same("bad-words", "serve", *serving.refused(self.program, self.work))
+
+    def others(self):
+        """The cases that are in no file, by name."""
+        return {
+            "settled-after-fault": self.settles_after_fault,
+            "lots-over-starts": self.starts,
+            "each-port-call": self.fails_at_each_call,
+            "bad-words": self.refuses,
+            "script-extra-byte": self.reads_scripts,
+        }
 
     def ends_prefix(self, chain, prefix, in_file):
         """Replays a prefix of a case's stream; whether it passed."""
@@ -250,10 +270,11 @@ class Cases:
             return False
         return right
 
-    def grows(self):
+    def grows(self, only):
         """Runs the tables of trees; whether each passed."""
-        tables, runs, failed = run_tables(self.program, f"{HERE}/trees.steps", self.work)
-        print(f"spec: {len(tables)} tables of trees, in {runs} runs")
+        tables, runs, failed = run_tables(self.program, f"{HERE}/trees.steps", self.work, only)
+        if tables:
+            print(f"spec: {len(tables)} tables of trees, in {runs} runs")
         return [name not in failed for name in tables]
 
     def print_runs(self):
@@ -263,7 +284,8 @@ class Cases:
             print("spec: the content of files: skipped, there is no sqlite3 that knows strict tables")
 
 
-def main():
+def main(only=""):
+    """Runs all cases, or only the one of this name."""
     try:
         cases = read_all(sorted(glob.glob(f"{HERE}/*.cases")))
     except BadCase as fault:
@@ -271,12 +293,16 @@ def main():
         return print_counts("spec", 0, 1)
     with tempfile.TemporaryDirectory(prefix="spec-", dir=quick_folder()) as work:
         run = Cases(cases, work)
-        right = [run.passes(case) for case in cases.values()]
-        right += [run.settles_after_fault(), run.starts(), run.fails_at_each_call(), run.refuses(), run.reads_scripts()]
-        tables = run.grows()
+        right = [run.passes(case) for case in cases.values() if only in ("", case.name)]
+        right += [passes() for name, passes in run.others().items() if only in ("", name)]
+        tables = run.grows(only)
         right += tables
-        run.print_runs()
-    return print_counts("spec", right.count(True), right.count(False) + (not cases) + (not tables), int(not run.looks))
+        if only and not right:
+            print(f"spec: there is no case {only}")
+        if not only:
+            run.print_runs()
+    lacks = not right if only else (not cases) + (not tables)
+    return print_counts("spec", right.count(True), right.count(False) + lacks, int(not run.looks))
 
 
-sys.exit(main())
+sys.exit(main(*sys.argv[1:]))

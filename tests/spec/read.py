@@ -1,4 +1,5 @@
 """Reads files of cases. README.md has their syntax."""
+import os
 import re
 from dataclasses import dataclass, field
 
@@ -41,6 +42,8 @@ class Case:
     blocks: str = ""
     dump: list = field(default_factory=list)
     check: str = ""
+    # where it stands: the file and the line
+    place: str = ""
 
 
 class BadCase(Exception):
@@ -137,7 +140,7 @@ def read_cases(path):
     for number, line in lines:
         try:
             if line.startswith("case "):
-                cases.append(Case(line[len("case "):]))
+                cases.append(Case(line[len("case "):], place=f"{os.path.basename(path)}:{number}"))
             else:
                 add_line(cases[-1], line)
         except (ValueError, IndexError):

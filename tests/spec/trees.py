@@ -2,11 +2,14 @@
 
 Over a file each request is a run of `replay --db`; between the runs the tables are read and changed by SQL. In memory the requests
 after a `new`, up to the first change by SQL, are one run of `replay`, at the second of the first."""
+import os
+import shlex
 import sqlite3
 import struct
 from dataclasses import dataclass, field
 
 from lib import messages as m
+from lib.answers import error_name, in_words
 from lib.device import run_program, store_of
 from spec.read import BadCase, logical_lines
 
@@ -20,10 +23,19 @@ PUT = {"put-cookie": 4, "put-nodes": 5, "put-handles": 6}
 
 @dataclass
 class Table:
-    """A table of steps: its name, the steps that each of its stores begins with, and its steps, each a list of words."""
+    """A table of steps: its name, the steps that each of its stores begins with, its steps, each a list of words, and where it stands."""
     name: str
     setup: list
     steps: list = field(default_factory=list)
+    place: str = ""
+
+
+class Step(list):
+    """The words of a step, and the line where it stands."""
+
+    def __init__(self, words, line):
+        super().__init__(words)
+        self.line = line
 
 
 def read_tables(path):
@@ -39,10 +51,10 @@ def read_tables(path):
             name, _, setup = rest.partition(" after ")
             if setup not in setups:
                 raise BadCase(f"{path}, line {number}: {line}")
-            tables.append(Table(name, setups[setup]))
+            tables.append(Table(name, setups[setup], place=f"{os.path.basename(path)}:{number}"))
             steps = tables[-1].steps
         else:
-            steps.append(line.split(" "))
+            steps.append(Step(line.split(" "), number))
     return tables
 
 
@@ -134,6 +146,12 @@ def is_answer(words, answer):
     return True
 
 
+def difference(words, answer):
+    """What a step wants of an answer, and what came."""
+    wanted = error_name(number_of(words[0])) + (" and another body" if words[1:] else "")
+    return f"wanted {wanted}, got {in_words(answer)}"
+
+
 # ---- over a file
 
 
@@ -149,6 +167,8 @@ class Store:
         self.program = program
         self.work = work
         self.runs = 0
+        # why the last step failed
+        self.why = ""
 
     def begin(self):
         self.path = store_of(self.work)
@@ -160,10 +180,14 @@ class Store:
 
     def asks(self, request):
         ran = self.run(request.secs, request.message)
+        self.why = f"it ended with status {ran.status}, {' '.join(ran.err) or 'and no line'}"
         if request.answer == ["lost"]:
-            return ran.status == 3 and ran.err == ["store: Damaged"]
+            return ran.status == 3 and ran.err[:1] == ["store: Damaged"]
         answered = [bytes.fromhex(line) for line in ran.lines if not line.startswith("served ")]
-        return ran.status == 0 and len(answered) == 1 and is_answer(request.answer, answered[0])
+        if ran.status != 0 or len(answered) != 1:
+            return False
+        self.why = difference(request.answer, answered[0])
+        return is_answer(request.answer, answered[0])
 
     def sql(self, statement, *values):
         held = sqlite3.connect(self.path)
@@ -216,6 +240,7 @@ class Store:
         if self.is_put(kind, rest):
             return True
         held = self.is_held(kind, rest)
+        self.why = "the tables have another row"
         return self.asks(request_of(words, unique)) if held is None else held
 
 
@@ -237,7 +262,7 @@ def wrong_in_file(store, table):
         store.begin()
         for place, words in enumerate(steps):
             if not store.takes(words, 2 * place + 2):
-                wrong.append(" ".join(words))
+                wrong.append(f"tests/spec/trees.steps:{words.line}: {' '.join(words)}: {store.why}")
     return wrong
 
 
@@ -274,18 +299,21 @@ def wrong_in_memory(store, table):
             wrong.append(f"{len(requests)} requests: status {ran.status}, {len(answers)} answers, {' '.join(ran.err)}")
         for one, answer in zip(requests, answers):
             if not is_answer(one.answer if at_once else one.answer[:1], answer):
-                wrong.append(one.message.hex())
+                wrong.append(f"{one.message.hex()}: {difference(one.answer, answer)}")
     return wrong
 
 
-def run_tables(program, path, work):
-    """The names of the tables, the number of runs, and the names of the tables that failed."""
+def run_tables(program, path, work, only):
+    """The names of the tables, the number of runs, and the names of the tables that failed. Where a case is asked for, only the table of
+    that name is run."""
     store = Store(program, work)
-    tables = read_tables(path)
+    tables = [it for it in read_tables(path) if not only or it.name == only]
     failed = []
     for table in tables:
         for kind, wrong in (("over a file", wrong_in_file(store, table)), ("in memory", wrong_in_memory(store, table))):
             for step in wrong[:5]:
                 print(f"spec: trees, {table.name}, {kind}: {step}")
+            if wrong:
+                print(f"  at tests/spec/{table.place}; alone: tests/spec/run {shlex.quote(table.name)}")
             failed += [table.name] * bool(wrong)
     return [table.name for table in tables], store.runs, failed

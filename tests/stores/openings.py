@@ -3,6 +3,7 @@ that must succeed. Each is tried as a closed file, and as a file whose last chan
 import os
 import shutil
 import sqlite3
+import subprocess
 import sys
 import tempfile
 from dataclasses import dataclass
@@ -63,6 +64,90 @@ def refusals():
     yield Case("version 1 with a table less", first, ("DROP TABLE blocks",), "store: Damaged")
     for key in range(2, 11):
         yield Case(f"version 1 without row {key} of meta", first, (f"DELETE FROM meta WHERE k = {key}",), "store: Damaged")
+
+
+# A table, an index or their text that is another, by what it is: the text of the layout, and what stands in its place.
+LAYOUTS = {
+    "`kept` has its errno before its lot": ("lot INTEGER NOT NULL REFERENCES lots (lot), errno INTEGER NOT NULL",
+                                            "errno INTEGER NOT NULL, lot INTEGER NOT NULL REFERENCES lots (lot)"),
+    "`nodes` has its gid before its uid": ("uid INTEGER NOT NULL, gid INTEGER NOT NULL", "gid INTEGER NOT NULL, uid INTEGER NOT NULL"),
+    "the index is on cookie and directory": ("ON entries (dir, cookie)", "ON entries (cookie, dir)"),
+    "the index is on the directory": ("ON entries (dir, cookie)", "ON entries (dir)"),
+    "the index is on the child": ("ON entries (dir, cookie)", "ON entries (dir, child)"),
+    "the index goes down": ("ON entries (dir, cookie)", "ON entries (dir, cookie DESC)"),
+    "the index is unique": ("CREATE INDEX entries_in_order", "CREATE UNIQUE INDEX entries_in_order"),
+    "the index has some of the entries": ("ON entries (dir, cookie)", "ON entries (dir, cookie) WHERE dir > 1"),
+    "the index is one of another table": ("ON entries (dir, cookie)", "ON blocks (node, block)"),
+    "`handles` isn't strict": ("access INTEGER NOT NULL) STRICT", "access INTEGER NOT NULL)"),
+    "`lots` has no rowid": ("CREATE TABLE lots (lot INTEGER PRIMARY KEY) STRICT", "CREATE TABLE lots (lot INTEGER PRIMARY KEY) STRICT, WITHOUT ROWID"),
+    "`nodes` counts its keys": ("nodes (node INTEGER PRIMARY KEY", "nodes (node INTEGER PRIMARY KEY AUTOINCREMENT"),
+    "`handles` has a column more": ("access INTEGER NOT NULL", "access INTEGER NOT NULL, more INTEGER"),
+    "`handles` has a column that is computed": ("access INTEGER NOT NULL", "access INTEGER NOT NULL, twice INTEGER AS (access * 2)"),
+    "`errno` is of any type": ("answers (id INTEGER PRIMARY KEY, errno INTEGER", "answers (id INTEGER PRIMARY KEY, errno ANY"),
+    "`name` is text": ("name BLOB NOT NULL", "name TEXT NOT NULL"),
+    "`access` may be NULL": ("access INTEGER NOT NULL", "access INTEGER"),
+    "`access` has a default": ("access INTEGER NOT NULL", "access INTEGER NOT NULL DEFAULT 2"),
+    "`access` is checked": ("access INTEGER NOT NULL", "access INTEGER NOT NULL CHECK (access < 3)"),
+    "`name` is ordered without case": ("name BLOB NOT NULL", "name BLOB NOT NULL COLLATE NOCASE"),
+    "`handles` refers to no node": ("node INTEGER NOT NULL REFERENCES nodes (node),\n  access", "node INTEGER NOT NULL,\n  access"),
+    "`handles` goes with its node": ("node INTEGER NOT NULL REFERENCES nodes (node),\n  access",
+                                     "node INTEGER NOT NULL REFERENCES nodes (node) ON DELETE CASCADE,\n  access"),
+    "two entries may have one child": ("child INTEGER NOT NULL UNIQUE REFERENCES", "child INTEGER NOT NULL REFERENCES"),
+    "two entries may have one name": (", UNIQUE (dir, name)) STRICT", ") STRICT"),
+    "the names of an entry are unique in the other order": ("UNIQUE (dir, name)", "UNIQUE (name, dir)"),
+    "`nodes` has a capital": ("CREATE TABLE nodes", "CREATE TABLE Nodes"),
+    "`access` has a capital": ("access INTEGER NOT NULL", "Access INTEGER NOT NULL"),
+}
+
+
+# What the program's SQLite doesn't understand makes a table unread, and a file no database where that table has references or is referred
+# to by a row.
+UNREAD = dict.fromkeys(("the index has some of the entries", "`handles` has a column that is computed", "a trigger on our table",
+                        "an index of our table over an expression"), "store: NotAStore")
+
+
+def layouts():
+    """Stores of version 2 whose tables and indexes are others than those of the layout. Only the tables' texts differ."""
+    second = of_version(2)
+    for what, (old, new) in LAYOUTS.items():
+        assert second.count(old) == 1, what
+        yield Case(what, second.replace(old, new), (), UNREAD.get(what, "store: Damaged"))
+    first = of_version(1)
+    yield Case("version 1 with an index", first, ("CREATE INDEX entries_in_order ON entries (dir, cookie)",), "store: Damaged")
+    yield Case("version 1 with the tables of version 2", second, ("UPDATE meta SET v = 1 WHERE k = 1", "DELETE FROM meta WHERE k = 11"),
+               "store: Damaged")
+    lots = "CREATE TABLE lots (lot INTEGER PRIMARY KEY) STRICT;"
+    yield Case("lots before answers", second.replace(lots, "").replace("CREATE TABLE answers", f"{lots} CREATE TABLE answers"), (),
+               "store: Damaged")
+
+
+# Tables, indexes, views and triggers of others, beside ours.
+BESIDE = {
+    "a table": ("CREATE TABLE notes (node INTEGER PRIMARY KEY, note TEXT)", "INSERT INTO notes VALUES (1, 'the root'), (3, 'a file')"),
+    "a table that refers to ours": ("CREATE TABLE tags (tag TEXT, node INTEGER REFERENCES nodes (node) ON DELETE CASCADE)",
+                                    "INSERT INTO tags VALUES ('root', 1)"),
+    "an index of our table": ("CREATE INDEX by_size ON nodes (size)",),
+    "a unique index of our table": ("CREATE UNIQUE INDEX by_name ON entries (name)",),
+    "an index of our table over an expression": ("CREATE INDEX by_half ON nodes (size / 2)",),
+    "a view": ("CREATE VIEW named AS SELECT name FROM entries",),
+    "a view of a view": ("CREATE VIEW one AS SELECT 1", "CREATE VIEW two AS SELECT * FROM one"),
+    "a trigger on our table": ("CREATE TRIGGER counts AFTER INSERT ON nodes BEGIN UPDATE meta SET v = v + 1 WHERE k = 3; END",),
+    "a trigger on their table": ("CREATE TABLE notes (note TEXT)",
+                                 "CREATE TRIGGER counts AFTER INSERT ON notes BEGIN UPDATE notes SET note = note || '!'; END"),
+    "what ANALYZE leaves": ("ANALYZE",),
+    "a table that counts its keys": ("CREATE TABLE counted (id INTEGER PRIMARY KEY AUTOINCREMENT)", "INSERT INTO counted VALUES (7)"),
+    "a table that isn't understood": ("CREATE TABLE odd (a INTEGER AS (1), b)", "INSERT INTO odd (b) VALUES (1)"),
+}
+
+
+
+def beside():
+    """Stores of both versions, and of version 2 without the index, with something of others beside ours."""
+    for what, changes in BESIDE.items():
+        yield Case(f"{what} beside", of_version(2), (*FULL, *changes), "store: Damaged")
+        yield Case(f"{what} beside, everyday", everyday_with(*EVERYDAY), (*FULL, *changes), "store: Damaged")
+        yield Case(f"{what} beside, version 1", of_version(1), changes, UNREAD.get(what, "store: Damaged"))
+        yield Case(f"{what} beside, and no index", of_version(2), (*FULL, *changes, "DROP INDEX entries_in_order"), "store: Damaged")
 
 
 # Node 5, handle 3, entry 9 and lot 1 are there, each below its counter.
@@ -166,7 +251,7 @@ class Tally:
 def run(path, words, given=b""):
     ran = program.run([path if word == "STORE" else word for word in words], given, SECONDS)
     lines = [line for line in ran.err.decode(errors="replace").splitlines() if not line.startswith("served ")]
-    return ran, [ran.status, *lines]
+    return ran, [ran.status, *lines[:1]]
 
 
 def try_refusal(tally, case, room):
@@ -210,30 +295,21 @@ def answers(path, *parts):
     return ended, [(-int.from_bytes(line[4:8], "little", signed=True), line[16:]) for line in lines]
 
 
-# Tables, an index, a view and a trigger of others, beside ours.
-BESIDE = ("CREATE TABLE notes (node INTEGER PRIMARY KEY, note TEXT)", "CREATE INDEX by_note ON notes (note)",
-          "INSERT INTO notes VALUES (1, 'the root'), (3, 'a file')", "CREATE TABLE \"my kept\" (id INTEGER, answer BLOB)",
-          "INSERT INTO \"my kept\" VALUES (4, x'00ff')", "CREATE VIEW noted AS SELECT note FROM notes",
-          "CREATE TRIGGER counts AFTER INSERT ON notes BEGIN UPDATE notes SET note = note || '!'; END")
-
-
-def theirs_in(path):
-    """What SQLite reads of the others' parts."""
-    schema, rows, header = content_of(path)
-    names = ("notes", "by_note", "my kept", "noted", "counts")
-    return [row for row in schema if row[1] in names], {name: rows.get(name) for name in ("notes", "my kept")}, header
-
-
-def try_beside(tally, room):
-    """A store with others' tables beside ours answers as one without them, and they stay."""
-    plain, path = store_with(room, "plain"), store_with(room, "beside", *BESIDE)
-    theirs = theirs_in(path)
-    asked = ((m.LOOKUP, 1, b"a\0"), (m.MKNOD, 1, m.mknod_body(b"g")), (m.READ, 3, m.read_body(1, 0, 9000)), (m.UNLINK, 1, b"f\0"))
-    tally.compare("others' tables beside ours: the answers", answers(plain, *asked), answers(path, *asked))
-    tally.compare("others' tables beside ours: they stay", theirs, theirs_in(path))
-    for words in OPENINGS:
-        tally.compare(f"others' tables beside ours: {' '.join(words[:1] + words[3:4])}", [0], run(path, words)[1])
-        tally.compare("others' tables beside ours: they stay", theirs, theirs_in(path))
+def try_copies(tally, room):
+    """A store that `sqlite3` copied, made smaller or read from its text opens, as its tables are in the same order."""
+    whole = store_with(room, "copied")
+    ways = {"VACUUM": f"cp {whole} PATH; sqlite3 PATH VACUUM", "VACUUM INTO": f"sqlite3 {whole} \"VACUUM INTO 'PATH'\"",
+            "a backup": f"sqlite3 {whole} '.backup PATH'", "its text": f"sqlite3 {whole} .dump | sqlite3 PATH",
+            "an index made anew": f"cp {whole} PATH; sqlite3 PATH 'REINDEX'",
+            "a table that came and went": f"cp {whole} PATH; sqlite3 PATH 'CREATE TABLE notes (note); DROP TABLE notes'",
+            "ANALYZE taken back": f"cp {whole} PATH; sqlite3 PATH 'ANALYZE; DROP TABLE sqlite_stat1'"}
+    for number, (way, command) in enumerate(ways.items()):
+        path = f"{room}/copied-{number}"
+        subprocess.run(command.replace("PATH", path), shell=True, check=True)
+        asked = ((m.LOOKUP, 1, b"a\0"), (m.MKNOD, 1, m.mknod_body(b"g")), (m.READ, 3, m.read_body(1, 0, 9000)))
+        again = f"{path}-again"
+        shutil.copy(whole, again)
+        tally.compare(f"{way}: the answers", answers(again, *asked), answers(path, *asked))
 
 
 def try_index(tally, room):
@@ -294,13 +370,13 @@ def try_past_size(tally, room):
 def main():
     tally = Tally()
     with tempfile.TemporaryDirectory(dir=quick_folder()) as folder:
-        for number, case in enumerate([*refusals(), *lies(), *profiles(), *below_zero()]):
+        for number, case in enumerate([*refusals(), *layouts(), *beside(), *lies(), *profiles(), *below_zero()]):
             room = f"{folder}/{number}"
             os.mkdir(room)
             try_refusal(tally, case, room)
         os.mkdir(f"{folder}/opened")
-        try_beside(tally, f"{folder}/opened")
         try_past_size(tally, f"{folder}/opened")
+        try_copies(tally, f"{folder}/opened")
         try_index(tally, f"{folder}/opened")
         try_counted(tally, f"{folder}/opened")
         try_everyday(tally, f"{folder}/opened")

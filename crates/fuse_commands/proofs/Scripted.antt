@@ -15,7 +15,7 @@ use Rattle.std.proofs.lemmas.Str.Parse.{digits_value-take-le}
 use Rattle.fuse_sim.specs.declared.event.Event.{Event}
 use Rattle.fuse_sim.specs.declared.event.Fate.{Fate}
 use Rattle.fuse_sim.specs.declared.event.Fate.TheVariants.{Answered, AnswerLost, DiedBeforeCommit, DiedAfterCommit}
-use Rattle.fuse_commands.specs.Scripts.{lines_of, word_of, IsSeconds, HasParts, IsHexOf, Writes, WritesAll, IsBad, FirstBad}
+use Rattle.fuse_commands.specs.Scripts.{lines_of, word_of, IsDecimal, HasParts, IsHexOf, Writes, WritesAll, IsBad, FirstBad}
 use Rattle.fuse_commands.specs.inner.Scripts.{parts_in, Lacks, TookLine}
 
 -- ---- seconds
@@ -39,12 +39,12 @@ digit_more text i secs digit more there value less sum so =
     )
 
 -- a byte that is no digit
-pub no_seconds : (text : List ℕ) (i : ℕ) → i < length text → 10 ≤ digit_value (get_or text i 0) → (secs : ℕ) → IsSeconds text secs → ⊥
-no_seconds text i there high secs s = let low = digit_at text i s.digits there in omega arith
+pub no_number : (text : List ℕ) (i : ℕ) → i < length text → 10 ≤ digit_value (get_or text i 0) → (secs : ℕ) → IsDecimal text secs → ⊥
+no_number text i there high secs s = let low = digit_at text i s.digits there in omega arith
 
 -- the value of the digits is too large
 pub too_large : (text : List ℕ) (i secs digit : ℕ) → i < length text → digit ≡ digit_value (get_or text i 0) → 2 ^ 64 ≤ secs * 10 + digit
-    → secs ≡ digits_value 10 (take i text) → (n : ℕ) → IsSeconds text n → ⊥
+    → secs ≡ digits_value 10 (take i text) → (n : ℕ) → IsDecimal text n → ⊥
 too_large text i secs digit there value large so n s =
     let more = digits_value_more 10 text i there in
     let most = digits_value-take-le 10 text (i + 1) (lit≤ tt) in
@@ -54,7 +54,7 @@ too_large text i secs digit there value large so n s =
     omega (arith, sum)
 
 pub all_read : (text : List ℕ) (i secs : ℕ) → length text ≤ i → (length text == 0) ≡ false → secs < 2 ^ 64
-    → AllDigits 10 (take i text) × (secs ≡ digits_value 10 (take i text)) → IsSeconds text secs
+    → AllDigits 10 (take i text) × (secs ≡ digits_value 10 (take i text)) → IsDecimal text secs
 all_read text i secs all some fits so =
     let whole = take_all i text all in record {
       some = grind arith;

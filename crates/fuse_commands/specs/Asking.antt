@@ -1,11 +1,13 @@
 -- The new store that a command line asks for (own profile).
-use Rattle.std.specs.Prelude.{◌≡◌, ◌<◌, ◌^◌, if◌then◌else◌, ℕ, List, codes, Option, Some, None}
+use Rattle.std.specs.Prelude.{◌≡◌, ◌<◌, ◌^◌, ◌++◌, ◌∷◌, if◌then◌else◌, ℕ, List, codes, Option, Some, None}
 use Rattle.std.specs.Str.{bytes_eq}
 use Rattle.std.specs.Str.Parse.{IsNumeral, digits_value, without_leading_plus}
 use Rattle.clap.specs.declared.parser.matches.Found.{Found}
 use Rattle.clap.specs.Matches.{first_value, one_text}
 use Rattle.fuse_init.specs.declared.profile.Profile.{Profile}
 use Rattle.fuse_init.specs.declared.profile.Profile.TheVariants.{Plain, Everyday}
+use Rattle.fuse_commands.specs.Scripts.{IsDecimal}
+use Rattle.fuse_commands.specs.declared.asked_store.AskedOwner.{AskedOwner}
 use Rattle.fuse_commands.specs.declared.asked_store.AskedStore.{AskedStore}
 use Rattle.fuse_commands.specs.declared.arguments.Run.{Run}
 use Rattle.fuse_commands.specs.declared.arguments.Run.TheVariants.{Read, Serve}
@@ -27,15 +29,30 @@ IsRead None number = number ≡ None
 IsRead (Some text) (Some n) = IsNumber text × (n ≡ digits_value 10 (without_leading_plus text))
 IsRead (Some text) None = IsNumber text → ⊥
 
+-- a text names an owner: two numbers in decimal digits, below 2^32, with a colon between them
+pub record IsOwner (text : List ℕ) (owner : AskedOwner) : Type 0 where
+  pub user : List ℕ
+  pub group : List ℕ
+  pub parts : text ≡ user ++ 58 ∷ group
+  pub uid : IsDecimal user owner.uid × (owner.uid < 2 ^ 32)
+  pub gid : IsDecimal group owner.gid × (owner.gid < 2 ^ 32)
+
+-- the owner that a text names, where there is a text
+abbrev pub IsNamed : Option (List ℕ) → Option AskedOwner → Type 0
+IsNamed None owner = owner ≡ None
+IsNamed (Some text) None = ⊥
+IsNamed (Some text) (Some owner) = IsOwner text owner
+
 -- it is what these arguments ask for
 pub record AsksFor (f : Found) (asked : AskedStore) : Type 0 where
   pub profile : asked.profile ≡ profile_named (first_value f (codes "profile"))
   pub capacity : IsRead (one_text f (codes "capacity")) asked.capacity
+  pub owner : IsNamed (first_value f (codes "owner")) asked.owner
 
 -- ---- in a command
 
 abbrev pub plain_asked : AskedStore
-plain_asked = record { profile = Plain; capacity = None }
+plain_asked = record { profile = Plain; capacity = None; owner = None }
 
 abbrev pub asked_for : Work → AskedStore
 asked_for (Replay db at wary new) = new

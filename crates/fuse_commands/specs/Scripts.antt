@@ -20,17 +20,17 @@ word_of DiedBeforeCommit = codes "before"
 word_of DiedAfterCommit = codes "after"
 
 -- decimal digits alone, and their value
-pub record IsSeconds (text : List ℕ) (secs : ℕ) : Type 0 where
+pub record IsDecimal (text : List ℕ) (number : ℕ) : Type 0 where
   pub some : 0 < length text
   pub digits : AllDigits 10 text
-  pub value : secs ≡ digits_value 10 text
-  pub fits : secs < 2 ^ 64
+  pub value : number ≡ digits_value 10 text
+  pub fits : number < 2 ^ 64
 
 -- the word of a fate, a space, seconds, a space, and a text
 pub record HasParts (line : List ℕ) (fate : Fate) (secs : ℕ) (text : List ℕ) : Type 0 where
   pub digits : List ℕ
   pub parts : line ≡ word_of fate ++ 32 ∷ (digits ++ 32 ∷ text)
-  pub seconds : IsSeconds digits secs
+  pub seconds : IsDecimal digits secs
 
 -- one message with an id, in hexadecimal of either case
 pub record IsHexOf (text m : List ℕ) : Type 0 where

@@ -4,7 +4,9 @@ ghost use Rattle.clap.specs.Values.{kind_of};
 ghost use Rattle.clap.specs.Matches.{found_of};
 ghost use Rattle.fuse_commands.specs.Asking.{AsksFor, asked_in, asked_for};
 
-use crate::asked_store::{AskedStore, asked_store, with_new_store, without_new_store};
+use crate::asked_store::{
+    AskedStore, asked_store, names_no_owner, with_new_store, without_new_store,
+};
 use crate::serve::Begin;
 use clap::error::ErrorKind;
 use clap::{Arg, ArgAction, ArgMatches, Command, Error, value_parser};
@@ -32,6 +34,8 @@ const LIST: &str = "ls";
 
 const CAT: &str = "cat";
 
+const VERIFY: &str = "verify";
+
 const AT: &str = "at";
 
 const DB: &str = "db";
@@ -52,6 +56,8 @@ const PATH: &str = "path";
 
 /// The path of the root directory of a store.
 const TOP: &str = "/";
+
+const OWNER_TEXT: &str = "--owner is UID:GID, two decimal numbers below 4294967296";
 
 const CAPACITY_TEXT: &str =
     "--capacity is for --profile everyday: a multiple of 4096, at most 9223372036854771712";
@@ -90,6 +96,10 @@ pub enum Run<'a> {
     Cat {
         file: &'a str,
         path: &'a str,
+    },
+    /// To look at the whole tree of the store in a file.
+    Verify {
+        file: &'a str,
     },
 }
 
@@ -291,6 +301,16 @@ fn cat_command<'a>(alloc: Global) -> Result<Command<'a>, AllocError> {
     look_command(alloc, CAT, about, example)?.arg(path)
 }
 
+fn verify_command<'a>(alloc: Global) -> Result<Command<'a>, AllocError> {
+    let about = "Checks the whole tree of a store, without a mount";
+    look_command(
+        alloc,
+        VERIFY,
+        about,
+        "Example:\n  fusekeep verify notes.store",
+    )
+}
+
 // Adds a subcommand.
 fn with_command<'a>(
     command: Command<'a>,
@@ -303,7 +323,8 @@ fn with_command<'a>(
 fn with_looks<'a>(alloc: Global, command: Command<'a>) -> Result<Command<'a>, AllocError> {
     let command = with_command(command, store_command(alloc))?;
     let command = with_command(command, list_command(alloc))?;
-    with_command(command, cat_command(alloc))
+    let command = with_command(command, cat_command(alloc))?;
+    with_command(command, verify_command(alloc))
 }
 
 fn program_command<'a>(alloc: Global) -> Result<Command<'a>, AllocError> {
@@ -334,14 +355,14 @@ fn replay_run<'a>(found: &ArgMatches<'a>) -> Option<Run<'a>>
     let db = found.get_str(DB);
     let at = found.get_one::<u64>(AT)?;
     let wary = found.get_flag(WARY);
-    let new = asked_store(found);
+    let new = asked_store(found)?;
     read_run(found, STREAM, Work::Replay { db, at, wary, new })
 }
 
 fn simulate_run<'a>(found: &ArgMatches<'a>) -> Option<Run<'a>>
     ensures { IfSome result (λ run. AsksFor (found_of found.now) (asked_in run)) }
 {
-    let new = asked_store(found);
+    let new = asked_store(found)?;
     read_run(found, SCRIPT, Work::Simulate { new })
 }
 
@@ -362,7 +383,7 @@ fn serve_run<'a>(found: &ArgMatches<'a>) -> Option<Run<'a>>
         begin: begin_of(found),
         at: found.get_one::<u64>(AT),
         wary: found.get_flag(WARY),
-        new: asked_store(found),
+        new: asked_store(found)?,
     })
 }
 
@@ -393,6 +414,9 @@ fn run_of<'a>(matches: &ArgMatches<'a>) -> Option<Run<'a>> {
         }),
         (LIST, found) => list_run(found),
         (CAT, found) => cat_run(found),
+        (VERIFY, found) => Some(Run::Verify {
+            file: found.get_str(FILE)?,
+        }),
         _ => None,
     }
 }
@@ -402,6 +426,20 @@ fn usage_error(alloc: Global, kind: ErrorKind, text: &str) -> Result<Error, Allo
     ensures { IfOk result (λ e. kind_of e ≡ kind) }
 {
     program_command(alloc)?.error(kind, text)
+}
+
+// The error for words that ask for nothing: an owner that is none, or a word that is missing.
+fn unread_error(alloc: Global, matches: &ArgMatches<'_>) -> Result<Error, AllocError> {
+    match matches.subcommand() {
+        Some((_, found)) if names_no_owner(found) => {
+            usage_error(alloc, ErrorKind::ValueValidation, OWNER_TEXT)
+        }
+        _ => usage_error(
+            alloc,
+            ErrorKind::MissingRequiredArgument,
+            "a word is missing",
+        ),
+    }
 }
 
 /// Parses a command line, whose first word is the program's name. An `Err` is a mistake in it, the
@@ -416,11 +454,7 @@ pub fn parse<'a, S: AsStr>(
         .try_get_matches_from(words)?;
     match run_of(&matches) {
         Some(run) => Ok(run),
-        None => Err(usage_error(
-            alloc,
-            ErrorKind::MissingRequiredArgument,
-            "a word is missing",
-        )?),
+        None => Err(unread_error(alloc, &matches)?),
     }
 }
 

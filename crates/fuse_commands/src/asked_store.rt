@@ -1,8 +1,10 @@
 //! The new store that a command line asks for.
-ghost use Rattle.std.specs.Prelude.{◌≡◌, codes, option_map};
-ghost use Rattle.clap.specs.Matches.{found_of, one_text};
-ghost use Rattle.fuse_commands.specs.Asking.{AsksFor, IsRead, profile_named};
+ghost use Rattle.std.specs.Prelude.{◌≡◌, ◌<◌, ◌^◌, codes, option_map, IfSome};
+ghost use Rattle.clap.specs.Matches.{found_of, first_value, one_text};
+ghost use Rattle.fuse_commands.specs.Asking.{AsksFor, IsRead, IsOwner, IsNamed, profile_named};
+ghost use Rattle.fuse_commands.specs.Scripts.{IsDecimal};
 
+use crate::script::{number_of, split_at};
 use clap::{Arg, ArgMatches, Command, value_parser};
 use fuse_init::Profile;
 use std::alloc::{AllocError, Global};
@@ -11,7 +13,16 @@ const PROFILE: &str = "profile";
 
 const CAPACITY: &str = "capacity";
 
+const OWNER: &str = "owner";
+
 const EVERYDAY: &str = "everyday";
+
+/// The owner of the root of a new store, as a command line names it.
+#[derive(Clone, Copy, Debug, PartialEq, Eq)]
+pub struct AskedOwner {
+    pub uid: u32,
+    pub gid: u32,
+}
 
 /// The new store that a command line asks for.
 #[derive(Clone, Copy, Debug, PartialEq, Eq)]
@@ -19,6 +30,8 @@ pub struct AskedStore {
     pub profile: Profile,
     /// In bytes, if one is given.
     pub capacity: Option<u64>,
+    /// If one is named.
+    pub owner: Option<AskedOwner>,
 }
 
 impl AskedStore {
@@ -26,6 +39,7 @@ impl AskedStore {
     pub const PLAIN: AskedStore = AskedStore {
         profile: Profile::Plain,
         capacity: None,
+        owner: None,
     };
 }
 
@@ -45,6 +59,13 @@ fn capacity_argument<'a>(alloc: Global) -> Arg<'a> {
         .help("The room of a new everyday store, a multiple of 4096 [default: 2^40]")
 }
 
+fn owner_argument<'a>(alloc: Global) -> Arg<'a> {
+    Arg::new(alloc, OWNER)
+        .long(OWNER)
+        .value_name("UID:GID")
+        .help("The owner of the root of a new store [default: 0:0]")
+}
+
 /// Adds the arguments that say what a new store is.
 pub(crate) fn with_new_store<'a>(
     alloc: Global,
@@ -52,12 +73,16 @@ pub(crate) fn with_new_store<'a>(
 ) -> Result<Command<'a>, AllocError> {
     command
         .arg(profile_argument(alloc))?
-        .arg(capacity_argument(alloc))
+        .arg(capacity_argument(alloc))?
+        .arg(owner_argument(alloc))
 }
 
 /// An argument that may not stand beside these.
 pub(crate) fn without_new_store<'a>(argument: Arg<'a>) -> Result<Arg<'a>, AllocError> {
-    argument.conflicts_with(PROFILE)?.conflicts_with(CAPACITY)
+    argument
+        .conflicts_with(PROFILE)?
+        .conflicts_with(CAPACITY)?
+        .conflicts_with(OWNER)
 }
 
 // The profile of this name.
@@ -77,12 +102,50 @@ fn capacity_of(found: &ArgMatches<'_>) -> Option<u64>
     found.get_one::<u64>(CAPACITY)
 }
 
-/// The new store that these arguments ask for.
-pub(crate) fn asked_store(found: &ArgMatches<'_>) -> AskedStore
-    ensures { AsksFor (found_of found.now) result }
+// A number of 32 bits in decimal digits.
+fn small_number_of(text: &[u8]) -> Option<u32>
+    ensures { IfSome result (λ n. IsDecimal text.now n × (n < 2 ^ 32)) }
 {
-    AskedStore {
+    u32::try_from(number_of(text)?).ok()
+}
+
+// The owner that a text names.
+fn owner_of(text: &[u8]) -> Option<AskedOwner>
+    ensures { IfSome result (IsOwner text.now) }
+{
+    let (uid, gid) = split_at(text, b':')?;
+    Some(AskedOwner {
+        uid: small_number_of(uid)?,
+        gid: small_number_of(gid)?,
+    })
+}
+
+/// Whether an owner is named by a text that names none.
+pub(crate) fn names_no_owner(found: &ArgMatches<'_>) -> bool {
+    match found.get_str(OWNER) {
+        Some(text) => owner_of(text.as_bytes()).is_none(),
+        None => false,
+    }
+}
+
+// The owner that is named, if one is; none where the text of it names none.
+fn owner_named(found: &ArgMatches<'_>) -> Option<Option<AskedOwner>>
+    ensures { IfSome result (IsNamed (first_value (found_of found.now) (codes "owner"))) }
+{
+    match found.get_str(OWNER) {
+        Some(text) => Some(Some(owner_of(text.as_bytes())?)),
+        None => Some(None),
+    }
+}
+
+/// The new store that these arguments ask for; none where an owner is named by a text that names
+/// none.
+pub(crate) fn asked_store(found: &ArgMatches<'_>) -> Option<AskedStore>
+    ensures { IfSome result (AsksFor (found_of found.now)) }
+{
+    Some(AskedStore {
         profile: profile_of(found.get_str(PROFILE)),
         capacity: capacity_of(found),
-    }
+        owner: owner_named(found)?,
+    })
 }

@@ -15,6 +15,8 @@ pub enum Cause {
     NoRoom,
     /// The disk failed.
     InputOutput,
+    /// A page of it is missing or wrong.
+    Corrupt,
     /// Another cause.
     Other,
 }
@@ -29,6 +31,7 @@ impl Cause {
             Error::SqliteFailure(ErrorCode::DatabaseBusy) => Cause::InUse,
             Error::SqliteFailure(ErrorCode::DiskFull) => Cause::NoRoom,
             Error::SqliteFailure(ErrorCode::SystemIoFailure) => Cause::InputOutput,
+            Error::SqliteFailure(ErrorCode::DatabaseCorrupt) => Cause::Corrupt,
             _ => Cause::Other,
         }
     }

@@ -20,7 +20,7 @@ mod serve;
 mod simulate;
 
 pub use arguments::{Run, STANDARD_INPUT, Work, impossible_store, parse, unreadable};
-pub use asked_store::AskedStore;
+pub use asked_store::{AskedOwner, AskedStore};
 pub use cause::Cause;
 pub use check::run_check;
 pub use count_line::CountLine;

@@ -5,7 +5,7 @@ ghost use Rattle.std.specs.Prelude.{IfErr, MatchOption};
 ghost use Rattle.std.specs.Char.{digit_value};
 ghost use Rattle.fuse_sim.specs.declared.event.Event.{Event as EventValue};
 ghost use Rattle.fuse_sim.specs.declared.event.Fate.{Fate as FateValue};
-ghost use Rattle.fuse_commands.specs.Scripts.{lines_of, word_of, IsSeconds};
+ghost use Rattle.fuse_commands.specs.Scripts.{lines_of, word_of, IsDecimal};
 ghost use Rattle.fuse_commands.specs.Scripts.{HasParts, IsHexOf, Writes, IsSkipped, WritesAll};
 ghost use Rattle.fuse_commands.specs.Scripts.{IsBad, FirstBad};
 ghost use Rattle.fuse_commands.specs.inner.Scripts.{parts_in, Lacks, TookLine};
@@ -25,8 +25,8 @@ enum LineFault {
     Memory,
 }
 
-// The parts of a text before and after the first such byte.
-fn split_at(text: &[u8], byte: u8) -> Option<(&[u8], &[u8])>
+/// The parts of a text before and after the first such byte.
+pub(crate) fn split_at(text: &[u8], byte: u8) -> Option<(&[u8], &[u8])>
     ensures some { IfSome result (λ parts. (text.now ≡ parts.0.now ++ byte ∷ parts.1.now)
         × Lacks byte parts.0.now) }
     ensures none { result ≡ None → Lacks byte text.now }
@@ -70,19 +70,19 @@ fn with_digit(number: u64, digit: u64) -> Option<u64>
     number.checked_mul(10)?.checked_add(digit)
 }
 
-// The value of decimal digits, if it fits.
-fn seconds_of(text: &[u8]) -> Option<u64>
-    ensures found { IfSome result (λ secs. IsSeconds text.now secs) }
-    ensures only { (secs : ℕ) → IsSeconds text.now secs → result ≡ Some secs }
+/// The value of decimal digits, if it fits.
+pub(crate) fn number_of(text: &[u8]) -> Option<u64>
+    ensures found { IfSome result (λ n. IsDecimal text.now n) }
+    ensures only { (n : ℕ) → IsDecimal text.now n → result ≡ Some n }
 {
     if text.is_empty() {
         return None;
     }
-    let mut secs: u64 = 0;
+    let mut number: u64 = 0;
     for b in text {
-        secs = with_digit(secs, digit_of(*b)?)?;
+        number = with_digit(number, digit_of(*b)?)?;
     }
-    Some(secs)
+    Some(number)
 }
 
 // The fate, the seconds and the text of a line.
@@ -93,7 +93,7 @@ fn parts_of(line: &[u8]) -> Option<(Fate, u64, &[u8])>
 {
     let (word, rest) = split_at(line, b' ')?;
     let (digits, text) = split_at(rest, b' ')?;
-    Some((fate_of(word)?, seconds_of(digits)?, text))
+    Some((fate_of(word)?, number_of(digits)?, text))
 }
 
 // The message that a text has in hexadecimal, if it is exactly one and has an id.

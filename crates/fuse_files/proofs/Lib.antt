@@ -7,3 +7,4 @@ mod Refused
 mod Served
 mod Summed
 mod Usage
+mod Verified

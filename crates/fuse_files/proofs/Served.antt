@@ -15,6 +15,7 @@ use Rattle.fuse_sim.specs.inner.FilesLived.{ran_from, ran_weaker, ran_nothing}
 use Rattle.fuse_commands.specs.declared.ending.Ending.{Ending}
 use Rattle.fuse_commands.specs.declared.serve.Begin.{Begin}
 use Rattle.fuse_commands.specs.declared.serve.Begin.TheVariants.{Fresh, Resume}
+use Rattle.fuse_session.specs.Done.{life_of}
 use Rattle.fuse_commands.specs.ServingRuns.{Views, Between, Begins, SessionServed, NotServed, ServesPort}
 use Rattle.fuse_files.specs.StoreLives.{file_run}
 
@@ -66,9 +67,9 @@ module _ {M : Model} {K P Image : Type 0} (v : Views M K P) (gave : List Moment 
 
   session_life : (b : Between K P) (begin : Begin) (ending : Ending) (counts : Option SessionCounts) (x : SessionServed v gave b begin ending counts) (at : Standing M) (image : Image)
       → RunsAreLives (passage (v.keeper x.begun) (v.keeper b.keeper') (v.port x.now) (v.port b.port') (Did gave (v.performed x.begun b.keeper') (v.became x.now b.port')))
-      → ((v.keeper b.keeper).is_honest → Holds (v.keeper b.keeper) at) → IsKept b image → IsRunFrom Stand at (run_over x.session.life image)
+      → ((v.keeper b.keeper).is_honest → Holds (v.keeper b.keeper) at) → IsKept b image → IsRunFrom Stand at (run_over (life_of x.session) image)
   session_life b begin ending counts x at image lives holds kept new =
-      let run = x.session.life in
+      let run = life_of x.session in
       let begun : (v.keeper x.begun).is_honest → Holds (v.keeper x.begun) at = λ now. begun_holds begin _ at x.begins now (holds (begun_honest begin _ x.begins now)) in
       let crash = λ (honest : (v.keeper b.keeper').is_honest).
       let h = begun (x.session.honest honest) in

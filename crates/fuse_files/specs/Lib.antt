@@ -5,4 +5,5 @@ pub mod StoreReplays
 pub mod StoreRuns
 pub mod StoreShown
 pub mod StoreSimulations
+pub mod StoreVerified
 pub mod inner

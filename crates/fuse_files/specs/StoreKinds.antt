@@ -1,8 +1,11 @@
--- The blocks of the new store that is asked for, by its profile and the bytes that it shall have room for (own profile).
+-- The blocks of the new store that is asked for, by its profile and the bytes that it shall have room for, and its owner (own profile).
 use Rattle.std.specs.Prelude.{◌/◌, ◌%◌, ◌==◌, ◌&&◌, nat_lt, if◌then◌else◌, ℕ, Option, Some, None}
 use Rattle.fuse_init.specs.declared.profile.Profile.{Profile}
 use Rattle.fuse_init.specs.declared.profile.Profile.TheVariants.{Plain, Everyday}
 use Rattle.fuse_tree.specs.Bounds.{block_bytes, capacity_end, default_capacity}
+use Rattle.fuse_tree.specs.State.{superuser}
+use Rattle.fuse_tree.specs.declared.origin.Owner.{Owner}
+use Rattle.fuse_commands.specs.declared.asked_store.AskedOwner.{AskedOwner}
 
 -- so many bytes, if they are whole blocks and not too many
 abbrev pub whole_blocks : ℕ → Option ℕ
@@ -15,3 +18,8 @@ blocks_asked Plain None = Some 0
 blocks_asked Plain (Some bytes) = None
 blocks_asked Everyday None = Some default_capacity
 blocks_asked Everyday (Some bytes) = whole_blocks bytes
+
+-- the superuser where none is named
+abbrev pub owner_asked : Option AskedOwner → Owner
+owner_asked None = superuser
+owner_asked (Some named) = record { uid = named.uid; gid = named.gid }

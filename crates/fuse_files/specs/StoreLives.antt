@@ -27,6 +27,7 @@ use Rattle.fuse_store_files.specs.declared.files.Opening.TheVariants.{Existing, 
 use Rattle.fuse_store_files.specs.Files.{FilesStand, HoldNothing}
 use Rattle.fuse_store_files.specs.Left.{own_store, Closes}
 use Rattle.fuse_store_files.specs.Starting.{begun_at}
+use Rattle.fuse_session.specs.Done.{life_of}
 use Rattle.fuse_commands.specs.declared.serve.Begin.{Begin}
 use Rattle.fuse_commands.specs.declared.ending.Ending.{Ending}
 use Rattle.fuse_commands.specs.ServingRuns.{Views, Between, ServesPort}
@@ -38,7 +39,7 @@ new_at p new = record { state = (holding_for new).tree; history = []; settled = 
 -- the session that was served, with these files left; none where the resend notice could not be sent
 abbrev pub file_run : {M : Model} {K P Image : Type 0} {v : Views M K P} {gave : List Moment → Type 0} {b : Between K P} {begin : Begin} {ending : Ending} {counts : Option SessionCounts}
     → ServesPort v gave b begin ending counts → Image → FileRun Image
-file_run (inl served) image = run_over served.session.life image
+file_run (inl served) image = run_over (life_of served.session) image
 file_run (inr not) image = no_run image
 
 -- a run over these files: a life of the mount that they held, of one that began of what they held, and of a new store

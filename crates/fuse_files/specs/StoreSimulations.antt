@@ -14,16 +14,18 @@ use Rattle.fuse_keeper.specs.Model.{Model}
 use Rattle.fuse_tree.specs.State.{State, new_store}
 use Rattle.fuse_tree.specs.TheTree.{tree_of}
 use Rattle.fuse_sim.specs.Twice.{Seen}
+use Rattle.fuse_store.specs.declared.new_store.StoreKind.{StoreKind}
+use Rattle.fuse_store.specs.Creating.{origin_of}
 use Rattle.fuse_store_files.specs.declared.crash_keeper.CrashKeeper.{CrashKeeper}
 use Rattle.fuse_store_files.specs.Restarting.{crash_told, CrashRefuses}
 use Rattle.fuse_commands.specs.declared.ending.Ending.{Ending}
 use Rattle.fuse_commands.specs.Endings.{status_of, store_ending}
 use Rattle.fuse_commands.specs.Simulating.{driven, Simulated, StoppedIn, LeftByScript}
-use Rattle.fuse_files.specs.StoreReplays.{Streams, start}
+use Rattle.fuse_files.specs.StoreReplays.{Streams, made_then}
 
 -- the new store of a simulation
-abbrev pub new_state : Profile → ℕ → State
-new_state p capacity = new_store p capacity start
+abbrev pub new_state : Profile → StoreKind → State
+new_state p kind = new_store p kind.capacity (origin_of (made_then kind))
 
 -- how contracts see keepers whose files crash before they are opened again
 abbrev pub crashing : {P D : Type 0} {g : Ghosts D} → (p : Profile) → (D → D → Type 0) → Seen (tree_of p) (CrashKeeper P (FileStore D g) over_files)
@@ -39,16 +41,16 @@ pub record SimulatesOver {M : Model} {K : Type 0} (k : Seen M K) (keeper : K) (s
   pub kept : (script : List ℕ) → streams.input ≡ Some script → (keeper' ≡ Some keeper) ⊎ LeftByScript k (Some keeper) keeper' script
 
 -- It was run over a keeper of a new store. Wherever the server dies both files of the keeper crash, and what is left of them is opened.
-pub record StoreSimulated {D : Type 0} (P : Type 0) (p : Profile) (capacity : ℕ) (g : Ghosts D) (crashed : D → D → Type 0) (streams : Streams) (ending : Ending) : Type 0 where
+pub record StoreSimulated {D : Type 0} (P : Type 0) (p : Profile) (kind : StoreKind) (g : Ghosts D) (crashed : D → D → Type 0) (streams : Streams) (ending : Ending) : Type 0 where
   pub keeper : CrashKeeper P (FileStore D g) over_files
-  pub stands : (crash_told p over_files keeper).is_honest → StandsFor (crash_told p over_files keeper) (new_state p capacity) [] []
+  pub stands : (crash_told p over_files keeper).is_honest → StandsFor (crash_told p over_files keeper) (new_state p kind) [] []
   pub firm : (crash_told p over_files keeper).is_honest → IsFirm (crash_told p over_files keeper)
   pub ran : SimulatesOver (crashing p crashed) keeper streams ending
 
 -- so it was under this profile
-abbrev pub IsSimulated : {D : Type 0} → Profile → ℕ → Ghosts D → (D → D → Type 0) → Streams → Ending → Type 0
-IsSimulated Plain capacity g crashed streams ending = StoreSimulated PlainProfile Plain capacity g crashed streams ending
-IsSimulated Everyday capacity g crashed streams ending = StoreSimulated EverydayProfile Everyday capacity g crashed streams ending
+abbrev pub IsSimulated : {D : Type 0} → Profile → StoreKind → Ghosts D → (D → D → Type 0) → Streams → Ending → Type 0
+IsSimulated Plain kind g crashed streams ending = StoreSimulated PlainProfile Plain kind g crashed streams ending
+IsSimulated Everyday kind g crashed streams ending = StoreSimulated EverydayProfile Everyday kind g crashed streams ending
 
 -- the disks always return what was written, as those in memory do
 abbrev pub AreSure : {D : Type 0} → Ghosts D → Type 0

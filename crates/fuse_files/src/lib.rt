@@ -9,6 +9,7 @@ mod serving;
 mod showing;
 mod simulating;
 mod summing;
+mod verifying;
 
 pub use kinds::kind_asked;
 pub use lives::{files_live, runs_are_file_lives};
@@ -16,3 +17,4 @@ pub use replaying::{replay_in_memory, replay_store};
 pub use serving::{StoreRun, serve_store};
 pub use showing::{Show, StoreBytes, show_store};
 pub use simulating::simulate_store;
+pub use verifying::verify_store;

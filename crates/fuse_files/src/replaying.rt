@@ -1,5 +1,5 @@
 // A replay over the files of a store.
-ghost use Rattle.std.specs.Prelude.{◌≡◌, ◌≢◌, ◌<◌, ◌^◌, ◌⊎◌, [], false, codes, IfOk};
+ghost use Rattle.std.specs.Prelude.{◌≡◌, ◌≢◌, ◌⊎◌, [], false, codes, IfOk};
 ghost use Rattle.sqlite_wal.specs.Files.{image_at};
 ghost use Rattle.sqlite.specs.Files.{over_files};
 ghost use Rattle.fuse_store.specs.TableKeeper.{keeper_told};
@@ -16,7 +16,7 @@ use fuse_commands::{Ending, START, run_replay};
 use fuse_init::{EverydayProfile, PlainProfile, Profile, Profiled};
 use fuse_store::{NewStore, PlainKeeper, PlainTree, StoreKeeper, StoreKind, TableKeeper};
 use fuse_store_files::{Opening, StoreFiles, close_store, open_store};
-use fuse_tree::new_store_is_tree;
+use fuse_tree::{Origin, new_store_is_tree};
 use fuse_wire::{Memory, Moment};
 use sqlite::{FileFrom, FileStore, Leftover, Start};
 use sqlite_disk::Disk;
@@ -81,27 +81,32 @@ pub fn replay_store<S: Start, R: Read + Drop, W: Write>(
 }
 
 // A keeper of a new store in memory.
-fn new_lists<P: Profiled>(alloc: Global, capacity: u64) -> Result<PlainKeeper<PlainTree<P>>, Memory>
-    requires low { capacity < 2 ^ 51 }
+fn new_lists<P: Profiled>(
+    alloc: Global,
+    kind: StoreKind,
+) -> Result<PlainKeeper<PlainTree<P>>, Memory>
     ensures stands { IfOk result (λ k. StandsFor (lists_told P.PROFILE k)
-        (new_state P.PROFILE capacity) [] []) }
+        (new_state P.PROFILE kind) [] []) }
     ensures going { IfOk result (λ k. (lists_told P.PROFILE k).has_failed ≡ false) }
 {
     new_store_is_tree();
-    let tree = PlainTree::<P>::sized(alloc, START, capacity)?;
+    let from = Origin {
+        owner: kind.owner,
+        made: START,
+    };
+    let tree = PlainTree::<P>::sized(alloc, from, kind.capacity)?;
     Ok(PlainKeeper::over(alloc, tree))
 }
 
 // Serves the stream of a reader over a new store of this profile in memory.
 fn replay_lists<P: Profiled, R: Read + Drop, W: Write>(
     alloc: Global,
-    capacity: u64,
+    kind: StoreKind,
     reader: R,
     writer: &mut W,
     moment: Moment,
 ) -> Ending
-    requires low { capacity < 2 ^ 51 }
-    ensures ran { ListsReplayed P P.PROFILE capacity moment (record {
+    ensures ran { ListsReplayed P P.PROFILE kind moment (record {
       input = R.remaining reader;
       written = W.contents writer.old;
       written' = W.contents writer.new;
@@ -113,7 +118,7 @@ fn replay_lists<P: Profiled, R: Read + Drop, W: Write>(
         }) result }
     ensures usage { status_of result ≢ 2 }
 {
-    match new_lists::<P>(alloc, capacity) {
+    match new_lists::<P>(alloc, kind) {
         Ok(mut keeper) => run_replay(alloc, &mut keeper, reader, writer, moment),
         Err(_) => Ending::Memory,
     }
@@ -128,7 +133,7 @@ pub fn replay_in_memory<R: Read + Drop, W: Write>(
     writer: &mut W,
     moment: Moment,
 ) -> Ending
-    ensures ran { IsReplayedAnew kind.profile kind.capacity moment (record {
+    ensures ran { IsReplayedAnew kind.profile kind moment (record {
       input = R.remaining reader;
       written = W.contents writer.old;
       written' = W.contents writer.new;
@@ -141,11 +146,9 @@ pub fn replay_in_memory<R: Read + Drop, W: Write>(
     ensures usage { status_of result ≢ 2 }
 {
     match kind.profile {
-        Profile::Plain => {
-            replay_lists::<PlainProfile, R, W>(alloc, kind.capacity, reader, writer, moment)
-        }
+        Profile::Plain => replay_lists::<PlainProfile, R, W>(alloc, kind, reader, writer, moment),
         Profile::Everyday => {
-            replay_lists::<EverydayProfile, R, W>(alloc, kind.capacity, reader, writer, moment)
+            replay_lists::<EverydayProfile, R, W>(alloc, kind, reader, writer, moment)
         }
     }
 }

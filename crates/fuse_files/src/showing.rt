@@ -93,7 +93,7 @@ fn look_at<S: Alter + Drop>(alloc: Global, conn: Connection<S>) -> Result<TableL
 }
 
 // The ending of a look with this fault.
-fn ending_of_look(fault: Option<StoreFault>) -> Ending
+pub(crate) fn ending_of_look(fault: Option<StoreFault>) -> Ending
     ensures { result ≡ look_ending fault }
 {
     match fault {
@@ -202,7 +202,10 @@ fn copy_of(alloc: Global, read: StoreBytes) -> Result<Files<Memory>, Ending>
 }
 
 // The database in a copy in memory of files with these bytes.
-fn open_copy(alloc: Global, read: StoreBytes) -> Result<Connection<FileStore<Memory>>, Ending>
+pub(crate) fn open_copy(
+    alloc: Global,
+    read: StoreBytes,
+) -> Result<Connection<FileStore<Memory>>, Ending>
     ensures opened { IfOk result IsOpened }
     ensures found { IfOk result (λ conn. AreTheirs (image_in read)
         (file_state conn).committed.trees) }

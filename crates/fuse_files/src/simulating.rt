@@ -1,5 +1,5 @@
 // A script over a new store in files that crash.
-ghost use Rattle.std.specs.Prelude.{◌≡◌, ◌≢◌, ◌≤◌, ◌<◌, ◌^◌, ◌⊎◌, [], false, IsTrue, IfSome, IfOk};
+ghost use Rattle.std.specs.Prelude.{◌≡◌, ◌≢◌, ◌≤◌, ◌⊎◌, [], false, IsTrue, IfSome, IfOk};
 ghost use Rattle.std.specs.Io.KnownBytes.{Appends};
 ghost use Rattle.sqlite.specs.Files.{over_files};
 ghost use Rattle.fuse_keeper.specs.KeeperState.{StandsFor, IsFirm};
@@ -16,6 +16,7 @@ use fuse_init::{EverydayProfile, PlainProfile, Profile, Profiled};
 use fuse_keeper::{Restart, StoreFault};
 use fuse_store::{StoreKind, TableKeeper, opening_fault};
 use fuse_store_files::{CrashKeeper, Crashing};
+use fuse_tree::Origin;
 use sqlite::{Connection, FileStore, Files, Options};
 use std::alloc::Global;
 use std::io::{Read, Write};
@@ -27,13 +28,12 @@ const SEED: u64 = 0;
 fn new_keeper<P: Profiled, D: Crashing + Drop>(
     alloc: Global,
     files: Files<D>,
-    capacity: u64,
+    kind: StoreKind,
 ) -> Result<CrashKeeper<P, FileStore<D>>, StoreFault>
-    requires low { capacity < 2 ^ 51 }
     requires log { IsTrue (D.Disk.is_usable files.log) }
     requires db { IsTrue (D.Disk.is_usable files.db) }
     ensures stands { IfOk result (λ k. (crash_told P.PROFILE over_files k).is_honest
-        → StandsFor (crash_told P.PROFILE over_files k) (new_state P.PROFILE capacity) [] []) }
+        → StandsFor (crash_told P.PROFILE over_files k) (new_state P.PROFILE kind) [] []) }
     ensures firm { IfOk result (λ k. (crash_told P.PROFILE over_files k).is_honest
         → IsFirm (crash_told P.PROFILE over_files k)) }
     ensures going { IfOk result (λ k. (crash_told P.PROFILE over_files k).has_failed ≡ false) }
@@ -43,7 +43,11 @@ fn new_keeper<P: Profiled, D: Crashing + Drop>(
         Ok(conn) => conn,
         Err((error, _)) => return Err(opening_fault(error)),
     };
-    match TableKeeper::create(alloc, conn, capacity, START) {
+    let from = Origin {
+        owner: kind.owner,
+        made: START,
+    };
+    match TableKeeper::create(alloc, conn, kind.capacity, from) {
         Ok(keeper) => Ok(CrashKeeper::new(alloc, keeper, options)),
         Err((fault, _)) => Err(fault),
     }
@@ -74,14 +78,13 @@ fn simulate_over<K: Restart, R: Read + Drop, W: Write>(
 fn simulate_under<P: Profiled, D: Crashing + Drop, R: Read + Drop, W: Write>(
     alloc: Global,
     files: Files<D>,
-    capacity: u64,
+    kind: StoreKind,
     reader: R,
     writer: &mut W,
 ) -> Ending
-    requires low { capacity < 2 ^ 51 }
     requires log { IsTrue (D.Disk.is_usable files.log) }
     requires db { IsTrue (D.Disk.is_usable files.db) }
-    ensures ran { StoreSimulated P P.PROFILE capacity D.Disk D.Crashing.crashed (record {
+    ensures ran { StoreSimulated P P.PROFILE kind D.Disk D.Crashing.crashed (record {
       input = R.remaining reader;
       written = W.contents writer.old;
       written' = W.contents writer.new;
@@ -92,13 +95,13 @@ fn simulate_under<P: Profiled, D: Crashing + Drop, R: Read + Drop, W: Write>(
           written' = W.contents writer.new;
         }) result }
     ensures simulated { AreSure D.Disk → IfSome (R.remaining reader) (λ script.
-        status_of result ≤ 1 → SimulatedFrom (tree_of P.PROFILE) (new_state P.PROFILE capacity)
+        status_of result ≤ 1 → SimulatedFrom (tree_of P.PROFILE) (new_state P.PROFILE kind)
         (Appends (W.contents writer.old) (W.contents writer.new)) script result) }
     ensures silent { 1 ≤ status_of result → status_of result ≤ 3
         → W.contents writer.new ≡ W.contents writer.old }
     ensures usage { status_of result ≢ 2 }
 {
-    match new_keeper::<P, D>(alloc, files, capacity) {
+    match new_keeper::<P, D>(alloc, files, kind) {
         Ok(keeper) => simulate_over(alloc, keeper, reader, writer),
         Err(fault) => ending_of(fault),
     }
@@ -115,7 +118,7 @@ pub fn simulate_store<D: Crashing + Drop, R: Read + Drop, W: Write>(
 ) -> Ending
     requires log { IsTrue (D.Disk.is_usable files.log) }
     requires db { IsTrue (D.Disk.is_usable files.db) }
-    ensures ran { IsSimulated kind.profile kind.capacity D.Disk D.Crashing.crashed (record {
+    ensures ran { IsSimulated kind.profile kind D.Disk D.Crashing.crashed (record {
       input = R.remaining reader;
       written = W.contents writer.old;
       written' = W.contents writer.new;
@@ -128,7 +131,7 @@ pub fn simulate_store<D: Crashing + Drop, R: Read + Drop, W: Write>(
     // Where the disks always return what was written, the output is that of the events.
     ensures simulated { AreSure D.Disk → IfSome (R.remaining reader) (λ script.
         status_of result ≤ 1
-        → SimulatedFrom (tree_of kind.profile) (new_state kind.profile kind.capacity)
+        → SimulatedFrom (tree_of kind.profile) (new_state kind.profile kind)
         (Appends (W.contents writer.old) (W.contents writer.new)) script result) }
     ensures silent { 1 ≤ status_of result → status_of result ≤ 3
         → W.contents writer.new ≡ W.contents writer.old }
@@ -136,10 +139,10 @@ pub fn simulate_store<D: Crashing + Drop, R: Read + Drop, W: Write>(
 {
     match kind.profile {
         Profile::Plain => {
-            simulate_under::<PlainProfile, D, R, W>(alloc, files, kind.capacity, reader, writer)
+            simulate_under::<PlainProfile, D, R, W>(alloc, files, kind, reader, writer)
         }
         Profile::Everyday => {
-            simulate_under::<EverydayProfile, D, R, W>(alloc, files, kind.capacity, reader, writer)
+            simulate_under::<EverydayProfile, D, R, W>(alloc, files, kind, reader, writer)
         }
     }
 }

@@ -95,3 +95,15 @@ turn_hears gave performed became path p q r result bytes b one came two = (
   turn_of gave performed became path p q r result bytes b one came two,
   ap (λ (l : List PortEvent). bytes ++ received_in l) two.events ∙ ap (λ (l : List ℕ). bytes ++ l) (received_sends two.slices) ∙ append-nil bytes,
 )
+
+abbrev only_events : List PortEvent → Deeds
+only_events events = record { moments = []; asked = []; events = events }
+
+-- what came then was this receive alone
+pub just_heard : (result result' : Receipt) (bytes bytes' : List ℕ) → Received result bytes ∷ [] ≡ Received result' bytes' ∷ []
+    → Hears (λ d. d ≡ one_heard result' bytes') bytes (one_heard result bytes)
+just_heard result result' bytes bytes' is = (ap only_events is, heard_by result bytes)
+
+-- and then just these
+pub just_more : (a b d : Deeds) (bytes : List ℕ) → d ≡ b → received_in (then_did a b).events ≡ bytes → Hears (λ x. x ≡ then_did a b) bytes (then_did a d)
+just_more a b d bytes is heard = (ap (then_did a) is, ap (λ x. received_in (then_did a x).events) is ∙ heard)

@@ -2,6 +2,8 @@ pub mod Bytes
 pub mod Transcripts
 pub mod Notices
 pub mod Devices
+pub mod Streams
+pub mod Sharing
 pub mod Rooms
 pub mod Standing
 pub mod Pieces

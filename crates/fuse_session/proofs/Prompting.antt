@@ -12,10 +12,9 @@ use Rattle.fuse_session.specs.Port.{PortState}
 use Rattle.fuse_session.specs.Transcript.{PortEvent, Received, sends_of, Gave}
 use Rattle.fuse_session.specs.Deeds.{Deeds}
 use Rattle.fuse_session.specs.Processed.{bytes_of}
-use Rattle.fuse_session.specs.declared.ended.Ended.{Ended}
 use Rattle.fuse_session.specs.Passage.{passage}
-use Rattle.fuse_session.specs.Serving.{Turned, Waiting, nothing_waits, Whole, Run}
-use Rattle.fuse_session.specs.Prompt.{CaughtUp, AnswersFirst, StopsThere, Prompt}
+use Rattle.fuse_session.specs.Serving.{Waiting, nothing_waits, Whole}
+use Rattle.fuse_session.specs.Prompt.{CaughtUp, AnswersFirst, StopsThere}
 use Rattle.fuse_session.specs.inner.Turn.{OneTurn}
 
 -- this was done, and all that came was answered before each receive
@@ -116,48 +115,3 @@ stops_more did a b gave turn before after result bytes is =
         | inr none ↦ inr (sym here.2 ∙ ap sends_of none)
       ]
     ]
-
-turned_did : (M : Model) → (k new : KeeperState M) (did did' : Deeds → Type 0) (p q : PortState) (ids ids' : List ℕ) (prefix : List (List ℕ)) (going : Bool)
-    (counts : SessionCounts) → ((d : Deeds) → did d → did' d) → Turned (passage k new p q did) ids ids' prefix going counts
-    → Turned (passage k new p q did') ids ids' prefix going counts
-turned_did M k new did did' p q ids ids' prefix going counts f t = record {
-  work = record {
-    timed = t.work.timed;
-    marks = t.work.marks;
-    deeds = t.work.deeds;
-    done = f t.work.deeds t.work.done;
-    batches = t.work.batches;
-    are = t.work.are;
-    asked = t.work.asked;
-    first = t.work.first;
-  };
-  bytes = t.bytes;
-  full = t.full;
-  moments = t.moments;
-  answered = t.answered;
-  left = t.left;
-  slices = t.slices;
-  replied = t.replied;
-  all = t.all;
-  few = t.few;
-  destroyed = t.destroyed;
-}
-
-pub whole_did : (M : Model) → (k new : KeeperState M) (did : Deeds → Type 0) (p q : PortState) (confirms : Bool) (before after : Waiting)
-    (counts : SessionCounts) → Whole (passage k new p q (Answering k new did confirms)) before after counts → Whole (passage k new p q did) before after counts
-whole_did M k new did p q confirms before after counts w = record {
-  received = w.received;
-  came = w.came;
-  rest_is = w.rest_is;
-  at = w.at;
-  turned = turned_did M k new _ _ p q before.pending after.pending _ true counts (λ d x. (x.0.done, x.1)) w.turned;
-}
-
-pub prompt_run : (M : Model) → (k new : KeeperState M) (did : Deeds → Type 0) (p q : PortState) (before : Waiting) (e : Ended)
-    → Run (passage k new p q (Answering k new did p.confirms)) before e → Prompt (passage k new p q did)
-prompt_run M k new did p q before e l = record {
-  deeds = l.broken.work.deeds;
-  done = l.broken.work.done.0.done;
-  first = l.broken.work.done.0.first;
-  stops = l.broken.work.done.0.stops;
-}

@@ -14,14 +14,11 @@ refused (Err e) P full is = full
 pub answers_failed : (p : MemoryPort) (o x : Outcome) (len : ℕ) → x ≡ outcomes.Failed → x ≡ o → Answers p o len sent.Failed
 answers_failed p o x len is same = inl (ap (λ y. sent_by y len) (sym is ∙ same))
 
-pub answers_no_place : (p q : MemoryPort) (o : Outcome) (len : ℕ) → q.gone ≡ p.gone → vec_capacity q.gone < vec_len q.gone + 1 → Answers p o len sent.Failed
-answers_no_place p q o len same full = inr (refl, inr (subst (λ v. vec_capacity v < vec_len v + 1) same full))
-
 pub answers_no_room : (p q : MemoryPort) (o x : Outcome) (len n : ℕ) → q.sent ≡ p.sent → x ≡ o → n ≡ kept_by x len
     → vec_capacity q.sent < vec_len q.sent + n → Answers p o len sent.Failed
 answers_no_room p q o x len n same by is full =
     inr (
       refl,
-      inl (subst (λ v. vec_capacity v < vec_len v + kept_by o len) same
-          (subst (λ k. vec_capacity q.sent < vec_len q.sent + k) (is ∙ ap (λ y. kept_by y len) by) full)),
+      subst (λ v. vec_capacity v < vec_len v + kept_by o len) same
+          (subst (λ k. vec_capacity q.sent < vec_len q.sent + k) (is ∙ ap (λ y. kept_by y len) by) full),
     )

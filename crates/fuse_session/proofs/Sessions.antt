@@ -42,13 +42,13 @@ use Rattle.fuse_session.proofs.Growing.{hearing_replied, whole_more, halted_more
 -- ---- nothing was heard
 
 -- bytes came by one receive
-record ByOne (became : List PortEvent → Type 0) (p q : PortState) : Type 0 where
-  received : List ℕ
-  came : Consumes p.coming q.coming received
-  result : Receipt
-  once : became (Received result received ∷ [])
+pub record ByOne (became : List PortEvent → Type 0) (p q : PortState) : Type 0 where
+  pub received : List ℕ
+  pub came : Consumes p.coming q.coming received
+  pub result : Receipt
+  pub once : became (Received result received ∷ [])
 
-came_by : (e : Ended) (became : List PortEvent → Type 0) (p q : PortState) (h : Held) → NotHeard e became p q h → ByOne became p q
+abbrev pub came_by : (e : Ended) (became : List PortEvent → Type 0) (p q : PortState) (h : Held) → NotHeard e became p q h → ByOne became p q
 came_by End became p q h n = record { received = []; came = n.0.bytes; result = ByEnd; once = n.0.once }
 came_by (Frame f) became p q h n = record { received = []; came = n.0.bytes; result = ByEnd; once = n.0.once }
 came_by PortFailed became p q h n = record { received = []; came = n.bytes; result = ReceiveFailed; once = n.once }

@@ -1,5 +1,5 @@
 -- The state of a port in memory (own profile).
-use Rattle.std.specs.Prelude.{◌≡◌, ◌⊎◌, ◌<◌, ◌+◌, ℕ, nat_lt, ◌-◌, ◌==◌, if◌then◌else◌, min, List, [], ◌∷◌, drop, length, Some, vec_capacity, vec_len}
+use Rattle.std.specs.Prelude.{◌≡◌, ◌⊎◌, ◌<◌, ◌≤◌, ◌+◌, ℕ, nat_lt, ◌-◌, ◌==◌, if◌then◌else◌, min, List, [], ◌∷◌, drop, length, Some, vec_capacity, vec_len}
 use Rattle.fuse_session.specs.declared.memory.Arrival.{Arrival}
 use Rattle.fuse_session.specs.declared.memory.Arrival.TheVariants as arrivals
 use Rattle.fuse_session.specs.declared.memory.MemoryPort.{MemoryPort}
@@ -49,7 +49,7 @@ abbrev pub received_by : Arrival → ℕ → ℕ → Received
 received_by (arrivals.Piece most) left room = if left == 0 then received.End else received.Got (min (min left most) room)
 received_by arrivals.Failed left room = received.Failed
 
--- the result of a send of so many bytes, unless it is out of memory
+-- the result of a send of so many bytes, unless it lacks room
 abbrev pub sent_by : Outcome → ℕ → Sent
 sent_by (outcomes.Take most) len = sent.Took (min len most)
 sent_by outcomes.Gone len = sent.Gone
@@ -61,10 +61,13 @@ kept_by (outcomes.Take most) len = min len most
 kept_by outcomes.Gone len = len
 kept_by outcomes.Failed len = 0
 
--- so many more bytes, or one more place, don't fit what it has allocated
-abbrev pub LacksRoom : MemoryPort → ℕ → Type 0
-LacksRoom p n = (vec_capacity p.sent < vec_len p.sent + n) ⊎ (vec_capacity p.gone < vec_len p.gone + 1)
+-- it has room for so many more bytes, or lacks it
+abbrev pub HasRoom : MemoryPort → ℕ → Type 0
+HasRoom p n = vec_len p.sent + n ≤ vec_capacity p.sent
 
--- the outcome decides the result; but where memory is missing, it fails
+abbrev pub LacksRoom : MemoryPort → ℕ → Type 0
+LacksRoom p n = vec_capacity p.sent < vec_len p.sent + n
+
+-- the outcome decides the result; but where it lacks room, it may fail
 abbrev pub Answers : MemoryPort → Outcome → ℕ → Sent → Type 0
 Answers p o len result = (result ≡ sent_by o len) ⊎ ((result ≡ sent.Failed) × LacksRoom p (kept_by o len))

@@ -1,5 +1,5 @@
 -- A keeper and a port before and after, and what was done meanwhile (own profile).
-use Rattle.std.specs.Prelude.{ℕ, List}
+use Rattle.std.specs.Prelude.{◌≡◌, ℕ, List}
 use Rattle.fuse_keeper.specs.Model.{Model}
 use Rattle.fuse_keeper.specs.KeeperState.{KeeperState}
 use Rattle.fuse_session.specs.Port.{PortState}
@@ -18,3 +18,7 @@ passage keeper keeper' port port' did = record { keeper = keeper; keeper' = keep
 -- and these bytes came to the port
 abbrev pub hearing : {M : Model} → Passage M → List ℕ → Passage M
 hearing p received = record p { did = Hears p.did received }
+
+-- and these were done, and nothing else
+abbrev pub doing : {M : Model} → Passage M → Deeds → Passage M
+doing p deeds = record p { did = λ d. d ≡ deeds }

@@ -41,9 +41,7 @@ abbrev pub StopsThere : List PortEvent → Type 0
 StopsThere events = (before after : List PortEvent) (result : ReceiveResult) (bytes : List ℕ)
     → events ≡ before ++ Received result bytes ∷ after → Gave (Received result bytes) ⊎ (after ≡ [])
 
--- a session did this, answered all that came before it received more, and stopped where nothing came
-pub record Prompt {M : Model} (p : Passage M) : Type 0 where
-  pub deeds : Deeds
-  pub done : p.did deeds
+-- a session that did this answered all that came before it received more, and stopped where nothing came
+pub record Prompt {M : Model} (p : Passage M) (deeds : Deeds) : Type 0 where
   pub first : AnswersFirst p.keeper p.keeper' p.port.confirms deeds.events
   pub stops : StopsThere deeds.events

@@ -1,8 +1,9 @@
 // A port in memory.
-ghost use Rattle.std.specs.Prelude.{◌≡◌, ◌⊎◌, ◌≤◌, drop, length, Some, []};
+ghost use Rattle.std.specs.Prelude.{◌≡◌, ◌≤◌, ◌<◌, ◌+◌, ◌-◌, drop, length, Some, [], ℕ, IfOk};
+ghost use Rattle.std.specs.Prelude.{vec_capacity, vec_len};
 
 use crate::port::{Port, Received, Sent};
-use std::alloc::Global;
+use std::alloc::{AllocError, Global};
 
 /// What one call of `receive` of a `MemoryPort` gives.
 #[derive(Clone, Copy, Debug, PartialEq, Eq)]
@@ -25,7 +26,7 @@ pub enum Outcome {
 }
 
 /// Gives bytes in pieces, and keeps the bytes that are sent. After its arrivals it fills the buffer,
-/// and after its outcomes it takes all.
+/// and after its outcomes it takes all. It has room for some bytes; beyond those, it grows.
 #[derive(Drop)]
 pub struct MemoryPort {
     input: Vec<u8>,
@@ -45,41 +46,48 @@ pub struct MemoryPort {
     ghost within: { at ≤ length input.items },
     ghost ended: { ends ≤ receives },
     ghost fewer: { receive_failures ≤ failures },
+    // A place for each outcome that is left.
+    ghost places: { vec_len gone + (length outcomes.items - answered) ≤ vec_capacity gone },
 }
 
 impl MemoryPort {
     ghost use Rattle.fuse_session.specs.Memory.{memory_told, arrivals_left, outcomes_left};
-    ghost use Rattle.fuse_session.specs.Memory.{first_arrival, first_outcome};
+    ghost use Rattle.fuse_session.specs.Memory.{first_arrival, first_outcome, HasRoom};
     ghost use Rattle.fuse_session.specs.Port.{fresh};
 
-    /// All of the input is to come. `confirms`: whether an answer taken whole counts as taken by
-    /// the kernel.
+    /// All of the input is to come, and there is room for so many bytes that are sent. `confirms`:
+    /// whether an answer taken whole counts as taken by the kernel.
     pub fn new(
         alloc: Global,
         input: Vec<u8>,
         arrivals: Vec<Arrival>,
         outcomes: Vec<Outcome>,
         confirms: bool,
-    ) -> MemoryPort
-        ensures told { memory_told result ≡ fresh (Some input.items) (Some []) confirms }
-        ensures arrivals { arrivals_left result ≡ arrivals.items }
-        ensures outcomes { outcomes_left result ≡ outcomes.items }
+        room: usize,
+    ) -> Result<MemoryPort, AllocError>
+        ensures told { IfOk result (λ port. memory_told port
+            ≡ fresh (Some input.items) (Some []) confirms) }
+        ensures arrivals { IfOk result (λ port. arrivals_left port ≡ arrivals.items) }
+        ensures outcomes { IfOk result (λ port. outcomes_left port ≡ outcomes.items) }
+        ensures room { IfOk result (λ port. HasRoom port room) }
     {
-        MemoryPort {
+        let sent = Vec::with_capacity(alloc, room)?;
+        let gone = Vec::with_capacity(alloc, outcomes.len())?;
+        Ok(MemoryPort {
             input,
             at: 0,
             arrivals,
             arrived: 0,
             outcomes,
             answered: 0,
-            sent: Vec::new(alloc),
-            gone: Vec::new(alloc),
+            sent,
+            gone,
             receives: 0,
             failures: 0,
             receive_failures: 0,
             ends: 0,
             confirms,
-        }
+        })
     }
 
     /// The bytes that were sent.
@@ -110,6 +118,8 @@ impl MemoryPort {
         ensures others { arrivals_left self.new ≡ arrivals_left self.old }
         ensures sent { self.new.sent ≡ self.old.sent }
         ensures gone { self.new.gone ≡ self.old.gone }
+        ensures place { result ≡ Outcome.Gone → vec_len self.new.gone
+            + (length self.new.outcomes.items - self.new.answered) < vec_capacity self.new.gone }
     {
         if self.answered < self.outcomes.len() {
             let outcome = self.outcomes[self.answered];
@@ -124,6 +134,7 @@ impl Port for MemoryPort {
     ghost use Rattle.fuse_session.specs.Memory.{memory_told, arrivals_left, outcomes_left};
     ghost use Rattle.fuse_session.specs.Memory.{bytes_left};
     ghost use Rattle.fuse_session.specs.Memory.{first_arrival, first_outcome, received_by, Answers};
+    ghost use Rattle.fuse_session.specs.Memory.{HasRoom, kept_by};
     ghost use Rattle.fuse_session.specs.Port.{IsYoung, Receives, Sends};
     ghost use Rattle.fuse_session.specs.Stepping.{Stepped};
     ghost use Rattle.fuse_session.specs.inner.Stepping.{stepped_path};
@@ -161,7 +172,7 @@ impl Port for MemoryPort {
         Received::Got(n)
     }
 
-    // It grows where it must, and a growth that is refused is a failure.
+    // It grows where its room is used up, and a growth that is refused is a failure.
     fn send(&mut self, bytes: &[u8]) -> Sent
         requires young { IsYoung (memory_told self.old) }
         ensures sent { Sends (memory_told self.old) (memory_told self.new) result bytes.now }
@@ -169,6 +180,9 @@ impl Port for MemoryPort {
         // By its list of outcomes, which is then one shorter.
         ensures answers { Answers self.old (first_outcome (outcomes_left self.old))
             (length bytes.now) result }
+        // What it keeps is taken from its room.
+        ensures room { (more : ℕ) → HasRoom self.old (kept_by (first_outcome
+            (outcomes_left self.old)) (length bytes.now) + more) → HasRoom self.new more }
         ensures left { outcomes_left self.new ≡ drop 1 (outcomes_left self.old) }
         ensures others { arrivals_left self.new ≡ arrivals_left self.old }
     {
@@ -178,16 +192,13 @@ impl Port for MemoryPort {
             Outcome::Gone => bytes,
             Outcome::Failed => &bytes[..0],
         };
-        if outcome == Outcome::Failed
-            || self.gone.reserve(1).is_err()
-            || self.sent.reserve(taken.len()).is_err()
-        {
+        if outcome == Outcome::Failed || self.sent.reserve(taken.len()).is_err() {
             self.failures += 1;
             return Sent::Failed;
         }
         self.sent.extend_from_slice(taken).unwrap();
         if outcome == Outcome::Gone {
-            self.gone.push(self.sent.len() as u64).unwrap();
+            self.gone.push_reserved(self.sent.len() as u64);
             return Sent::Gone;
         }
         if taken.is_empty() && !bytes.is_empty() {

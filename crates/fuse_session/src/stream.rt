@@ -49,8 +49,8 @@ impl<R: Source, W: Sink> StreamPort<R, W> {
 
 impl<R: Source, W: Sink> Port for StreamPort<R, W> {
     ghost use Rattle.fuse_session.specs.Stream.{stream_told};
-    ghost use Rattle.fuse_session.specs.Stepping.{Stepped};
-    ghost use Rattle.fuse_session.specs.inner.Stepping.{stepped_path};
+    ghost use Rattle.fuse_session.specs.StreamSteps.{StreamSteps, sides};
+    ghost use Rattle.fuse_session.specs.inner.Stepping.{stream_path, stream_tells};
     ghost use Rattle.fuse_session.specs.Transcript.{one_receive, one_send};
     ghost use Rattle.fuse_session.specs.Calls.{WasRead, WasSent, stream_read};
     ghost use Rattle.fuse_session.specs.Port.{IsYoung, Receives, Sends};
@@ -58,7 +58,8 @@ impl<R: Source, W: Sink> Port for StreamPort<R, W> {
 
     ghost told = { stream_told R.remaining W.contents };
 
-    ghost became = { Stepped (stream_told R.remaining W.contents) };
+    ghost became = { StreamSteps
+        (sides R.remaining W.contents R.was_read W.was_written W.was_flushed) };
 
     // One read.
     fn receive(&mut self, buffer: &mut [u8]) -> Received
@@ -66,8 +67,8 @@ impl<R: Source, W: Sink> Port for StreamPort<R, W> {
         requires room { max_message ≤ length buffer.old }
         ensures received { Receives (stream_told R.remaining W.contents self.old)
             (stream_told R.remaining W.contents self.new) result buffer.new }
-        ensures same { Stepped (stream_told R.remaining W.contents) self.old self.new
-            (one_receive result buffer.new) }
+        ensures same { StreamSteps (sides R.remaining W.contents R.was_read W.was_written
+            W.was_flushed) self.old self.new (one_receive result buffer.new) }
         // By the result of the read.
         ensures read { WasRead (R.was_read self.old.reader self.new.reader) stream_read
             (R.remaining self.old.reader) (R.remaining self.new.reader) result buffer.new }
@@ -93,8 +94,8 @@ impl<R: Source, W: Sink> Port for StreamPort<R, W> {
         requires young { IsYoung (stream_told R.remaining W.contents self.old) }
         ensures sent { Sends (stream_told R.remaining W.contents self.old)
             (stream_told R.remaining W.contents self.new) result bytes.now }
-        ensures same { Stepped (stream_told R.remaining W.contents) self.old self.new
-            (one_send bytes.now result) }
+        ensures same { StreamSteps (sides R.remaining W.contents R.was_read W.was_written
+            W.was_flushed) self.old self.new (one_send bytes.now result) }
         // By the results of both.
         ensures written { WasSent W.was_written W.was_flushed self.old.writer self.new.writer
             result bytes.now }
@@ -122,7 +123,9 @@ impl<R: Source, W: Sink> Port for StreamPort<R, W> {
         (self.receives, self.failures)
     }
 
-    ghost path = { stepped_path (stream_told R.remaining W.contents) };
+    ghost path = { stream_path
+        (sides R.remaining W.contents R.was_read W.was_written W.was_flushed) };
 
-    ghost tells = { λ a b events steps. steps };
+    ghost tells = { stream_tells
+        (sides R.remaining W.contents R.was_read W.was_written W.was_flushed) };
 }

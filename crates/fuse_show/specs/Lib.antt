@@ -7,4 +7,5 @@ pub mod Names
 pub mod Paths
 pub mod Shown
 pub mod Summary
+pub mod Verdict
 pub mod inner

@@ -1,3 +1,4 @@
 pub mod Pages
 pub mod Finding
 pub mod Writing
+pub mod Going

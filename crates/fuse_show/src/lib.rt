@@ -2,6 +2,7 @@
 //! and a summary.
 #![tactic(auto)]
 
+mod checks;
 mod content;
 mod fault;
 mod laws;
@@ -11,9 +12,13 @@ mod modes;
 mod names;
 mod paths;
 mod summary;
+mod tally;
+mod verify;
 
 pub use content::show_content;
 pub use fault::ShowFault;
 pub use laws::found_once;
 pub use listing::show_listing;
 pub use summary::{Summary, show_summary};
+pub use tally::{Tally, show_tally};
+pub use verify::{VerifyFault, verify_tree};

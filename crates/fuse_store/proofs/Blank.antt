@@ -14,7 +14,7 @@ use Rattle.fuse_store_tables.specs.Layout.{no_schema}
 use Rattle.fuse_store_tables.specs.Making.{IsBare}
 use Rattle.fuse_store_tables.specs.Moves.{RestsAs}
 use Rattle.fuse_store.specs.declared.new_store.NewStore.{NewStore}
-use Rattle.fuse_store.specs.Creating.{IsBlank, LeavesNew}
+use Rattle.fuse_store.specs.Creating.{IsBlank, LeavesNew, origin_of}
 use Rattle.fuse_store.specs.Opening.{Stored, OpenedFor, WasFor}
 use Rattle.fuse_store.specs.Starting.{BegunFor, LeavesStarted, LeavesFresh}
 use Rattle.fuse_store.proofs.Reopening.{has_meta, no_none}
@@ -37,7 +37,7 @@ no_refusal Damaged outside refused = absurd outside
 pub bare_is_blank : (s : State) → RestsAs (IsBare no_schema tt) s → IsBlank s
 bare_is_blank s bare = (bare.autocommit, bare.holds.schema)
 
-pub left_made : (new : NewStore) (a b : State) → ((z : Stored) → WasFor z a → ⊥) → Survives a b (LeavesNew new.kind.profile new.kind.capacity new.now a) → Survives a b (LeavesStarted new a)
+pub left_made : (new : NewStore) (a b : State) → ((z : Stored) → WasFor z a → ⊥) → Survives a b (LeavesNew new.kind.profile new.kind.capacity (origin_of new) a) → Survives a b (LeavesStarted new a)
 left_made new a b none one =
     survives_weaker a b _ (LeavesStarted new a)
     (λ clean db left. record { made = λ blank is_open. left.1 is_open; opened = λ z was. absurd (none z was) }) one
@@ -49,7 +49,7 @@ left_opened new a b stored one =
 
 -- ---- with a mount that begins
 
-pub fresh_made : (new : NewStore) (a b : State) → ((z : Stored) → WasFor z a → ⊥) → Survives a b (LeavesNew new.kind.profile new.kind.capacity new.now a) → Survives a b (LeavesFresh new a)
+pub fresh_made : (new : NewStore) (a b : State) → ((z : Stored) → WasFor z a → ⊥) → Survives a b (LeavesNew new.kind.profile new.kind.capacity (origin_of new) a) → Survives a b (LeavesFresh new a)
 fresh_made new a b none one =
     survives_weaker a b _ (LeavesFresh new a)
     (λ clean db left. record { made = λ blank is_open. left.1 is_open; begun = λ z was. absurd (none z was) }) one

@@ -8,7 +8,7 @@ use Rattle.sqlite.specs.declared.error.Error.{Error}
 use Rattle.sqlite.proofs.StateLemmas.{survives_weaker}
 use Rattle.fuse_keeper.specs.declared.fault.StoreFault.{StoreFault}
 use Rattle.fuse_keeper.specs.Faults.{fault_of}
-use Rattle.fuse_wire.specs.declared.moment.Moment.{Moment}
+use Rattle.fuse_tree.specs.declared.origin.Origin.{Origin}
 use Rattle.fuse_init.specs.declared.profile.Profile.{Profile}
 use Rattle.fuse_init.specs.declared.profile.Profile.TheVariants.{Plain, Everyday}
 use Rattle.fuse_tree.specs.Bounds.{block_bytes}
@@ -30,10 +30,10 @@ no_bytes : (f : Full) (i j : ℕ) → f.content ≡ [] → (b : Bool) → byte_a
 no_bytes f i j none true = rw none refl
 no_bytes f i j none false = refl
 
-new_told : (p : Profile) (capacity : ℕ) (now : Moment) → now.secs < 2 ^ 64
-    → Describes (store_of (new_holding p capacity now)) (new_store (capacity_for p capacity) now)
+new_told : (p : Profile) (capacity : ℕ) (from : Origin) → from.made.secs < 2 ^ 64
+    → Describes (store_of (new_holding p capacity from)) (new_store (capacity_for p capacity) from)
 unfolding rowed
-new_told Plain capacity now low = record {
+new_told Plain capacity from low = record {
   counters = refl;
   nodes = refl;
   entries = refl;
@@ -41,7 +41,7 @@ new_told Plain capacity now low = record {
   answers = refl;
   lots = refl;
   kept = refl;
-  bytes = λ node i. no_bytes (full_of (new_tree Plain capacity now) (root_node now)) (i % block_bytes) i refl (1 == node);
+  bytes = λ node i. no_bytes (full_of (new_tree Plain capacity from) (root_node from)) (i % block_bytes) i refl (1 == node);
   within = tt;
   settings = record { minor = omega arith; readahead = omega arith; flags = omega arith };
   fits = record {
@@ -52,7 +52,7 @@ new_told Plain capacity now low = record {
     kept = tt;
   };
 }
-new_told Everyday capacity now low = record {
+new_told Everyday capacity from low = record {
   counters = refl;
   nodes = refl;
   entries = refl;
@@ -60,7 +60,7 @@ new_told Everyday capacity now low = record {
   answers = refl;
   lots = refl;
   kept = refl;
-  bytes = λ node i. no_bytes (full_of (new_tree Everyday capacity now) (root_node now)) (i % block_bytes) i refl (1 == node);
+  bytes = λ node i. no_bytes (full_of (new_tree Everyday capacity from) (root_node from)) (i % block_bytes) i refl (1 == node);
   within = tt;
   settings = record { minor = omega arith; readahead = omega arith; flags = omega arith };
   fits = record {
@@ -72,24 +72,24 @@ new_told Everyday capacity now low = record {
   };
 }
 
-pub made_new : NewStoreIsTree → (p : Profile) (capacity : ℕ) (now : Moment) → capacity < 2 ^ 51 → now.secs < 2 ^ 64 → (z : ⊤) (d : Database) → IsBare no_schema z d
-    → Retold (IsBare no_schema) (IsNew (capacity_for p capacity) now) (IsBare no_schema) (λ _. HeldFor (new_holding p capacity now)) z d
-made_new is_tree p capacity now fits low z d at = record {
+pub made_new : NewStoreIsTree → (p : Profile) (capacity : ℕ) (from : Origin) → capacity < 2 ^ 51 → from.made.secs < 2 ^ 64 → (z : ⊤) (d : Database) → IsBare no_schema z d
+    → Retold (IsBare no_schema) (IsNew (capacity_for p capacity) from) (IsBare no_schema) (λ _. HeldFor (new_holding p capacity from)) z d
+made_new is_tree p capacity from fits low z d at = record {
   content = z;
   holds = at;
   same = λ e k. k;
   made = λ e k. record {
-    tree = is_tree p capacity now fits;
+    tree = is_tree p capacity from fits;
     below = tt;
     next = omega arith;
-    held = (new_store (capacity_for p capacity) now, k.holds, new_told p capacity now low);
+    held = (new_store (capacity_for p capacity) from, k.holds, new_told p capacity from low);
   };
 }
 
 -- it is of its profile
-pub new_profile : (p : Profile) (capacity : ℕ) (now : Moment) → profile_of (new_tree p capacity now) ≡ p
-new_profile Plain capacity now = refl
-new_profile Everyday capacity now = refl
+pub new_profile : (p : Profile) (capacity : ℕ) (from : Origin) → profile_of (new_tree p capacity from) ≡ p
+new_profile Plain capacity from = refl
+new_profile Everyday capacity from = refl
 
 pub no_transaction : (m : Bool) → true ≡ not m → m ≡ false
 no_transaction false value = refl

@@ -18,13 +18,13 @@ use Rattle.fuse_store_tree.specs.Store.{records_of}
 use Rattle.fuse_store_tree.specs.Holding.{Holding, HeldFor}
 use Rattle.fuse_tree.specs.TheTree.{tree_of}
 use Rattle.fuse_store.specs.declared.new_store.NewStore.{NewStore}
-use Rattle.fuse_store.specs.Creating.{IsBlank, new_holding}
+use Rattle.fuse_store.specs.Creating.{IsBlank, new_holding, origin_of}
 use Rattle.fuse_store.specs.Mounting.{cleared_for}
 use Rattle.fuse_store.specs.Opening.{Stored, OpenedFor, WasFor, FailsToOpen, opened_for}
 
 -- what a new store holds
 abbrev pub holding_for : NewStore → Holding
-holding_for new = new_holding new.kind.profile new.kind.capacity new.now
+holding_for new = new_holding new.kind.profile new.kind.capacity (origin_of new)
 
 -- these trees are those of a new store, where the database was blank, and those of the opened store, where it had one
 pub record LeavesStarted (new : NewStore) (s : State) (db : Trees) : Type 0 where

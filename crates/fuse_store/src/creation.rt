@@ -14,8 +14,7 @@ ghost use Rattle.fuse_store.specs.Creating.{new_holding, IsBlank, LeavesNew, IsT
 use fuse_init::Profile;
 use fuse_keeper::StoreFault;
 use fuse_store_tables::{make_store, try_store};
-use fuse_tree::new_store_is_tree;
-use fuse_wire::Moment;
+use fuse_tree::{Origin, new_store_is_tree};
 use sqlite::{Alter, Connection, Error};
 use sqlite_schema::schema::Schema;
 
@@ -46,38 +45,38 @@ fn wide(number: u64)
 
 // The fault of a new store in a database that has tables: the error of the statement that SQLite
 // refuses. Where it refuses none, the tables have other names, and nothing is made beside them.
-fn refuse_store<S: Alter>(conn: &mut Connection<S>, now: Moment) -> StoreFault
+fn refuse_store<S: Alter>(conn: &mut Connection<S>, from: Origin) -> StoreFault
     ensures alone { LeavesAlone (state S.Store conn.old) (state S.Store conn.new) }
     ensures outside { IsOutside result }
     ensures taken { HasCleanDisk (state S.Store conn.new)
         → (state S.Store conn.old).in_transaction ≡ false
         → HasMetaTable (state S.Store conn.old).now.schema → IsTakenFault result }
 {
-    match try_store(conn, now) {
+    match try_store(conn, from) {
         Ok(()) => StoreFault::Sql(Error::InvalidQuery),
         Err(error) => StoreFault::from(error),
     }
 }
 
-/// Makes a new store in a blank database, with all times at this moment. The commit is its last
-/// call of the database.
+/// Makes a new store of this origin in a blank database. The commit is its last call of the
+/// database.
 pub(crate) fn make_for<S: Alter>(
     conn: &mut Connection<S>,
     profile: Profile,
     capacity: u64,
-    now: Moment,
+    from: Origin,
 ) -> Result<(), StoreFault>
     requires { capacity < 2 ^ 51 }
-    ensures serves { ServesAs (IsBare no_schema) (λ _. HeldFor (new_holding profile capacity now))
+    ensures serves { ServesAs (IsBare no_schema) (λ _. HeldFor (new_holding profile capacity from))
         (state S.Store conn.old) (state S.Store conn.new) result }
     ensures blank { OnOk result (IsBlank (state S.Store conn.old)) }
     ensures was { HasCleanDisk (state S.Store conn.new)
         → OnOk result (IsTrue (state S.Store conn.old).is_open) }
     ensures done { HasCleanDisk (state S.Store conn.new) → OnOk result
         (IsTrue (state S.Store conn.old).is_open
-        → RestsAs (HeldFor (new_holding profile capacity now)) (state S.Store conn.new)) }
+        → RestsAs (HeldFor (new_holding profile capacity from)) (state S.Store conn.new)) }
     ensures crash { Survives (state S.Store conn.old) (state S.Store conn.new)
-        (LeavesNew profile capacity now (state S.Store conn.old)) }
+        (LeavesNew profile capacity from (state S.Store conn.old)) }
     // The fault is out of memory or of SQL.
     ensures outside { IfErr result IsOutside }
     ensures ended { HasCleanDisk (state S.Store conn.new)
@@ -95,12 +94,12 @@ pub(crate) fn make_for<S: Alter>(
         → HasMetaTable (state S.Store conn.old).now.schema → IsErrAnd result IsTakenFault }
 {
     new_store_is_tree();
-    wide(now.secs);
+    wide(from.made.secs);
     if !conn.is_autocommit() {
         return Err(StoreFault::Sql(Error::InvalidQuery));
     }
     if !is_empty(conn.schema()) {
-        return Err(refuse_store(conn, now));
+        return Err(refuse_store(conn, from));
     }
-    make_store(conn, room_for(profile, capacity), now)
+    make_store(conn, room_for(profile, capacity), from)
 }

@@ -18,7 +18,7 @@ ghost use Rattle.fuse_store_tables.specs.Saying.{IsTabled};
 ghost use Rattle.fuse_store_tree.specs.Store.{records_of};
 ghost use Rattle.fuse_store_tree.specs.Holding.{lots_of};
 ghost use Rattle.fuse_tree.specs.State.{profile_of};
-ghost use Rattle.fuse_store.specs.Creating.{IsBlank, IsTakenFault, LeavesNew};
+ghost use Rattle.fuse_store.specs.Creating.{IsBlank, IsTakenFault, LeavesNew, origin_of};
 ghost use Rattle.fuse_store.specs.Opening.{Stored, WasFor};
 ghost use Rattle.fuse_store.specs.Opening.{OpenRefused, KeepsRows, opened_for};
 ghost use Rattle.fuse_store.specs.Starting.{FreshRefused, KeepsNamed, begun_for, holding_for};
@@ -70,7 +70,7 @@ impl<S: Alter> StoreKeeper<S> {
         ensures honest { IfOk result (λ k. (store_told k).is_honest
             → HasCleanDisk (state S.Store conn)) }
         ensures crash { IfErr result (λ r. Survives (state S.Store conn) (state S.Store r.1)
-            (LeavesNew new.kind.profile new.kind.capacity new.now (state S.Store conn))) }
+            (LeavesNew new.kind.profile new.kind.capacity (origin_of new) (state S.Store conn))) }
         ensures kept { IfErr result (λ r. HasCleanDisk (state S.Store r.1)
             → IsTrue (state S.Store r.1).is_open
             → RestsAs (IsBare no_schema tt) (state S.Store conn)
@@ -91,17 +91,16 @@ impl<S: Alter> StoreKeeper<S> {
             → (state S.Store conn).in_transaction ≡ false
             → HasMetaTable (state S.Store conn).now.schema → IsTakenFault r.0) }
     {
+        let from = new.origin();
         match new.kind.profile {
-            Profile::Plain => match TableKeeper::create(alloc, conn, new.kind.capacity, new.now) {
+            Profile::Plain => match TableKeeper::create(alloc, conn, new.kind.capacity, from) {
                 Ok(keeper) => Ok(StoreKeeper::Plain(keeper)),
                 Err(left) => Err(left),
             },
-            Profile::Everyday => {
-                match TableKeeper::create(alloc, conn, new.kind.capacity, new.now) {
-                    Ok(keeper) => Ok(StoreKeeper::Everyday(keeper)),
-                    Err(left) => Err(left),
-                }
-            }
+            Profile::Everyday => match TableKeeper::create(alloc, conn, new.kind.capacity, from) {
+                Ok(keeper) => Ok(StoreKeeper::Everyday(keeper)),
+                Err(left) => Err(left),
+            },
         }
     }
 
@@ -175,8 +174,8 @@ impl<S: Alter> StoreKeeper<S> {
         }
     }
 
-    // The store of a database, for a mount that begins. A fault gives the connection back.
-    pub(crate) fn open_begun(
+    /// The store of a database, for a mount that begins. A fault gives the connection back.
+    pub fn open_begun(
         alloc: Global,
         mut conn: Connection<S>,
     ) -> Result<StoreKeeper<S>, (StoreFault, Connection<S>)>

@@ -16,7 +16,7 @@ use fuse_store_tree::{
     TableLook, answer_at_rest, calls_perform, counts_at_rest, lots_are_read, one_holding, perform,
     room_at_rest, settings_at_rest, size_at_rest,
 };
-use fuse_tree::{Room, rows_tell_state, serves_further};
+use fuse_tree::{Origin, Room, rows_tell_state, serves_further};
 use fuse_wire::{Id, Moment};
 use sqlite::{Alter, Connection};
 use std::alloc::Global;
@@ -60,33 +60,33 @@ impl<P: Profiled, S: Alter> TableKeeper<P, S> {
     ghost use Rattle.fuse_store.specs.TableKeeper.{keeper_told, conn_of, SharesMedium};
     ghost use Rattle.fuse_store.specs.TableKeeper.{FaultsOutside};
 
-    /// A new store in a blank database, made at this moment in one transaction. Of any other it
+    /// A new store of this origin in a blank database, made in one transaction. Of any other it
     /// takes its statements back: the fault is the error of the one that SQLite refuses. A fault
     /// gives the connection back.
     pub fn create(
         alloc: Global,
         mut conn: Connection<S>,
         capacity: u64,
-        now: Moment,
+        from: Origin,
     ) -> Result<TableKeeper<P, S>, (StoreFault, Connection<S>)>
         requires { capacity < 2 ^ 51 }
         ensures stands { IfOk result (λ k. (keeper_told P.PROFILE S.Store k).is_honest
             → IsTrue (state S.Store conn).is_open
-            → StandsFor (keeper_told P.PROFILE S.Store k) (new_store P.PROFILE capacity now) [] []) }
+            → StandsFor (keeper_told P.PROFILE S.Store k) (new_store P.PROFILE capacity from) [] []) }
         ensures medium { IfOk result (λ k. SharesMedium S.Store (conn_of S.Store k) (keeper_told P.PROFILE S.Store k)) }
         ensures going { IfOk result (λ k. (keeper_told P.PROFILE S.Store k).has_failed ≡ false) }
         ensures firm { IfOk result (λ k. (keeper_told P.PROFILE S.Store k).is_honest
             → IsFirm (keeper_told P.PROFILE S.Store k)) }
         ensures lots { IfOk result (λ k. (keeper_told P.PROFILE S.Store k).is_honest
             → IsTrue (state S.Store conn).is_open
-            → SameLots (lots_of None (new_holding P.PROFILE capacity now)) (keeper_told P.PROFILE S.Store k).lots) }
+            → SameLots (lots_of None (new_holding P.PROFILE capacity from)) (keeper_told P.PROFILE S.Store k).lots) }
         ensures blank { IfOk result (λ k. IsBlank (state S.Store conn)) }
         ensures was { IfOk result (λ k. (keeper_told P.PROFILE S.Store k).is_honest
             → IsTrue (state S.Store conn).is_open) }
         ensures honest { IfOk result (λ k. (keeper_told P.PROFILE S.Store k).is_honest
             → HasCleanDisk (state S.Store conn)) }
         ensures crash { IfErr result (λ r. Survives (state S.Store conn) (state S.Store r.1)
-            (LeavesNew P.PROFILE capacity now (state S.Store conn))) }
+            (LeavesNew P.PROFILE capacity from (state S.Store conn))) }
         ensures kept { IfErr result (λ r. HasCleanDisk (state S.Store r.1)
             → IsTrue (state S.Store r.1).is_open
             → RestsAs (IsBare no_schema tt) (state S.Store conn)
@@ -109,7 +109,7 @@ impl<P: Profiled, S: Alter> TableKeeper<P, S> {
     {
         one_holding();
         lots_are_read();
-        match make_for(&mut conn, P::PROFILE, capacity, now) {
+        match make_for(&mut conn, P::PROFILE, capacity, from) {
             Ok(()) => Ok(TableKeeper {
                 look: TableLook {
                     alloc,

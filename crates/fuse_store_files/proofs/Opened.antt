@@ -1,5 +1,5 @@
 -- A store that is opened over any database.
-use Rattle.std.proofs.Common.{◌≡◌, false, true, IsTrue, [], None, Result, Ok, Err, IfOk, codes, inl, inr, sym, ap, subst, ◌∙◌}
+use Rattle.std.proofs.Common.{◌≡◌, false, true, Bool, nat_lt, length, IsTrue, [], None, Result, Ok, Err, IfOk, codes, inl, inr, sym, ap, ◌∙◌}
 use Rattle.sqlite_tied.specs.Compute.{everything}
 use Rattle.std.specs.Option.{is_some}
 use Rattle.sqlite_schema.specs.Names.{table_named}
@@ -14,7 +14,7 @@ use Rattle.fuse_store_tables.specs.Content.{Content}
 use Rattle.fuse_store_tables.specs.Layout.{no_schema}
 use Rattle.fuse_store_tables.specs.Moves.{RestsAs}
 use Rattle.fuse_store_tables.specs.Opening.{IsStored}
-use Rattle.fuse_store_tables.specs.Saying.{IsTabled, has_tables, first_names, second_names}
+use Rattle.fuse_store_tables.specs.Saying.{IsTabled}
 use Rattle.fuse_store_tree.specs.Store.{records_of}
 use Rattle.fuse_store_tree.specs.Holding.{lots_of}
 use Rattle.fuse_tree.specs.TheTree.{tree_of}
@@ -26,11 +26,21 @@ use Rattle.fuse_store.specs.Starting.{BeginsAfter, begun_for, holding_for}
 use Rattle.fuse_store_files.specs.declared.files.Opening.TheVariants.{Existing, Any, Fresh}
 use Rattle.fuse_store_files.specs.inner.Opened.{OpensOver}
 
+abbrev has_any : Schema → Bool
+has_any s = nat_lt 0 (length s.tables)
+
+not_none : (s : Schema) → has_any s ≡ true → s ≡ no_schema → ⊥
+unfolding everything
+not_none s has none = let e : false ≡ true = ap has_any (sym none) ∙ has in absurd (cc)
+
 -- a database with tables isn't blank
 pub tabled_is_not_blank : (d : Database) → d.schema ≡ no_schema → IsTabled d → ⊥
 unfolding everything
-tabled_is_not_blank d none (inl it) = let e : false ≡ true = subst (λ (s : Schema). IsTrue (has_tables first_names s)) none it.1 in absurd (cc)
-tabled_is_not_blank d none (inr it) = let e : false ≡ true = subst (λ (s : Schema). IsTrue (has_tables second_names s)) none it.1 in absurd (cc)
+tabled_is_not_blank d none (inl it) = not_none d.schema (ap has_any it.1) none
+tabled_is_not_blank d none (inr it) = elim it.1 [
+  | inl is ↦ not_none d.schema (ap has_any is) none
+  | inr is ↦ not_none d.schema (ap has_any is) none
+]
 
 -- a store isn't blank
 pub stored_is_not_blank : (s : State) (c : Content) → RestsAs (IsStored c) s → IsBlank s → ⊥

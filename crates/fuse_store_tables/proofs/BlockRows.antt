@@ -44,7 +44,7 @@ use Rattle.fuse_store_tables.proofs.Deletes.{picking, picks}
 -- ---- a new block
 
 abbrev pub insert_text : List ℕ
-insert_text = codes "INSERT INTO blocks VALUES (?1, ?2, ?3)"
+insert_text = codes "INSERT INTO blocks (node, block, bytes) VALUES (?1, ?2, ?3)"
 
 abbrev terms : List Term
 terms = lit Null ∷ col 0 0 ∷ col 0 1 ∷ col 0 2 ∷ []

@@ -6,7 +6,7 @@ use Rattle.std.specs.Ordering.{is_eq, nat_cmp}
 use Rattle.sqlite.specs.State.{State, Survives}
 use Rattle.sqlite.proofs.StateLemmas.{survives_weaker}
 use Rattle.fuse_keeper.specs.declared.fault.StoreFault.{StoreFault}
-use Rattle.fuse_wire.specs.declared.moment.Moment.{Moment}
+use Rattle.fuse_tree.specs.declared.origin.Origin.{Origin}
 use Rattle.fuse_init.specs.declared.profile.Profile.{Profile}
 use Rattle.fuse_init.specs.declared.profile.Profile.TheVariants.{Plain, Everyday}
 use Rattle.fuse_init.specs.Profile.{terms}
@@ -199,30 +199,30 @@ room_meta capacity low = (
 from_zero : (n : ℕ) → 0 ≤ n
 from_zero n = omega arith
 
-new_meta : (room : Option ℕ) → IfSome room (λ capacity. capacity < 2 ^ 51) → (now : Moment) → MetaOf (profile_in (new_store room now)) (new_store room now)
-new_meta None low now = (first_meta, tt)
-new_meta (Some capacity) low now = (room_meta capacity low, (refl, from_zero capacity))
+new_meta : (room : Option ℕ) → IfSome room (λ capacity. capacity < 2 ^ 51) → (from : Origin) → MetaOf (profile_in (new_store room from)) (new_store room from)
+new_meta None low from = (first_meta, tt)
+new_meta (Some capacity) low from = (room_meta capacity low, (refl, from_zero capacity))
 
-new_few : (room : Option ℕ) (now : Moment) → AreFew (new_store room now) (profile_in (new_store room now))
-new_few None now = omega arith
-new_few (Some capacity) now = omega arith
+new_few : (room : Option ℕ) (from : Origin) → AreFew (new_store room from) (profile_in (new_store room from))
+new_few None from = omega arith
+new_few (Some capacity) from = omega arith
 
-new_version : (room : Option ℕ) (now : Moment) → value_at 1 (new_store room now) ≡ 2
-new_version None now = refl
-new_version (Some capacity) now = refl
+new_version : (room : Option ℕ) (from : Origin) → value_at 1 (new_store room from) ≡ 2
+new_version None from = refl
+new_version (Some capacity) from = refl
 
-new_above : (room : Option ℕ) (now : Moment) → AreAbove (new_store room now)
-new_above None now = record { nodes = (one_below_two, tt); handles = tt; entries = tt }
-new_above (Some capacity) now = record { nodes = (one_below_two, tt); handles = tt; entries = tt }
+new_above : (room : Option ℕ) (from : Origin) → AreAbove (new_store room from)
+new_above None from = record { nodes = (one_below_two, tt); handles = tt; entries = tt }
+new_above (Some capacity) from = record { nodes = (one_below_two, tt); handles = tt; entries = tt }
 
-pub fit_new : (room : Option ℕ) (now : Moment) → IfSome room (λ capacity. capacity < 2 ^ 51) → IsFit (new_store room now)
-fit_new room now low = record {
-  version = new_version room now;
-  meta = new_meta room low now;
-  above = new_above room now;
+pub fit_new : (room : Option ℕ) (from : Origin) → IfSome room (λ capacity. capacity < 2 ^ 51) → IsFit (new_store room from)
+fit_new room from low = record {
+  version = new_version room from;
+  meta = new_meta room low from;
+  above = new_above room from;
   lots = tt;
   errnos = tt;
-  few = new_few room now;
+  few = new_few room from;
 }
 
 -- a whole transaction, where the content stays in order

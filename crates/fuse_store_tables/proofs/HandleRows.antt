@@ -40,7 +40,7 @@ use Rattle.fuse_tree.specs.declared.rows.HandleRow.{HandleRow}
 -- ---- a new row
 
 abbrev pub insert_text : List ℕ
-insert_text = codes "INSERT INTO handles VALUES (?1, ?2, ?3)"
+insert_text = codes "INSERT INTO handles (fh, node, access) VALUES (?1, ?2, ?3)"
 
 abbrev insert_terms : List Term
 insert_terms = col 0 0 ∷ lit Null ∷ col 0 1 ∷ col 0 2 ∷ []

@@ -1,61 +1,61 @@
 -- The index of version 2, which an open finds or makes.
-use Rattle.std.proofs.Common.{◌≡◌, inl, inr, ℕ, true, false, Ok, Err, Result, refl, sym, ap, subst, ◌∙◌}
+use Rattle.std.proofs.Common.{◌≡◌, inl, inr, ℕ, Bool, true, false, codes, is_some, Ok, Err, Result, sym, ap, subst, ◌∙◌}
 use Rattle.sqlite.specs.Schema.{Schema}
+use Rattle.sqlite_schema.specs.Names.{index_named}
 use Rattle.sqlite.specs.Effect.{Database}
 use Rattle.sqlite.specs.State.{State}
 use Rattle.sqlite_tied.specs.Compute.{everything}
 use Rattle.fuse_store_tables.specs.Content.{Content, Holds, value_at}
 use Rattle.fuse_store_tables.specs.Moves.{InsideAs, Takes}
 use Rattle.fuse_store_tables.specs.Opening.{IsStored, IsSecond, IsUnindexed, HoldsUnindexed, IsOpened}
-use Rattle.fuse_store_tables.specs.Saying.{has_index}
+use Rattle.fuse_store_tables.specs.Layout.{with_kept, store_schema}
 use Rattle.fuse_store_tables.specs.inner.Performing.{OnlyReads}
 use Rattle.fuse_store_tables.proofs.Either.{sub_from, narrowed_if}
 use Rattle.fuse_store_tables.proofs.MigrationLemmas.{not_both, opened_second}
 
 -- ---- a store has it or lacks it
 
-has_it : (c : Content) (d : Database) → IsSecond c d → has_index d.schema ≡ true
-unfolding everything
-has_it c d h = subst (λ (s : Schema). has_index s ≡ true) (sym h.holds.schema) refl
+abbrev has_index : Schema → Bool
+has_index schema = is_some (index_named schema (codes "entries_in_order"))
 
-lacks_it : (c : Content) (d : Database) → IsUnindexed c d → has_index d.schema ≡ false
+kept_apart : store_schema ≡ with_kept → ⊥
 unfolding everything
-lacks_it c d h = subst (λ (s : Schema). has_index s ≡ false) (sym h.holds.schema) refl
+kept_apart same = absurd (let clash : true ≡ false = ap has_index same in cc)
 
-second_in : (c : Content) (d : Database) → value_at 1 c ≡ 2 → has_index d.schema ≡ true → IsStored c d → IsSecond c d
-second_in c d two has at = elim at [
+second_in : (c : Content) (d : Database) → value_at 1 c ≡ 2 → d.schema ≡ store_schema → IsStored c d → IsSecond c d
+second_in c d two is at = elim at [
   | inl whole ↦ elim whole [
     | inl h ↦ not_both (value_at 1 c) h.old.version two
     | inr h ↦ h
   ]
-  | inr h ↦ absurd (let clash = sym has ∙ lacks_it c d h in cc)
+  | inr h ↦ absurd (kept_apart (sym is ∙ h.holds.schema))
 ]
 
-unindexed_in : (c : Content) (d : Database) → value_at 1 c ≡ 2 → has_index d.schema ≡ false → IsStored c d → IsUnindexed c d
-unindexed_in c d two lacks at = elim at [
+unindexed_in : (c : Content) (d : Database) → value_at 1 c ≡ 2 → d.schema ≡ with_kept → IsStored c d → IsUnindexed c d
+unindexed_in c d two is at = elim at [
   | inl whole ↦ elim whole [
     | inl h ↦ not_both (value_at 1 c) h.old.version two
-    | inr h ↦ absurd (let clash = sym lacks ∙ has_it c d h in cc)
+    | inr h ↦ absurd (kept_apart (sym h.holds.schema ∙ is))
   ]
   | inr h ↦ h
 ]
 
--- where the version is known, and the schema that was asked for the index
+-- where the version is known, and the schema
 module _ (a b : State) (s : Schema) (same : s ≡ a.now.schema) (v : ℕ) (two : v ≡ 2) where
-  pub found_second : has_index s ≡ true → ((c : Content) → InsideAs (IsStored c) a → v ≡ value_at 1 c) → b.now ≡ a.now → (c : Content) → InsideAs (IsStored c) a
+  pub found_second : s ≡ store_schema → ((c : Content) → InsideAs (IsStored c) a → v ≡ value_at 1 c) → b.now ≡ a.now → (c : Content) → InsideAs (IsStored c) a
       → InsideAs (IsStored c) b → InsideAs (IsSecond c) b
-  found_second has value still c at on = record {
+  found_second is value still c at on = record {
     is_open = on.is_open;
     in_transaction = on.in_transaction;
-    holds = subst (IsSecond c) (sym still) (second_in c a.now (sym (value c at) ∙ two) (sym (ap has_index same) ∙ has) at.holds);
+    holds = subst (IsSecond c) (sym still) (second_in c a.now (sym (value c at) ∙ two) (sym same ∙ is) at.holds);
   }
 
-  pub found_unindexed : has_index s ≡ false → ((c : Content) → InsideAs (IsStored c) a → v ≡ value_at 1 c) → b.now ≡ a.now → (c : Content)
+  pub found_unindexed : s ≡ with_kept → ((c : Content) → InsideAs (IsStored c) a → v ≡ value_at 1 c) → b.now ≡ a.now → (c : Content)
       → InsideAs (IsStored c) a → InsideAs (IsStored c) b → InsideAs (IsUnindexed c) b
-  found_unindexed lacks value still c at on = record {
+  found_unindexed is value still c at on = record {
     is_open = on.is_open;
     in_transaction = on.in_transaction;
-    holds = subst (IsUnindexed c) (sym still) (unindexed_in c a.now (sym (value c at) ∙ two) (sym (ap has_index same) ∙ lacks) at.holds);
+    holds = subst (IsUnindexed c) (sym still) (unindexed_in c a.now (sym (value c at) ∙ two) (sym same ∙ is) at.holds);
   }
 
 -- ---- a read, and then the index

@@ -38,7 +38,7 @@ use Rattle.fuse_store_tables.proofs.Deletes.{picking, picks}
 -- ---- a new row
 
 abbrev pub insert_text : List ℕ
-insert_text = codes "INSERT INTO kept VALUES (?1, ?2, ?3, ?4)"
+insert_text = codes "INSERT INTO kept (id, lot, errno, body) VALUES (?1, ?2, ?3, ?4)"
 
 abbrev insert_terms : List Term
 insert_terms = col 0 0 ∷ lit Null ∷ col 0 1 ∷ col 0 2 ∷ col 0 3 ∷ []

@@ -9,6 +9,7 @@ pub mod Ordered
 pub mod Removing
 pub mod Tables
 pub mod Tabled
+pub mod Spelled
 pub mod Joining
 pub mod Deletes
 pub mod Updating

@@ -26,7 +26,7 @@ use Rattle.fuse_store_tables.proofs.RowLemmas.{cast_int, cast_null, inserted}
 -- ---- a new row
 
 abbrev pub insert_text : List ℕ
-insert_text = codes "INSERT INTO lots VALUES (?1)"
+insert_text = codes "INSERT INTO lots (lot) VALUES (?1)"
 
 abbrev insert_terms : List Term
 insert_terms = col 0 0 ∷ lit Null ∷ []

@@ -27,7 +27,7 @@ use Rattle.fuse_store_tables.proofs.Keyed.{put_all_rows, numbered_rows, IsTable-
 use Rattle.fuse_store_tables.proofs.RowLemmas.{cast_int, cast_null, inserted_all}
 
 abbrev pub fill_text : List ℕ
-fill_text = codes "INSERT INTO meta VALUES (1, 2), (2, 2), (3, 1), (4, 3), (5, 1), (6, 0), (7, 0), (8, 0), (9, 0), (10, 0), (11, 1)"
+fill_text = codes "INSERT INTO meta (k, v) VALUES (1, 2), (2, 2), (3, 1), (4, 3), (5, 1), (6, 0), (7, 0), (8, 0), (9, 0), (10, 0), (11, 1)"
 
 abbrev terms : List Term
 terms =

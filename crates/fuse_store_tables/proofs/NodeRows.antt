@@ -43,7 +43,7 @@ use Rattle.fuse_tree.specs.declared.rows.NodeRow.{NodeRow}
 -- ---- a new row
 
 abbrev pub insert_text : List ℕ
-insert_text = codes "INSERT INTO nodes VALUES (?1, ?2, ?3, ?4, ?5, ?6, ?7, ?8, ?9, ?10, ?11, ?12, ?13, ?14)"
+insert_text = codes "INSERT INTO nodes (node, mode, uid, gid, rdev, size, atime, atimensec, mtime, mtimensec, ctime, ctimensec, up, subdirs) VALUES (?1, ?2, ?3, ?4, ?5, ?6, ?7, ?8, ?9, ?10, ?11, ?12, ?13, ?14)"
 
 abbrev insert_terms : List Term
 insert_terms = col 0 0 ∷ lit Null ∷ col 0 1 ∷ col 0 2 ∷ col 0 3 ∷ col 0 4 ∷ col 0 5 ∷ col 0 6 ∷ col 0 7 ∷ col 0 8 ∷ col 0 9 ∷ col 0 10 ∷ col 0 11 ∷ col 0 12

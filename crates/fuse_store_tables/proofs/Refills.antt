@@ -36,7 +36,7 @@ use Rattle.fuse_store_tables.proofs.RowLemmas.{cast_int, cast_null, inserted, in
 -- ---- a row of `meta` more
 
 abbrev pub counter_text : List ℕ
-counter_text = codes "INSERT INTO meta VALUES (?1, ?2)"
+counter_text = codes "INSERT INTO meta (k, v) VALUES (?1, ?2)"
 
 abbrev counter_terms : List Term
 counter_terms = col 0 0 ∷ lit Null ∷ col 0 1 ∷ []
@@ -80,7 +80,7 @@ adds_counter key value = makes Holds store_schema (λ c d h. h.schema) counter_t
 -- ---- the records of version 1
 
 abbrev pub copy_text : List ℕ
-copy_text = codes "INSERT INTO kept SELECT id, 0, errno, body FROM answers ORDER BY id"
+copy_text = codes "INSERT INTO kept (id, lot, errno, body) SELECT id, 0, errno, body FROM answers ORDER BY id"
 
 abbrev copy_terms : List Term
 copy_terms = col 1 0 ∷ lit Null ∷ lit (Int (pos 0)) ∷ col 1 2 ∷ col 1 3 ∷ []

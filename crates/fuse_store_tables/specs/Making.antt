@@ -3,7 +3,7 @@ use Rattle.std.specs.Prelude.{ℕ, List, [], ◌∷◌, ◌++◌, Option, Some, 
 use Rattle.sqlite_trees.specs.Tree.{no_trees}
 use Rattle.sqlite.specs.Effect.{Database}
 use Rattle.sqlite.specs.Schema.{Schema}
-use Rattle.fuse_wire.specs.declared.moment.Moment.{Moment}
+use Rattle.fuse_tree.specs.declared.origin.Origin.{Origin}
 use Rattle.fuse_tree.specs.declared.rows.NodeRow.{NodeRow}
 use Rattle.fuse_store_tables.specs.Content.{Content, Counter, HoldsAs, with_node}
 use Rattle.fuse_store_tables.specs.Opening.{IsSecond}
@@ -22,18 +22,18 @@ first_counters = counter 1 2 ∷ counter 2 2 ∷ counter 3 1 ∷ counter 4 3 ∷
 abbrev pub counters_alone : Content
 counters_alone = record { counters = first_counters; nodes = []; entries = []; blocks = []; handles = []; answers = []; lots = []; kept = [] }
 
--- the first node, a directory, with all its times at this moment
-abbrev pub root : Moment → NodeRow
-root now = record {
+-- the first node, a directory of its owner, with all its times at the moment at which it is made
+abbrev pub root : Origin → NodeRow
+root from = record {
   node = 1;
   mode = 16877;
-  uid = 0;
-  gid = 0;
+  uid = from.owner.uid;
+  gid = from.owner.gid;
   rdev = 0;
   size = 0;
-  atime = now;
-  mtime = now;
-  ctime = now;
+  atime = from.made;
+  mtime = from.made;
+  ctime = from.made;
   up = 0;
   subdirs = 0;
 }
@@ -47,8 +47,8 @@ first_room None = []
 first_room (Some capacity) = room_counters capacity 0
 
 -- with a capacity, of the everyday profile
-abbrev pub new_store : Option ℕ → Moment → Content
-new_store room now = with_node (root now) (record counters_alone { counters = first_counters ++ first_room room })
+abbrev pub new_store : Option ℕ → Origin → Content
+new_store room from = with_node (root from) (record counters_alone { counters = first_counters ++ first_room room })
 
-abbrev pub IsNew : Option ℕ → Moment → ⊤ → Database → Type 0
-IsNew room now _ = IsSecond (new_store room now)
+abbrev pub IsNew : Option ℕ → Origin → ⊤ → Database → Type 0
+IsNew room from _ = IsSecond (new_store room from)

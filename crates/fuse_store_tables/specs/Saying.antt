@@ -1,19 +1,17 @@
--- The databases that are no store, are of another version, or lack a table (own profile).
-use Rattle.std.specs.Prelude.{◌≡◌, ◌≢◌, ◌⊎◌, ℕ, pos, List, [], ◌∷◌, codes, None, Ok, ⊤, Bool, false, IsTrue}
-use Rattle.std.specs.List.{list_all}
-use Rattle.std.specs.Option.{is_some}
+-- The databases that are no store, are of another version, or have other tables than a store (own profile).
+use Rattle.std.specs.Prelude.{◌≡◌, ◌≢◌, ◌⊎◌, ℕ, pos, List, [], ◌∷◌, codes, None, Ok, ⊤}
 use Rattle.std.specs.Int.{w64, cast_signed}
 use Rattle.sqlite.specs.declared.types.Value.{Value}
 use Rattle.sqlite.specs.declared.types.Value.TheVariants.{Int}
 use Rattle.sqlite.specs.Order.{Row, column}
-use Rattle.sqlite.specs.Schema.{Schema}
 use Rattle.sqlite.specs.Effect.{Database, Reads}
 use Rattle.sqlite.specs.Clock.{timed}
 use Rattle.sqlite.specs.Listing.{understood, reads_listing, IsSourceOf}
 use Rattle.sqlite_resolve.specs.declared.compiled.Compiled.{Compiled}
-use Rattle.sqlite_schema.specs.Names.{table_named, index_named}
+use Rattle.sqlite_schema.specs.Names.{table_named}
 use Rattle.fuse_keeper.specs.declared.fault.StoreFault.{StoreFault}
 use Rattle.fuse_keeper.specs.declared.fault.StoreFault.TheVariants.{NotAStore, Version, Damaged}
+use Rattle.fuse_store_tables.specs.Layout.{with_answers, with_kept, store_schema}
 
 abbrev pub version_text : List ℕ
 version_text = codes "SELECT v FROM meta WHERE k = 1"
@@ -55,30 +53,12 @@ IsRefusal (Version n) = ⊤
 IsRefusal Damaged = ⊤
 IsRefusal _ = ⊥
 
--- ---- the tables beside `meta`
+-- ---- the whole schema
 
--- of version 1
-abbrev pub first_names : List (List ℕ)
-first_names = codes "nodes" ∷ codes "entries" ∷ codes "blocks" ∷ codes "handles" ∷ codes "answers" ∷ []
-
--- of version 2
-abbrev pub second_names : List (List ℕ)
-second_names = codes "nodes" ∷ codes "entries" ∷ codes "blocks" ∷ codes "handles" ∷ codes "answers" ∷ codes "lots" ∷ codes "kept" ∷ []
-
--- each of these is a table, and no view
-abbrev pub has_tables : List (List ℕ) → Schema → Bool
-has_tables names schema = list_all (λ name. is_some (table_named schema name)) names
-
--- the index of version 2
-abbrev pub has_index : Schema → Bool
-has_index schema = is_some (index_named schema (codes "entries_in_order"))
-
--- it is of one of the two versions, and has all tables of that version
+-- of version 1 or 2, with the tables and indexes of that version and nothing beside them; the index of version 2 may be missing
 abbrev pub IsTabled : Database → Type 0
-IsTabled d = (ReportsVersion d 1 × IsTrue (has_tables first_names d.schema)) ⊎ (ReportsVersion d 2 × IsTrue (has_tables second_names d.schema))
+IsTabled d = (ReportsVersion d 1 × (d.schema ≡ with_answers)) ⊎ (ReportsVersion d 2 × ((d.schema ≡ store_schema) ⊎ (d.schema ≡ with_kept)))
 
--- with all its tables, of version 1, or of version 2 without its index: only such a database is changed by an opening
+-- the same, of version 1, or of version 2 without its index: only such a database is changed by an opening
 abbrev pub IsToMigrate : Database → Type 0
-IsToMigrate d =
-    (ReportsVersion d 1 × IsTrue (has_tables first_names d.schema))
-    ⊎ (ReportsVersion d 2 × IsTrue (has_tables second_names d.schema) × (has_index d.schema ≡ false))
+IsToMigrate d = (ReportsVersion d 1 × (d.schema ≡ with_answers)) ⊎ (ReportsVersion d 2 × (d.schema ≡ with_kept))

@@ -4,6 +4,7 @@ pub mod Columns
 pub mod Following
 pub mod Performing
 pub mod Rows
+pub mod Shapes
 pub mod Steps
 pub mod Transaction
 pub mod Versions

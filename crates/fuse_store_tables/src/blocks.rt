@@ -16,7 +16,7 @@ use crate::values::pair;
 use sqlite::types::{ToSql, ValueRef};
 use sqlite::{Alter, Connection, Error, Row};
 
-const INSERT: &str = "INSERT INTO blocks VALUES (?1, ?2, ?3)";
+const INSERT: &str = "INSERT INTO blocks (node, block, bytes) VALUES (?1, ?2, ?3)";
 
 const UPDATE: &str = "UPDATE blocks SET bytes = ?3 WHERE node = ?1 AND block = ?2";
 

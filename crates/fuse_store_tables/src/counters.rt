@@ -56,7 +56,7 @@ pub(crate) const CAPACITY: u64 = 13;
 /// The key of the blocks in use.
 pub const USED: u64 = 14;
 
-const INSERT: &str = "INSERT INTO meta VALUES (?1, ?2)";
+const INSERT: &str = "INSERT INTO meta (k, v) VALUES (?1, ?2)";
 
 const UPDATE: &str = "UPDATE meta SET v = ?2 WHERE k = ?1";
 

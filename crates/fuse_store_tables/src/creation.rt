@@ -18,8 +18,7 @@ use crate::nodes::write_node;
 use crate::profile::EVERYDAY;
 use crate::statements::{begin, commit, run, undo};
 use fuse_keeper::StoreFault;
-use fuse_tree::NodeRow;
-use fuse_wire::Moment;
+use fuse_tree::{NodeRow, Origin};
 use sqlite::{Alter, Connection, Error};
 
 const META: &str = "CREATE TABLE meta (k INTEGER PRIMARY KEY, v INTEGER NOT NULL) STRICT";
@@ -51,7 +50,7 @@ pub(crate) const KEPT: &str = "CREATE TABLE kept (id INTEGER PRIMARY KEY, \
 
 pub(crate) const ENTRIES_IN_ORDER: &str = "CREATE INDEX entries_in_order ON entries (dir, cookie)";
 
-const FILL: &str = "INSERT INTO meta VALUES (1, 2), (2, 2), (3, 1), (4, 3), (5, 1), (6, 0), \
+const FILL: &str = "INSERT INTO meta (k, v) VALUES (1, 2), (2, 2), (3, 1), (4, 3), (5, 1), (6, 0), \
     (7, 0), (8, 0), (9, 0), (10, 0), (11, 1)";
 
 fn make_meta<S: Alter>(conn: &mut Connection<S>) -> Result<(), Error>
@@ -158,8 +157,8 @@ fn make_tables<S: Alter>(conn: &mut Connection<S>) -> Result<(), Error>
 }
 
 // The tables and the first rows of a plain store.
-fn make_plain<S: Alter>(conn: &mut Connection<S>, now: Moment) -> Result<(), Error>
-    ensures made { Takes (IsBare no_schema) (IsNew None now) (state S.Store conn.old)
+fn make_plain<S: Alter>(conn: &mut Connection<S>, from: Origin) -> Result<(), Error>
+    ensures made { Takes (IsBare no_schema) (IsNew None from) (state S.Store conn.old)
         (state S.Store conn.new) result }
     ensures within { StaysWithin (state S.Store conn.old) (state S.Store conn.new) result }
     ensures taken { HasCleanDisk (state S.Store conn.new)
@@ -169,13 +168,13 @@ fn make_plain<S: Alter>(conn: &mut Connection<S>, now: Moment) -> Result<(), Err
     let root = NodeRow {
         node: 1,
         mode: 0o040755,
-        uid: 0,
-        gid: 0,
+        uid: from.owner.uid,
+        gid: from.owner.gid,
         rdev: 0,
         size: 0,
-        atime: now,
-        mtime: now,
-        ctime: now,
+        atime: from.made,
+        mtime: from.made,
+        ctime: from.made,
         up: 0,
         subdirs: 0,
     };
@@ -195,13 +194,17 @@ fn add_room<S: Alter>(conn: &mut Connection<S>, capacity: u64) -> Result<(), Err
 }
 
 // The tables and their first rows. A store with a capacity is of the everyday profile.
-fn make_all<S: Alter>(conn: &mut Connection<S>, room: Option<u64>, now: Moment) -> Result<(), Error>
+fn make_all<S: Alter>(
+    conn: &mut Connection<S>,
+    room: Option<u64>,
+    from: Origin,
+) -> Result<(), Error>
     requires { IfSome room (λ capacity. capacity < 2 ^ 51) }
-    ensures made { Takes (IsBare no_schema) (IsNew room now) (state S.Store conn.old)
+    ensures made { Takes (IsBare no_schema) (IsNew room from) (state S.Store conn.old)
         (state S.Store conn.new) result }
     ensures within { StaysWithin (state S.Store conn.old) (state S.Store conn.new) result }
 {
-    make_plain(conn, now)?;
+    make_plain(conn, from)?;
     match room {
         None => Ok(()),
         Some(capacity) => add_room(conn, capacity),
@@ -212,10 +215,10 @@ fn make_all<S: Alter>(conn: &mut Connection<S>, room: Option<u64>, now: Moment) 
 fn transact<S: Alter>(
     conn: &mut Connection<S>,
     room: Option<u64>,
-    now: Moment,
+    from: Origin,
 ) -> Result<(), StoreFault>
     requires { IfSome room (λ capacity. capacity < 2 ^ 51) }
-    ensures performs { PerformsAs (IsBare no_schema) (IsNew room now) (state S.Store conn.old)
+    ensures performs { PerformsAs (IsBare no_schema) (IsNew room from) (state S.Store conn.old)
         (state S.Store conn.new) result }
     ensures fault { IsSafe (IsBare no_schema) (state S.Store conn.old) (state S.Store conn.new)
         result }
@@ -226,20 +229,20 @@ fn transact<S: Alter>(
         → (state S.Store conn.new).in_transaction ≡ false) }
 {
     begin(conn)?;
-    make_all(conn, room, now)?;
+    make_all(conn, room, from)?;
     commit(conn)?;
     Ok(())
 }
 
-/// Makes a new store in a database without tables: an everyday store where it has a capacity, in
-/// blocks, and else a plain one. The commit is its last call of the database.
+/// Makes a new store of this origin in a database without tables: an everyday store where it has a
+/// capacity, in blocks, and else a plain one. The commit is its last call of the database.
 pub fn make_store<S: Alter>(
     conn: &mut Connection<S>,
     room: Option<u64>,
-    now: Moment,
+    from: Origin,
 ) -> Result<(), StoreFault>
     requires { IfSome room (λ capacity. capacity < 2 ^ 51) }
-    ensures serves { ServesAs (IsBare no_schema) (IsNew room now) (state S.Store conn.old)
+    ensures serves { ServesAs (IsBare no_schema) (IsNew room from) (state S.Store conn.old)
         (state S.Store conn.new) result }
     ensures fault { IsSafe (IsBare no_schema) (state S.Store conn.old) (state S.Store conn.new)
         result }
@@ -251,7 +254,7 @@ pub fn make_store<S: Alter>(
     ensures ended { HasCleanDisk (state S.Store conn.new)
         → (state S.Store conn.new).in_transaction ≡ false }
 {
-    match transact(conn, room, now) {
+    match transact(conn, room, from) {
         Ok(()) => Ok(()),
         Err(fault) => {
             undo(conn);
@@ -270,26 +273,26 @@ fn begin_first<S: Alter>(conn: &mut Connection<S>) -> Result<(), Error>
 }
 
 // The transaction without its commit.
-fn attempt<S: Alter>(conn: &mut Connection<S>, now: Moment) -> Result<(), Error>
+fn attempt<S: Alter>(conn: &mut Connection<S>, from: Origin) -> Result<(), Error>
     ensures nothing { CommitsNothing (state S.Store conn.old) (state S.Store conn.new) }
     ensures taken { HasCleanDisk (state S.Store conn.new)
         → (state S.Store conn.old).in_transaction ≡ false
         → HasMetaTable (state S.Store conn.old).now.schema → IsErrAnd result IsNameTaken }
 {
     begin_first(conn)?;
-    make_plain(conn, now)
+    make_plain(conn, from)
 }
 
 /// Makes the statements of a new store in any database, and takes them back. The error is the one
 /// that SQLite gave.
-pub fn try_store<S: Alter>(conn: &mut Connection<S>, now: Moment) -> Result<(), Error>
+pub fn try_store<S: Alter>(conn: &mut Connection<S>, from: Origin) -> Result<(), Error>
     ensures alone { LeavesAlone (state S.Store conn.old) (state S.Store conn.new) }
     // Where the first table is there, its statement is refused.
     ensures taken { HasCleanDisk (state S.Store conn.new)
         → (state S.Store conn.old).in_transaction ≡ false
         → HasMetaTable (state S.Store conn.old).now.schema → IsErrAnd result IsNameTaken }
 {
-    let tried = attempt(conn, now);
+    let tried = attempt(conn, from);
     undo(conn);
     tried
 }

@@ -16,7 +16,7 @@ use fuse_tree::EntryRow;
 use sqlite::types::{ToSql, ValueRef};
 use sqlite::{Alter, Connection, Error, Row};
 
-const INSERT: &str = "INSERT INTO entries VALUES (?1, ?2, ?3, ?4)";
+const INSERT: &str = "INSERT INTO entries (cookie, dir, name, child) VALUES (?1, ?2, ?3, ?4)";
 
 const DELETE: &str = "DELETE FROM entries WHERE cookie = ?1";
 

@@ -91,15 +91,15 @@ pub fn set_up_fresh<S: Alter>(conn: &mut Connection<S>) -> Result<Profile, Store
         → OnOk result (IsTrue (state S.Store conn.old).is_open) }
     ensures says { HasCleanDisk (state S.Store conn.new)
         → IfErr result (Says (state S.Store conn.old).now) }
-    // A store with a damaged `meta`, a counter that would give a number out again, or a missing table
-    // is never opened.
+    // A store with a damaged `meta`, a counter that would give a number out again, or a schema other
+    // than that of its version is never opened.
     ensures whole { HasCleanDisk (state S.Store conn.new) → OnOk result ((c : Content)
         → RestsAs (IsLaid c) (state S.Store conn.old) → HasMeta c) }
     ensures profile { HasCleanDisk (state S.Store conn.new) → IfOk result (λ p. (c : Content)
         → RestsAs (IsLaid c) (state S.Store conn.old) → p ≡ profile_in c) }
     ensures tabled { HasCleanDisk (state S.Store conn.new)
         → OnOk result (IsTabled (state S.Store conn.old).now) }
-    // Only a store with all its tables is changed, however the call ends,
+    // Only a store with the schema of its version is changed, however the call ends,
     ensures alone { (IsTabled (state S.Store conn.old).now → ⊥)
         → LeavesAlone (state S.Store conn.old) (state S.Store conn.new) }
     // and no database that is refused. No transaction is left open.

@@ -21,7 +21,7 @@ use fuse_wire::AccessMode;
 use sqlite::types::{ToSql, ValueRef};
 use sqlite::{Alter, Connection, Error, Row};
 
-const INSERT: &str = "INSERT INTO handles VALUES (?1, ?2, ?3)";
+const INSERT: &str = "INSERT INTO handles (fh, node, access) VALUES (?1, ?2, ?3)";
 
 const DELETE: &str = "DELETE FROM handles WHERE fh = ?1";
 

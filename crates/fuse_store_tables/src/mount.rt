@@ -1,6 +1,6 @@
 // The begin of a mount: all state of the last mount is deleted, in one transaction.
-ghost use Rattle.std.specs.Prelude.{◌≡◌, map, false, List, ℕ, IfErr, OnOk};
-ghost use Rattle.sqlite.specs.State.{HasCleanDisk};
+ghost use Rattle.std.specs.Prelude.{◌≡◌, map, false, List, ℕ, IsTrue, IfErr, OnOk, OnErr};
+ghost use Rattle.sqlite.specs.State.{HasCleanDisk, KeepsCommit};
 ghost use Rattle.sqlite.specs.Held.{state};
 ghost use Rattle.fuse_store_tables.specs.Content.{Holds};
 ghost use Rattle.fuse_store_tables.specs.Faults.{IsOutside, IsPlain};
@@ -139,6 +139,8 @@ fn transact<S: Alter>(conn: &mut Connection<S>) -> Result<(), StoreFault>
     ensures plain { IfErr result IsPlain }
     ensures refused { IfErr result (λ f. IsRefusal f
         → CommitsNothing (state S.Store conn.old) (state S.Store conn.new)) }
+    ensures keeps { OnErr result (HasCleanDisk (state S.Store conn.new)
+        → KeepsCommit (state S.Store conn.old) (state S.Store conn.new)) }
     ensures ended { OnOk result (HasCleanDisk (state S.Store conn.new)
         → (state S.Store conn.new).in_transaction ≡ false) }
 {
@@ -167,6 +169,11 @@ pub fn begin_mount<S: Alter>(conn: &mut Connection<S>) -> Result<(), StoreFault>
         → LeavesAlone (state S.Store conn.old) (state S.Store conn.new)) }
     ensures ended { HasCleanDisk (state S.Store conn.new)
         → (state S.Store conn.new).in_transaction ≡ false }
+    // Where the call fails, what was committed before is seen, whatever the database.
+    ensures undone { OnErr result (HasCleanDisk (state S.Store conn.new)
+        → IsTrue (state S.Store conn.new).is_open
+        → ((state S.Store conn.new).now ≡ (state S.Store conn.old).committed)
+        × ((state S.Store conn.new).committed ≡ (state S.Store conn.old).committed)) }
 {
     match transact(conn) {
         Ok(()) => Ok(()),

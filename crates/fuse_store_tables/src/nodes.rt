@@ -24,8 +24,9 @@ use fuse_tree::NodeRow;
 use sqlite::types::{ToSql, ValueRef};
 use sqlite::{Alter, Connection, Error, Row};
 
-const INSERT: &str =
-    "INSERT INTO nodes VALUES (?1, ?2, ?3, ?4, ?5, ?6, ?7, ?8, ?9, ?10, ?11, ?12, ?13, ?14)";
+const INSERT: &str = "INSERT INTO nodes (node, mode, uid, gid, rdev, size, atime, atimensec, \
+    mtime, mtimensec, ctime, ctimensec, up, subdirs) \
+    VALUES (?1, ?2, ?3, ?4, ?5, ?6, ?7, ?8, ?9, ?10, ?11, ?12, ?13, ?14)";
 
 const UPDATE: &str = "UPDATE nodes SET mode = ?2, uid = ?3, gid = ?4, rdev = ?5, size = ?6, \
     atime = ?7, atimensec = ?8, mtime = ?9, mtimensec = ?10, ctime = ?11, ctimensec = ?12, \

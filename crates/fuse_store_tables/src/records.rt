@@ -27,9 +27,9 @@ use fuse_keeper::StoreFault;
 use sqlite::types::{ToSql, ValueRef};
 use sqlite::{Alter, Connection, Error, Row};
 
-const INSERT: &str = "INSERT INTO kept VALUES (?1, ?2, ?3, ?4)";
+const INSERT: &str = "INSERT INTO kept (id, lot, errno, body) VALUES (?1, ?2, ?3, ?4)";
 
-const INSERT_LOT: &str = "INSERT INTO lots VALUES (?1)";
+const INSERT_LOT: &str = "INSERT INTO lots (lot) VALUES (?1)";
 
 const DELETE: &str = "DELETE FROM kept WHERE id = ?1";
 
@@ -46,7 +46,8 @@ const COUNT: &str = "SELECT count(*) FROM kept";
 
 const COUNT_LOTS: &str = "SELECT count(*) FROM lots";
 
-const COPY_ANSWERS: &str = "INSERT INTO kept SELECT id, 0, errno, body FROM answers ORDER BY id";
+const COPY_ANSWERS: &str = "INSERT INTO kept (id, lot, errno, body) \
+    SELECT id, 0, errno, body FROM answers ORDER BY id";
 
 const DELETE_ANSWERS: &str = "DELETE FROM answers";
 

@@ -1,44 +1,56 @@
-// The tables and the index that a database has.
-ghost use Rattle.std.specs.Prelude.{◌≡◌};
-ghost use Rattle.std.specs.Option.{is_some};
-ghost use Rattle.std.specs.List.{list_all};
-ghost use Rattle.sqlite_schema.specs.Names.{table_named};
-ghost use Rattle.fuse_store_tables.specs.Saying.{has_tables, has_index, first_names, second_names};
+// The schema of a database, compared with that of a store of each version.
+ghost use Rattle.std.specs.Prelude.{◌≡◌, [], Decides};
+ghost use Rattle.fuse_store_tables.specs.Layout.{with_answers, with_kept, store_schema};
+ghost use Rattle.fuse_store_tables.specs.inner.Shapes.{first_tables, all_tables, first_indexes};
+ghost use Rattle.fuse_store_tables.specs.inner.Shapes.{all_indexes};
 
+use crate::layout::{are_all_tables, are_first_indexes, are_indexes, are_tables};
 use sqlite_schema::schema::Schema;
 
-// Whether each of these names is a table's.
-fn has_all(schema: &Schema, names: &[&[u8]]) -> bool
-    ensures { result ≡ list_all (λ name. is_some (table_named schema.now name.now)) names.now }
+fn spells_first(schema: &Schema) -> bool
+    ensures { Decides result (schema.now
+        ≡ record { tables = first_tables; indexes = first_indexes; views = [] }) }
 {
-    names.iter().all(|name| schema.table_named(name).is_some())
+    are_tables(schema.tables.as_slice())
+        && are_first_indexes(schema.indexes.as_slice())
+        && schema.views.is_empty()
 }
 
-/// Whether all tables of version 1 beside `meta` are there.
-pub(crate) fn has_first(schema: &Schema) -> bool
-    ensures { result ≡ has_tables first_names schema.now }
+fn spells_unindexed(schema: &Schema) -> bool
+    ensures { Decides result (schema.now
+        ≡ record { tables = all_tables; indexes = first_indexes; views = [] }) }
 {
-    has_all(
-        schema,
-        &[b"nodes", b"entries", b"blocks", b"handles", b"answers"],
-    )
+    are_all_tables(schema.tables.as_slice())
+        && are_first_indexes(schema.indexes.as_slice())
+        && schema.views.is_empty()
 }
 
-/// Whether all tables of version 2 beside `meta` are there.
-pub(crate) fn has_second(schema: &Schema) -> bool
-    ensures { result ≡ has_tables second_names schema.now }
+fn spells_second(schema: &Schema) -> bool
+    ensures { Decides result (schema.now
+        ≡ record { tables = all_tables; indexes = all_indexes; views = [] }) }
 {
-    has_all(
-        schema,
-        &[
-            b"nodes", b"entries", b"blocks", b"handles", b"answers", b"lots", b"kept",
-        ],
-    )
+    are_all_tables(schema.tables.as_slice())
+        && are_indexes(schema.indexes.as_slice())
+        && schema.views.is_empty()
 }
 
-/// Whether the index of version 2 is there.
-pub(crate) fn has_index(schema: &Schema) -> bool
-    ensures { result ≡ has_index schema.now }
+/// Whether the schema is that of version 1, and has nothing else.
+pub(crate) fn is_first(schema: &Schema) -> bool
+    ensures { Decides result (schema.now ≡ with_answers) }
 {
-    schema.index_named(b"entries_in_order").is_some()
+    spells_first(schema)
+}
+
+/// Whether the schema is that of version 2 without its index, and has nothing else.
+pub(crate) fn is_unindexed(schema: &Schema) -> bool
+    ensures { Decides result (schema.now ≡ with_kept) }
+{
+    spells_unindexed(schema)
+}
+
+/// Whether the schema is that of version 2, and has nothing else.
+pub(crate) fn is_second(schema: &Schema) -> bool
+    ensures { Decides result (schema.now ≡ store_schema) }
+{
+    spells_second(schema)
 }

@@ -19,7 +19,7 @@ ghost use Rattle.fuse_store_tables.specs.inner.Performing.{StaysWithin};
 use crate::meta::find_version;
 use crate::migration::{add_index, migrate};
 use crate::numbers::{check_first, check_second};
-use crate::schema::{has_first, has_index, has_second};
+use crate::schema::{is_first, is_second, is_unindexed};
 use crate::statements::{begin, commit, undo};
 use fuse_init::Profile;
 use fuse_keeper::StoreFault;
@@ -90,9 +90,9 @@ pub(crate) fn work<S: Alter>(conn: &mut Connection<S>) -> Result<Profile, StoreF
     ensures within { StaysWithin (state S.Store conn.old) (state S.Store conn.new) result }
 {
     let schema = conn.schema();
-    let first = has_first(schema);
-    let second = has_second(schema);
-    let indexed = has_index(schema);
+    let first = is_first(schema);
+    let second = is_second(schema);
+    let unindexed = is_unindexed(schema);
     let version = find_version(conn)?;
     if version == 1 {
         if !first {
@@ -103,13 +103,12 @@ pub(crate) fn work<S: Alter>(conn: &mut Connection<S>) -> Result<Profile, StoreF
             Err(fault) => Err(fault),
         }
     } else if version == 2 {
-        if !second {
-            return Err(StoreFault::Damaged);
-        }
-        if indexed {
+        if second {
             open_second(conn)
-        } else {
+        } else if unindexed {
             open_unindexed(conn)
+        } else {
+            Err(StoreFault::Damaged)
         }
     } else {
         Err(StoreFault::Version(version))
@@ -171,8 +170,8 @@ pub fn set_up<S: Alter>(conn: &mut Connection<S>) -> Result<Profile, StoreFault>
         → OnOk result (IsTrue (state S.Store conn.old).is_open) }
     ensures says { HasCleanDisk (state S.Store conn.new)
         → IfErr result (Says (state S.Store conn.old).now) }
-    // A store with a damaged `meta`, a counter that would give a number out again, or a missing table
-    // is never opened.
+    // A store with a damaged `meta`, a counter that would give a number out again, or a schema other
+    // than that of its version is never opened.
     ensures whole { HasCleanDisk (state S.Store conn.new) → OnOk result ((c : Content)
         → RestsAs (IsLaid c) (state S.Store conn.old) → HasMeta c) }
     ensures profile { HasCleanDisk (state S.Store conn.new) → IfOk result (λ p. (c : Content)

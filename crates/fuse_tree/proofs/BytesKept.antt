@@ -412,7 +412,7 @@ module _ (s : State) (h : HoldsBytes s) where
 pub bytes_kept : BytesKept
 unfolding done
 bytes_kept = record {
-  new = λ p capacity now. record { contents = (tt, tt); names = tt };
+  new = λ p capacity from. record { contents = (tt, tt); names = tt };
   kept = λ s request now new h. (offered_keeps s h request now (offer_of request.act) new).bytes;
   mounted = λ s h. record { contents = all_kept (λ n. AreBytes n.content) (λ n. is_named s n.number) s.nodes h.contents; names = h.names };
 }

@@ -1,14 +1,14 @@
 -- A new store is a tree.
 use Rattle.std.proofs.Common.{◌<◌, ℕ, refl, arith}
-use Rattle.fuse_wire.specs.declared.moment.Moment.{Moment}
+use Rattle.fuse_tree.specs.declared.origin.Origin.{Origin}
 use Rattle.fuse_init.specs.declared.profile.Profile.{Profile}
 use Rattle.fuse_init.specs.declared.profile.Profile.TheVariants.{Plain, Everyday}
 use Rattle.fuse_init.specs.Profile.{Terms, terms}
 use Rattle.fuse_tree.specs.Bounds.{capacity_end}
 use Rattle.fuse_tree.specs.State.{Shape, Tree, IsNode, new_store, root_node}
 
-root_is : (t : Terms) (now : Moment) → IsNode t 2 (root_node now)
-root_is t now = record {
+root_is : (t : Terms) (from : Origin) → IsNode t 2 (root_node from)
+root_is t from = record {
   from_one = omega arith;
   below = omega arith;
   mode = record { typed = refl; no_more = omega arith; no_device = λ _. refl };
@@ -16,10 +16,10 @@ root_is t now = record {
   size = omega arith;
 }
 
-new_shape : (p : Profile) (capacity : ℕ) (now : Moment) → capacity < capacity_end → Shape (new_store p capacity now)
-new_shape Plain capacity now low = record {
+new_shape : (p : Profile) (capacity : ℕ) (from : Origin) → capacity < capacity_end → Shape (new_store p capacity from)
+new_shape Plain capacity from low = record {
   root = refl;
-  nodes = (root_is (terms Plain) now, tt);
+  nodes = (root_is (terms Plain) from, tt);
   nodes_rise = (tt, tt);
   entries = tt;
   entries_apart = tt;
@@ -37,9 +37,9 @@ new_shape Plain capacity now low = record {
       };
   space = tt;
 }
-new_shape Everyday capacity now low = record {
+new_shape Everyday capacity from low = record {
   root = refl;
-  nodes = (root_is (terms Everyday) now, tt);
+  nodes = (root_is (terms Everyday) from, tt);
   nodes_rise = (tt, tt);
   entries = tt;
   entries_apart = tt;
@@ -58,5 +58,5 @@ new_shape Everyday capacity now low = record {
   space = record { used = omega arith; bounded = low };
 }
 
-pub new_tree : (p : Profile) (capacity : ℕ) (now : Moment) → capacity < capacity_end → Tree (new_store p capacity now)
-new_tree p capacity now low = record { shape = new_shape p capacity now low; kept = λ _. (refl, tt) }
+pub new_tree : (p : Profile) (capacity : ℕ) (from : Origin) → capacity < capacity_end → Tree (new_store p capacity from)
+new_tree p capacity from low = record { shape = new_shape p capacity from low; kept = λ _. (refl, tt) }

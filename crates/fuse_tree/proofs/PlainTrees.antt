@@ -1,7 +1,7 @@
 -- The tree's plans and mounts, as a file system's.
 use Rattle.std.proofs.Common.{◌≡◌, ℕ, refl, sym, ap, ◌∙◌, arith}
-use Rattle.fuse_tree.specs.State.{State, Tree, profile_for, profile_of, new_store}
-use Rattle.fuse_wire.specs.declared.moment.Moment.{Moment}
+use Rattle.fuse_tree.specs.State.{State, Tree, profile_for, profile_of, new_store, made_at}
+use Rattle.fuse_tree.specs.declared.origin.Origin.{Origin}
 use Rattle.fuse_tree.specs.Bounds.{default_capacity}
 use Rattle.fuse_tree.specs.Do.{done}
 use Rattle.fuse_tree.specs.declared.rows.Planned.{Planned}
@@ -46,15 +46,15 @@ tree_clears p rows rows' clearing is s good are =
     (record { tree = clear.0; profile = good.profile }, is ∙ ap cleared_rows are ∙ sym clear.1)
 
 -- a new store is of the profile that is asked for
-new_of : (p : Profile) (capacity : ℕ) (now : Moment) → profile_of (new_store p capacity now) ≡ p
-new_of Plain capacity now = refl
-new_of Everyday capacity now = refl
+new_of : (p : Profile) (capacity : ℕ) (from : Origin) → profile_of (new_store p capacity from) ≡ p
+new_of Plain capacity from = refl
+new_of Everyday capacity from = refl
 
 -- the model is sound
 pub tree_is_sound : (p : Profile) → AnswersFit → NewStoreIsTree → TreeKept → Clearing → IsSoundModel (tree_of p)
 tree_is_sound p fit new kept clearing = record {
   fits = fit;
-  starts = λ now. record { tree = new p default_capacity now (omega arith); profile = new_of p default_capacity now };
+  starts = λ now. record { tree = new p default_capacity (made_at now) (omega arith); profile = new_of p default_capacity (made_at now) };
   goes_on = λ s asked now is good. let after = kept s asked now good.tree in record { tree = after.0; profile = ap profile_for after.1 ∙ good.profile };
   clears = λ s good. record { tree = (clearing s good.tree).0; profile = good.profile };
 }

@@ -7,6 +7,7 @@ use Rattle.fuse_init.specs.declared.profile.Profile.{Profile}
 use Rattle.fuse_request.specs.Act.{Act, Asked}
 use Rattle.fuse_request.specs.Act as acts
 use Rattle.fuse_tree.specs.State.{State, new_store}
+use Rattle.fuse_tree.specs.declared.origin.Origin.{Origin}
 use Rattle.fuse_tree.specs.Clearing.{cleared}
 use Rattle.fuse_tree.specs.Do.{done}
 
@@ -33,6 +34,6 @@ BringsBytes _ = Unit {0}
 
 -- a new store holds bytes, and requests that bring bytes and mounts leave it so
 pub record BytesKept : Type 0 where
-  pub new : (p : Profile) (capacity : ℕ) (now : Moment) → HoldsBytes (new_store p capacity now)
+  pub new : (p : Profile) (capacity : ℕ) (from : Origin) → HoldsBytes (new_store p capacity from)
   pub kept : (s : State) (request : Asked) (now : Moment) → BringsBytes request.act → HoldsBytes s → HoldsBytes (done s request now).state
   pub mounted : (s : State) → HoldsBytes s → HoldsBytes (cleared s)

@@ -12,6 +12,7 @@ use Rattle.fuse_tree.specs.declared.planning.fault.PlanFault.TheVariants as faul
 use Rattle.fuse_tree.specs.declared.rows.Change.{Change}
 use Rattle.fuse_tree.specs.declared.rows.Change.TheVariants as changes
 use Rattle.fuse_tree.specs.declared.rows.Planned.{Planned}
+use Rattle.fuse_tree.specs.declared.origin.Origin.{Origin}
 use Rattle.fuse_tree.specs.State.{State, Tree, Apart, new_store}
 use Rattle.fuse_tree.specs.Rows.{rowed, apply}
 use Rattle.fuse_tree.specs.Done.{Done}
@@ -54,7 +55,7 @@ TreeKept = (s : State) (request : Asked) (now : Moment) → Tree s → Tree (don
 
 -- a new store is a tree
 abbrev pub NewStoreIsTree : Type 0
-NewStoreIsTree = (p : Profile) (capacity : ℕ) (now : Moment) → capacity < capacity_end → Tree (new_store p capacity now)
+NewStoreIsTree = (p : Profile) (capacity : ℕ) (from : Origin) → capacity < capacity_end → Tree (new_store p capacity from)
 
 -- the rows determine the state
 abbrev pub RowsTellState : Type 0

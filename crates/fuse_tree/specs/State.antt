@@ -17,6 +17,8 @@ use Rattle.fuse_tree.specs.Bounds.{handle_limit, number_end, capacity_end, name_
 use Rattle.fuse_tree.specs.Modes.{s_ifblk, s_ifchr, s_ifdir, s_ififo, s_iflnk, s_ifreg, s_ifsock, type_unit, type_count}
 use Rattle.fuse_tree.specs.declared.rows.EntryRow.{EntryRow}
 use Rattle.fuse_tree.specs.declared.rows.HandleRow.{HandleRow}
+use Rattle.fuse_tree.specs.declared.origin.Owner.{Owner}
+use Rattle.fuse_tree.specs.declared.origin.Origin.{Origin}
 
 -- a node: its size, its links and the directory above are counted, and not kept
 pub record Node : Type 0 where
@@ -53,18 +55,35 @@ profile_of s = profile_for s.capacity
 abbrev pub terms_of : State → Terms
 terms_of s = terms (profile_of s)
 
--- the root of a new store: an empty directory
-abbrev pub root_node : Moment → Node
-root_node now = record { number = fuse_root_id; mode = s_ifdir + 0o755; uid = 0; gid = 0; rdev = 0; atime = now; mtime = now; ctime = now; content = [] }
+-- the owner of a new store where none is named, and a store that is made at this moment then
+abbrev pub superuser : Owner
+superuser = record { uid = 0; gid = 0 }
+
+abbrev pub made_at : Moment → Origin
+made_at now = record { owner = superuser; made = now }
+
+-- the root of a new store: an empty directory of its owner
+abbrev pub root_node : Origin → Node
+root_node from = record {
+  number = fuse_root_id;
+  mode = s_ifdir + 0o755;
+  uid = from.owner.uid;
+  gid = from.owner.gid;
+  rdev = 0;
+  atime = from.made;
+  mtime = from.made;
+  ctime = from.made;
+  content = [];
+}
 
 abbrev pub capacity_for : Profile → ℕ → Option ℕ
 capacity_for Plain capacity = None
 capacity_for Everyday capacity = Some capacity
 
--- a store of this profile that is made at this moment
-abbrev pub new_store : Profile → ℕ → Moment → State
-new_store p capacity now = record {
-  nodes = root_node now ∷ [];
+-- a new store of this profile and origin
+abbrev pub new_store : Profile → ℕ → Origin → State
+new_store p capacity from = record {
+  nodes = root_node from ∷ [];
   entries = [];
   handles = [];
   settings = None;

@@ -9,6 +9,7 @@ mod look;
 mod mode;
 mod mount;
 mod new_node;
+mod origin;
 mod pieces;
 mod plain;
 mod plain_tree;
@@ -33,6 +34,7 @@ pub use mode::{
     S_IFBLK, S_IFCHR, S_IFDIR, S_IFIFO, S_IFLNK, S_IFREG, S_IFSOCK, S_ISGID, TYPE_UNIT, TYPES,
 };
 pub use mount::clearing;
+pub use origin::{Origin, Owner};
 pub use pieces::{Piece, Pieces};
 pub use plain_tree::PlainTree;
 pub use planning::{PlanFault, plan};

@@ -6,10 +6,11 @@ mod nodes;
 
 use crate::agreement::Agreement;
 use crate::look::{Look, LookFault};
+use crate::origin::Origin;
 use crate::plain::nodes::NodeList;
 use crate::rows::{Change, ChangeList, Child, Counters, EntryRow, HandleRow, NodeRow, Room};
 use fuse_init::{Profile, Settings};
-use fuse_wire::{ByteList, Memory, Moment};
+use fuse_wire::{ByteList, Memory};
 use std::alloc::Global;
 
 /// A tree whose rows are kept in lists. Contracts see them as `rows_of`.
@@ -34,18 +35,18 @@ impl PlainRows {
     ghost use Rattle.fuse_tree.specs.Clearing.{cleared_rows, cleared_room};
     ghost use Rattle.fuse_tree.specs.PlainRows.{rows_of, fault_of};
 
-    /// A new store of this profile and capacity, made at this moment.
+    /// A new store of this profile, capacity and origin.
     pub(crate) fn new(
         alloc: Global,
         profile: Profile,
         capacity: u64,
-        now: Moment,
+        from: Origin,
     ) -> Result<PlainRows, Memory>
-        ensures rows { IfOk result (λ p. rows_of p ≡ rowed (new_store profile capacity now)) }
+        ensures rows { IfOk result (λ p. rows_of p ≡ rowed (new_store profile capacity from)) }
         ensures fault { IfOk result (λ p. fault_of p ≡ None) }
     {
         let mut nodes = NodeList::new(alloc);
-        nodes.put(alloc, nodes::root_row(now))?;
+        nodes.put(alloc, nodes::root_row(from))?;
         Ok(PlainRows {
             alloc,
             nodes,

@@ -10,6 +10,7 @@ ghost use Rattle.fuse_tree.specs.inner.Causing.{CausedBy};
 use crate::laws::{answers_fit, new_store_is_tree, tree_kept};
 use crate::limits::DEFAULT_CAPACITY;
 use crate::mount::clearing;
+use crate::origin::Origin;
 use crate::plain::PlainRows;
 use crate::planning::{PlanFault, plan};
 use crate::terms::serves_further;
@@ -29,12 +30,12 @@ pub struct PlainTree<P> {
 }
 
 impl<P: Profiled> PlainTree<P> {
-    /// A new one with this capacity, in blocks, made at this moment. A plain tree has none.
-    pub fn sized(alloc: Global, now: Moment, capacity: u64) -> Result<PlainTree<P>, Memory>
-        ensures held { IfOk result (λ t. tree_held t ≡ rowed (new_store P.PROFILE capacity now)) }
+    /// A new one of this origin with this capacity, in blocks. A plain tree has none.
+    pub fn sized(alloc: Global, from: Origin, capacity: u64) -> Result<PlainTree<P>, Memory>
+        ensures held { IfOk result (λ t. tree_held t ≡ rowed (new_store P.PROFILE capacity from)) }
         ensures ready { IfOk result (λ t. fault_of t.rows ≡ None) }
     {
-        let rows = PlainRows::new(alloc, P::PROFILE, capacity, now)?;
+        let rows = PlainRows::new(alloc, P::PROFILE, capacity, from)?;
         Ok(PlainTree {
             rows,
             of: PhantomData,
@@ -65,7 +66,7 @@ impl<P: Profiled> FileSystem for PlainTree<P> {
     }
 
     fn start(alloc: Global, now: Moment) -> Result<PlainTree<P>, Memory> {
-        PlainTree::sized(alloc, now, DEFAULT_CAPACITY)
+        PlainTree::sized(alloc, Origin::at(now), DEFAULT_CAPACITY)
     }
 
     fn act(

@@ -1,12 +1,28 @@
-//! A second line on standard error: the file that was refused, and the cause, as far as it is known.
+//! A second line on standard error: the file that was refused, the cause, as far as it is known, and what
+//! can be done about it.
 
 use crate::snapshot::has_journal;
 use fuse_commands::{Cause, Ending, Run, STANDARD_INPUT, Work};
 use std::fs::{self, OpenOptions};
+use std::io::Read;
 use std::os::unix::fs::MetadataExt;
 use std::{fmt, io};
 
 const NONE_THERE: &str = ": No such file or directory";
+
+// The first bytes of a database of SQLite.
+const DATABASE: [u8; 16] = *b"SQLite format 3\0";
+
+const CORRUPT: &str =
+    " is damaged: a page is missing or wrong. Go back to a copy, or try .recover of sqlite3";
+
+const DAMAGED: &str =
+    " is damaged: its rows contradict each other. Go back to a copy, or look at them with sqlite3";
+
+const OTHER_VERSION: &str =
+    " is a store of a version that this program doesn't know: it knows 1 and 2";
+
+const CHANGING: &str = " was written by a server each time that it was read: try again";
 
 // A file, and what is said of it.
 #[derive(Clone, Copy)]
@@ -128,22 +144,103 @@ fn say_of_store(rt: &HostRuntime, file: &str, writes: bool, ending: Ending) {
         Ending::Sql(Cause::InUse) => say(rt, file, " is in use by another server"),
         Ending::Sql(Cause::NoRoom) => say(rt, file, ": no room left"),
         Ending::Sql(Cause::InputOutput) => say(rt, file, ": input/output error"),
-        Ending::NotAStore => {
-            if matches!(fs::exists(rt, file), Ok(false)) {
-                say(rt, file, NONE_THERE);
-            }
-        }
+        Ending::Sql(Cause::Corrupt) => say(rt, file, CORRUPT),
+        Ending::NotAStore => say(rt, file, stranger_text(rt, file)),
+        Ending::Version(_) => say(rt, file, OTHER_VERSION),
+        Ending::Damaged => say(rt, file, DAMAGED),
+        Ending::Busy => say(rt, file, CHANGING),
+        Ending::Memory => say_memory(rt, file, writes),
         _ => {}
     }
 }
 
+// Whether a file begins as a database of SQLite does.
+fn is_database(rt: &HostRuntime, path: &str) -> bool {
+    let Ok(mut file) = fs::open(rt, path) else {
+        return false;
+    };
+    let mut first = [0; 16];
+    matches!(file.read(&mut first), Ok(16)) && first == DATABASE
+}
+
+// Why a file is no store.
+fn stranger_text(rt: &HostRuntime, file: &str) -> &'static str {
+    match fs::metadata(rt, file) {
+        Err(error) if error.kind() == io::ErrorKind::NotFound => NONE_THERE,
+        Ok(found) if found.len() == 0 => " is empty: serve --fresh makes a store in it",
+        _ if is_database(rt, file) => " is a database of SQLite, and no store of this program",
+        _ => " is no database of SQLite",
+    }
+}
+
+// How much memory a command over the store in a file wants.
+#[derive(Clone, Copy)]
+struct MemoryLine<'a> {
+    path: &'a str,
+    size: u64,
+    writes: bool,
+}
+
+impl fmt::Display for MemoryLine<'_> {
+    fn fmt<W: fmt::Write>(&self, f: &mut fmt::Formatter<W>) -> fmt::Result {
+        let size = self.size;
+        write!(f, "{} and its log have {size} bytes: ", self.path)?;
+        if self.writes {
+            write!(f, "a server wants as many, and some 30 MB more")
+        } else {
+            let copies = size.saturating_mul(3);
+            write!(
+                f,
+                "a look at a copy in memory wants some {copies}, and 10 MB more"
+            )
+        }
+    }
+}
+
+// The size of a file, 0 where there is none.
+fn size_at(rt: &HostRuntime, path: &str) -> u64 {
+    match fs::metadata(rt, path) {
+        Ok(found) => found.len(),
+        Err(_) => 0,
+    }
+}
+
+// The memory that was wanted for the store in a file and for its log. Where there is none to name the
+// log, that is said of the file alone.
+fn say_memory(rt: &HostRuntime, file: &str, writes: bool) {
+    let log = match format!(in rt.alloc(); "{file}-wal") {
+        Ok(path) => size_at(rt, path.as_str()),
+        Err(_) => 0,
+    };
+    let size = size_at(rt, file).saturating_add(log);
+    let _ = rt.eprintln(MemoryLine {
+        path: file,
+        size,
+        writes,
+    });
+}
+
 // The cause of a fault of the input.
 fn say_of_input(rt: &HostRuntime, input: &str, ending: Ending) {
-    if !matches!(ending, Ending::PortFailed) || input == STANDARD_INPUT {
+    if input == STANDARD_INPUT {
         return;
     }
-    if let Some(text) = refusal_of(rt, input, false) {
-        say(rt, input, text);
+    match ending {
+        Ending::PortFailed => {
+            if let Some(text) = refusal_of(rt, input, false) {
+                say(rt, input, text);
+            }
+        }
+        Ending::TooLong { at: 0, .. } | Ending::ScriptLine { line: 1 } => {
+            if is_database(rt, input) {
+                say(
+                    rt,
+                    input,
+                    " is a database, and no stream or script: fusekeep store sums up a store",
+                );
+            }
+        }
+        _ => {}
     }
 }
 
@@ -151,9 +248,10 @@ fn say_of_input(rt: &HostRuntime, input: &str, ending: Ending) {
 pub(crate) fn say_cause(rt: &HostRuntime, run: Run<'_>, ending: Ending) {
     match run {
         Run::Serve { db, .. } => say_of_store(rt, db, true, ending),
-        Run::Store { file } | Run::List { file, .. } | Run::Cat { file, .. } => {
-            say_of_store(rt, file, false, ending)
-        }
+        Run::Store { file }
+        | Run::List { file, .. }
+        | Run::Cat { file, .. }
+        | Run::Verify { file } => say_of_store(rt, file, false, ending),
         Run::Read { input, work } => {
             if let Work::Replay { db: Some(file), .. } = work {
                 say_of_store(rt, file, true, ending);

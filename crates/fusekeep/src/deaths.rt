@@ -1,5 +1,5 @@
 //! The deaths of a store's servers, which `fusekeep-mount` lists in a file beside the store: a line
-//! for each, with a word `restart=SECONDS` if another server was ready after it.
+//! for each, with a word `lived=SECONDS`, and `restart=SECONDS` if another server was ready after it.
 
 use std::io::{self, Write};
 use std::{fmt, fs};
@@ -63,6 +63,16 @@ fn restart_in(line: &[u8]) -> Option<u64> {
     None
 }
 
+// Whether a line is that of a death. Others say what else befell the mount.
+fn is_death(line: &[u8]) -> bool {
+    for word in line.split(|b| *b == b' ') {
+        if word.strip_prefix(b"lived=").is_some() {
+            return true;
+        }
+    }
+    false
+}
+
 // The deaths of a list, a line for each.
 fn sum_up(list: &[u8]) -> Deaths {
     let mut deaths = Deaths {
@@ -70,7 +80,7 @@ fn sum_up(list: &[u8]) -> Deaths {
         longest: None,
     };
     for line in list.split(|b| *b == b'\n') {
-        if !line.is_empty() {
+        if is_death(line) {
             deaths.count = deaths.count.saturating_add(1);
             deaths.longest = deaths.longest.max(restart_in(line));
         }

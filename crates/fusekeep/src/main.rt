@@ -23,7 +23,7 @@ use fuse_store::StoreKind;
 use fuse_store_files::StoreFiles;
 use fuse_wire::Moment;
 use serve::serve_as_asked;
-use show::show_file;
+use show::{show_file, verify_file};
 use sqlite::{Files, Start, Unknown, Wary};
 use sqlite_disk::Memory;
 use std::alloc::Global;
@@ -118,6 +118,7 @@ fn run_command(rt: &HostRuntime, asked: Run<'_>, kind: StoreKind) -> Ending {
         Run::Store { file } => show_file(rt, file, Show::Summary),
         Run::List { file, path } => show_file(rt, file, Show::Directory(path)),
         Run::Cat { file, path } => show_file(rt, file, Show::File(path)),
+        Run::Verify { file } => verify_file(rt, file),
         Run::Read { input, work } => run_on_input(rt, input, work, kind),
     }
 }

@@ -1,9 +1,9 @@
-//! The commands `store`, `ls` and `cat`: a summary, a directory or a file of a store.
+//! The commands `store`, `ls` and `cat`: a summary, a directory or a file of a store. And `verify`.
 
 use crate::deaths::show_deaths;
 use crate::snapshot::read_store;
 use fuse_commands::Ending;
-use fuse_files::{Show, show_store};
+use fuse_files::{Show, show_store, verify_store};
 use std::io::{self, BufWriter};
 
 /// Shows a part of the store in a file.
@@ -21,4 +21,15 @@ pub(crate) fn show_file(rt: &HostRuntime, file: &str, show: Show<'_>) -> Ending 
         return Ending::PortFailed;
     }
     ending
+}
+
+/// Verifies the store in a file.
+pub(crate) fn verify_file(rt: &HostRuntime, file: &str) -> Ending {
+    let Ok(mut writer) = BufWriter::new(rt.alloc(), io::writer(rt)) else {
+        return Ending::Memory;
+    };
+    match read_store(rt, file) {
+        Ok(read) => verify_store(rt.alloc(), read, &mut writer),
+        Err(ending) => ending,
+    }
 }

@@ -1,5 +1,5 @@
 -- Answers that are sent on a line, of which some are lost (own profile).
-use Rattle.std.specs.Prelude.{◌≡◌, ◌⊎◌, ◌<◌, ◌+◌, ℕ, ◌-◌, ◌==◌, if◌then◌else◌, List, [], ◌∷◌, ◌++◌, vec_capacity, vec_len}
+use Rattle.std.specs.Prelude.{◌≡◌, ◌⊎◌, ◌<◌, ◌≤◌, ◌+◌, ℕ, ◌-◌, ◌==◌, if◌then◌else◌, List, [], ◌∷◌, ◌++◌, vec_capacity, vec_len}
 use Rattle.fuse_request.specs.Stream.{joined}
 use Rattle.lossy_port.specs.declared.line.Line.{Line}
 
@@ -27,6 +27,9 @@ pub record Delivers (old new : Line) (answers : List (List ℕ)) : Type 0 where
   pub every : new.every ≡ old.every
   pub left : new.left ≡ lost_after old.every old.left answers
 
--- so many more bytes don't fit what it has allocated
+-- so many more bytes fit what it has allocated, or don't
+abbrev pub HasRoom : Line → ℕ → Type 0
+HasRoom l n = (vec_len l.sent + n ≤ vec_capacity l.sent) × (vec_len l.delivered + n ≤ vec_capacity l.delivered)
+
 abbrev pub LacksRoom : Line → ℕ → Type 0
 LacksRoom l n = (vec_capacity l.sent < vec_len l.sent + n) ⊎ (vec_capacity l.delivered < vec_len l.delivered + n)

@@ -8,7 +8,7 @@ use Rattle.fuse_session.specs.Port.{PortState}
 use Rattle.fuse_session.specs.Stepping.{Stepped}
 use Rattle.fuse_session.specs.Transcript.{PortEvent, Received, Handed}
 use Rattle.lossy_port.specs.declared.port.LossyPort.{LossyPort}
-use Rattle.lossy_port.specs.Losing.{Delivers, LacksRoom}
+use Rattle.lossy_port.specs.Losing.{Delivers, HasRoom, LacksRoom}
 
 -- an answer that is lost after the port was sent all the same; so that an answer was sent does not settle it
 abbrev pub lossy_told : LossyPort → PortState
@@ -43,6 +43,10 @@ every_of p = p.line.every
 -- the place of the next answer to be lost: 1 is the very next, 0 none
 abbrev pub next_lost : LossyPort → ℕ
 next_lost p = p.line.left
+
+-- so many more bytes fit what it has allocated
+abbrev pub HasRoomFor : LossyPort → ℕ → Type 0
+HasRoomFor p n = HasRoom p.line n
 
 -- a slice is taken whole; or nothing of it, where it doesn't fit what is allocated
 abbrev pub Passes : LossyPort → LossyPort → List ℕ → Sent → Type 0

@@ -1,6 +1,6 @@
 // A line on which answers are lost.
-ghost use Rattle.std.specs.Prelude.{◌≡◌, [], OnOk, OnErr, length};
-ghost use Rattle.lossy_port.specs.Losing.{LacksRoom};
+ghost use Rattle.std.specs.Prelude.{◌≡◌, ◌+◌, ℕ, [], IfOk, OnOk, OnErr, length};
+ghost use Rattle.lossy_port.specs.Losing.{HasRoom, LacksRoom};
 ghost use Rattle.lossy_port.specs.inner.OneAnswer.{Takes, Stays};
 
 use std::alloc::{AllocError, Global};
@@ -17,18 +17,20 @@ pub(crate) struct Line {
 }
 
 impl Line {
-    pub(crate) fn new(alloc: Global, every: u32) -> Line
-        ensures sent { result.sent.items ≡ [] }
-        ensures delivered { result.delivered.items ≡ [] }
-        ensures every { result.every ≡ every }
-        ensures left { result.left ≡ every }
+    /// It has room for so many bytes.
+    pub(crate) fn new(alloc: Global, every: u32, room: usize) -> Result<Line, AllocError>
+        ensures sent { IfOk result (λ line. line.sent.items ≡ []) }
+        ensures delivered { IfOk result (λ line. line.delivered.items ≡ []) }
+        ensures every { IfOk result (λ line. line.every ≡ every) }
+        ensures left { IfOk result (λ line. line.left ≡ every) }
+        ensures room { IfOk result (λ line. HasRoom line room) }
     {
-        Line {
-            sent: Vec::new(alloc),
-            delivered: Vec::new(alloc),
+        Ok(Line {
+            sent: Vec::with_capacity(alloc, room)?,
+            delivered: Vec::with_capacity(alloc, room)?,
             every,
             left: every,
-        }
+        })
     }
 
     pub(crate) fn sent(&self) -> &[u8]
@@ -49,6 +51,8 @@ impl Line {
         ensures ok { OnOk result (Takes self.old self.new answer.now) }
         ensures err { OnErr result (Stays self.old self.new) }
         ensures full { OnErr result (LacksRoom self.old (length answer.now)) }
+        ensures room { (more : ℕ) → HasRoom self.old (length answer.now + more)
+            → HasRoom self.new more }
     {
         self.delivered.reserve(answer.len())?;
         self.sent.reserve(answer.len())?;

@@ -1,9 +1,9 @@
 // A port that loses answers.
-ghost use Rattle.std.specs.Prelude.{◌≡◌, ◌≢◌, ◌≤◌, [], Some, false, length};
+ghost use Rattle.std.specs.Prelude.{◌≡◌, ◌≢◌, ◌≤◌, ◌+◌, ℕ, [], Some, false, length, IfOk};
 
 use crate::line::Line;
 use fuse_session::{Port, Received, Sent};
-use std::alloc::Global;
+use std::alloc::{AllocError, Global};
 
 /// Gives a list of bytes, and takes every answer. On the way from it each answer of some number is
 /// lost, as where a server dies before the kernel has its answer.
@@ -23,23 +23,31 @@ pub struct LossyPort {
 impl LossyPort {
     ghost use Rattle.fuse_session.specs.Port.{fresh};
     ghost use Rattle.lossy_port.specs.Lossy.{lossy_told, delivered_of, every_of, next_lost};
+    ghost use Rattle.lossy_port.specs.Lossy.{HasRoomFor};
 
     /// All of the input is to come. Each answer of this number is lost, as the third, the sixth and
-    /// so on at 3; at 0 none is.
-    pub fn new(alloc: Global, input: Vec<u8>, every: u32) -> LossyPort
-        ensures told { lossy_told result ≡ fresh (Some input.items) (Some []) false }
-        ensures delivered { delivered_of result ≡ [] }
-        ensures every { every_of result ≡ every }
-        ensures next { next_lost result ≡ every }
+    /// so on at 3; at 0 none is. There is room for so many bytes that are sent.
+    pub fn new(
+        alloc: Global,
+        input: Vec<u8>,
+        every: u32,
+        room: usize,
+    ) -> Result<LossyPort, AllocError>
+        ensures told { IfOk result (λ port. lossy_told port
+            ≡ fresh (Some input.items) (Some []) false) }
+        ensures delivered { IfOk result (λ port. delivered_of port ≡ []) }
+        ensures every { IfOk result (λ port. every_of port ≡ every) }
+        ensures next { IfOk result (λ port. next_lost port ≡ every) }
+        ensures room { IfOk result (λ port. HasRoomFor port room) }
     {
-        LossyPort {
+        Ok(LossyPort {
             input,
             at: 0,
-            line: Line::new(alloc, every),
+            line: Line::new(alloc, every, room)?,
             receives: 0,
             failures: 0,
             ends: 0,
-        }
+        })
     }
 
     /// The bytes that it took.
@@ -61,6 +69,7 @@ impl Port for LossyPort {
     ghost use Rattle.fuse_session.specs.Port.{IsYoung, Receives, Sends};
     ghost use Rattle.fuse_session.specs.Transcript.{one_receive, one_send};
     ghost use Rattle.lossy_port.specs.Lossy.{lossy_told, bytes_left, received_by, Passes};
+    ghost use Rattle.lossy_port.specs.Lossy.{HasRoomFor};
     ghost use Rattle.lossy_port.specs.Lossy.{Delivered};
     ghost use Rattle.lossy_port.specs.inner.Laws.{delivered_path, delivered_tells};
 
@@ -88,7 +97,7 @@ impl Port for LossyPort {
         Received::Got(n)
     }
 
-    // It fails where it is out of memory.
+    // It grows where its room is used up, and fails where that is refused.
     fn send(&mut self, bytes: &[u8]) -> Sent
         requires young { IsYoung (lossy_told self.old) }
         requires some { bytes.now ≢ [] }
@@ -96,6 +105,9 @@ impl Port for LossyPort {
         ensures same { Delivered self.old self.new (one_send bytes.now result) }
         // All of it is taken, and gets through unless it is lost; or where it lacks room, nothing.
         ensures passes { Passes self.old self.new bytes.now result }
+        // What it takes is taken from its room.
+        ensures room { (more : ℕ) → HasRoomFor self.old (length bytes.now + more)
+            → HasRoomFor self.new more }
     {
         match self.line.take(bytes) {
             Ok(()) => Sent::Took(bytes.len()),

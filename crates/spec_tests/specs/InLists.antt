@@ -2,7 +2,7 @@
 use Rattle.std.specs.Prelude.{◌≡◌, ℕ, List, [], ◌++◌, length, Option}
 use Rattle.std.specs.Io.KnownBytes.{Appends}
 use Rattle.fuse_request.specs.Opcodes.{no_others}
-use Rattle.fuse_tree.specs.State.{State, new_store}
+use Rattle.fuse_tree.specs.State.{State, made_at, new_store}
 use Rattle.fuse_init.specs.declared.profile.Profile.TheVariants.{Plain}
 use Rattle.fuse_tree.specs.TheTree.{tree_of}
 use Rattle.fuse_sim.specs.declared.event.Event.{Event}
@@ -15,7 +15,7 @@ use Rattle.fuse_commands.specs.Simulating.{outcome_lines, outcomes_of, state_aft
 
 -- the new store
 abbrev pub start : State
-start = new_store Plain 0 (record { secs = 0; nanos = 0 })
+start = new_store Plain 0 (made_at (record { secs = 0; nanos = 0 }))
 
 -- a line for each event, then the counts of the tree
 abbrev pub tree_text : State → List Event → List ℕ

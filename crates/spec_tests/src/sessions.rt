@@ -133,7 +133,17 @@ fn serve_on<K: Keeper>(alloc: Global, keeper: &mut K, session: Session) -> Seen 
         return FAILED;
     }
     let peer = session.peer;
-    let mut port = MemoryPort::new(alloc, session.input, peer.arrivals, peer.outcomes, false);
+    let room = session.wanted.len();
+    let Ok(mut port) = MemoryPort::new(
+        alloc,
+        session.input,
+        peer.arrivals,
+        peer.outcomes,
+        false,
+        room,
+    ) else {
+        return FAILED;
+    };
     let served = serve(alloc, keeper, &mut port, &mut Fixed(AT_1000), 1000);
     Seen {
         ended: kind_of(&served.ended),
@@ -149,7 +159,17 @@ fn resume_on(alloc: Global, keeper: &mut TreeKeeper, session: Session, now: Mome
         return FAILED;
     }
     let peer = session.peer;
-    let mut port = MemoryPort::new(alloc, session.input, peer.arrivals, peer.outcomes, false);
+    let room = session.wanted.len();
+    let Ok(mut port) = MemoryPort::new(
+        alloc,
+        session.input,
+        peer.arrivals,
+        peer.outcomes,
+        false,
+        room,
+    ) else {
+        return FAILED;
+    };
     let ended = match resume(keeper, &mut port) {
         Ok(()) => kind_of(&serve(alloc, keeper, &mut port, &mut Fixed(now), 1000).ended),
         Err(fault) => kind_of_resume(&fault),

@@ -69,6 +69,9 @@ fn has_records(keeper: &mut Counted, count: u64) -> bool {
     matches!(keeper.counts(), Ok(counts) if counts.records == count)
 }
 
+// For the answers of a session.
+const ROOM: usize = 65_536;
+
 // The pieces in which bytes arrive, the outcome of each send, and whether the port confirms.
 type Peer = (Vec<Arrival>, Vec<Outcome>, bool);
 
@@ -77,7 +80,9 @@ fn serves(alloc: Global, keeper: &mut Counted, input: Vec<u8>, peer: Peer, fails
     if keeper.failed() {
         return false;
     }
-    let mut port = MemoryPort::new(alloc, input, peer.0, peer.1, peer.2);
+    let Ok(mut port) = MemoryPort::new(alloc, input, peer.0, peer.1, peer.2, ROOM) else {
+        return false;
+    };
     match serve(alloc, keeper, &mut port, &mut Fixed(AT_1000), 1000).ended {
         Ended::End => !fails,
         Ended::PortFailed => fails,

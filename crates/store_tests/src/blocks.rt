@@ -2,9 +2,12 @@
 use crate::stores::number;
 use fuse_keeper::StoreFault;
 use fuse_store_tables::{insert_block, make_store, write_block};
+use fuse_tree::Origin;
 use fuse_wire::Moment;
 use sqlite::{Connection, MemStore};
 use std::alloc::Global;
+
+const START: Moment = Moment { secs: 0, nanos: 0 };
 
 // 100 times the number of blocks, plus the sum of their numbers.
 const BLOCKS: &str =
@@ -12,7 +15,7 @@ const BLOCKS: &str =
 
 fn begun(alloc: Global) -> Result<Connection<MemStore>, StoreFault> {
     let mut conn = Connection::open_in_memory(alloc)?;
-    make_store(&mut conn, None, Moment { secs: 0, nanos: 0 })?;
+    make_store(&mut conn, None, Origin::at(START))?;
     fuse_store_tables::begin(&mut conn)?;
     Ok(conn)
 }

@@ -4,6 +4,7 @@ use fuse_init::PlainProfile;
 use fuse_store::{StoreFault, TableKeeper};
 use fuse_store_tables::{sum_sizes, try_store};
 use fuse_store_tree::size_at_rest;
+use fuse_tree::Origin;
 use fuse_wire::Moment;
 use sqlite::{Connection, Error, MemStore};
 use std::alloc::Global;
@@ -21,7 +22,7 @@ fn after(alloc: Global, statement: &str) -> Result<Connection<MemStore>, StoreFa
 
 // The fault of a new store over a database, and how much is listed there afterwards.
 fn refused(alloc: Global, conn: Connection<MemStore>) -> Result<(StoreFault, i64), StoreFault> {
-    match TableKeeper::<PlainProfile, _>::create(alloc, conn, 0, START) {
+    match TableKeeper::<PlainProfile, _>::create(alloc, conn, 0, Origin::at(START)) {
         Ok(_) => Err(StoreFault::Damaged),
         Err((fault, mut conn)) => {
             let listed = number(&mut conn, TABLES)?;
@@ -45,7 +46,7 @@ fn is_alone(alloc: Global) -> Result<bool, StoreFault> {
 // The statements alone, over nothing.
 fn is_tried(alloc: Global) -> Result<bool, StoreFault> {
     let mut conn = Connection::open_in_memory(alloc)?;
-    try_store(&mut conn, START)?;
+    try_store(&mut conn, Origin::at(START))?;
     Ok(number(&mut conn, TABLES)? == 0)
 }
 
@@ -62,7 +63,12 @@ fn a_store_over_another(rt: HostRuntime) -> Result<(), StoreFault> {
 // The size of all contents of a new store, and of one whose root has five bytes.
 fn sizes(alloc: Global) -> Result<[u64; 4], StoreFault> {
     let conn = Connection::open_in_memory(alloc)?;
-    let mut keeper = match TableKeeper::<PlainProfile, _>::create(alloc, conn, 0, START) {
+    let mut keeper = match TableKeeper::<PlainProfile, _>::create(
+        alloc,
+        conn,
+        0,
+        Origin::at(START),
+    ) {
         Ok(keeper) => keeper,
         Err((fault, _)) => return Err(fault),
     };

@@ -8,6 +8,7 @@ use fuse_store::{
     Done, Keeper, NewStore, Restart, StoreFault, StoreKeeper, StoreKind, TableKeeper,
 };
 use fuse_store_files::{CrashKeeper, Opening, StoreFiles, close_store, open_store};
+use fuse_tree::Origin;
 use fuse_wire::{Id, Moment};
 use sqlite::{Alter, Connection, FileStore, Files, Options, Unknown};
 use sqlite_disk::{Disk, Memory};
@@ -154,7 +155,7 @@ fn made(
     alloc: Global,
     options: Options,
 ) -> Result<TableKeeper<PlainProfile, MemFiles>, StoreFault> {
-    match TableKeeper::create(alloc, connected(alloc, options)?, 0, START) {
+    match TableKeeper::create(alloc, connected(alloc, options)?, 0, Origin::at(START)) {
         Ok(keeper) => Ok(keeper),
         Err((fault, _)) => Err(fault),
     }

@@ -2,6 +2,7 @@
 use fuse_init::PlainProfile;
 use fuse_request::{InHeader, InitIn, Op, Request};
 use fuse_store::{Done, Keeper, Restart, StoreFault, TableKeeper};
+use fuse_tree::Origin;
 use fuse_wire::{Id, Moment};
 use sqlite::{Connection, MemStore};
 use std::alloc::Global;
@@ -19,7 +20,7 @@ type MemKeeper = TableKeeper<PlainProfile, MemStore>;
 
 fn made(alloc: Global) -> Result<MemKeeper, StoreFault> {
     let conn = Connection::open_in_memory(alloc)?;
-    match TableKeeper::create(alloc, conn, 0, START) {
+    match TableKeeper::create(alloc, conn, 0, Origin::at(START)) {
         Ok(keeper) => Ok(keeper),
         Err((fault, _)) => Err(fault),
     }

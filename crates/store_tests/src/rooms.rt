@@ -10,7 +10,7 @@ use fuse_store_tables::{
     NEXT_NODE, USED, begin_mount, delete_node, insert_handle, insert_node, make_store,
     select_handles_of, set_up, update_counter,
 };
-use fuse_tree::{HandleRow, NodeRow};
+use fuse_tree::{HandleRow, NodeRow, Origin, Owner};
 use fuse_wire::{AccessMode, Moment};
 use sqlite::{Connection, MemStore};
 use std::alloc::Global;
@@ -23,12 +23,38 @@ const ROOM: &str =
 
 const NODES: &str = "SELECT count(*) FROM nodes";
 
-fn made(alloc: Global, room: Option<u64>) -> Result<Connection<MemStore>, StoreFault>
+fn made_for(
+    alloc: Global,
+    room: Option<u64>,
+    owner: Owner,
+) -> Result<Connection<MemStore>, StoreFault>
     requires { IfSome room (λ capacity. capacity < capacity_end) }
 {
     let mut conn = Connection::open_in_memory(alloc)?;
-    make_store(&mut conn, room, START)?;
+    make_store(&mut conn, room, Origin { owner, made: START })?;
     Ok(conn)
+}
+
+fn made(alloc: Global, room: Option<u64>) -> Result<Connection<MemStore>, StoreFault>
+    requires { IfSome room (λ capacity. capacity < capacity_end) }
+{
+    made_for(alloc, room, Owner::SUPERUSER)
+}
+
+// The owner of the root of a new store, as one number.
+fn owner_in(alloc: Global, owner: Owner) -> Result<i64, StoreFault> {
+    let mut conn = made_for(alloc, Some(30), owner)?;
+    Ok(number(&mut conn, "SELECT 10000000000 * uid + gid FROM nodes")?)
+}
+
+#[test]
+fn an_owner(rt: HostRuntime) -> Result<(), StoreFault> {
+    let owner = Owner {
+        uid: 1000,
+        gid: 4_294_967_295,
+    };
+    assert_eq!(rt; owner_in(rt.alloc(), owner)?, 10_004_294_967_295);
+    Ok(())
 }
 
 // The profile and the room of a new store.

@@ -4,6 +4,7 @@ use crate::observations::observe;
 use crate::requests::{START, messages, part};
 use fuse_init::PlainProfile;
 use fuse_store::{Keeper, PlainKeeper, PlainTree, StoreFault, TableKeeper};
+use fuse_tree::Origin;
 use sqlite::{Alter, Connection, Error};
 use std::alloc::Global;
 
@@ -130,7 +131,7 @@ type Started<S> = Result<TableKeeper<PlainProfile, S>, (StoreFault, Connection<S
 // The keeper of a store of this version, which is made where there is none.
 fn start<S: Alter + Drop>(alloc: Global, conn: Connection<S>, version: i64) -> Started<S> {
     if version == 0 {
-        TableKeeper::create(alloc, conn, 0, START)
+        TableKeeper::create(alloc, conn, 0, Origin::at(START))
     } else {
         TableKeeper::open(alloc, conn)
     }

@@ -157,6 +157,8 @@ impl<F: FileSystem> Keeper for TwoCopies<F> {
         ensures firm { OnOk result ((two_told F.model F.held self.new).is_honest
             → IsFirm (two_told F.model F.held self.new)) }
         ensures same { IsLater self.old self.new 0 }
+        // A fault of its own doesn't change what its medium gives back.
+        ensures honest { (two_told F.model F.held self.new).is_honest }
         // Its working copy is asked, unless the last commit failed.
         ensures asks { (two_told F.model F.held self.old).is_clean → WorkingAsked F.model F.held
             self.old self.new (ids_of settled.now) (entries_of group.now) }
@@ -193,6 +195,7 @@ impl<F: FileSystem> Keeper for TwoCopies<F> {
         ensures firm { OnOk result ((two_told F.model F.held self.new).is_honest
             → IsFirm (two_told F.model F.held self.new)) }
         ensures same { IsLater self.old self.new 0 }
+        ensures honest { (two_told F.model F.held self.new).is_honest }
         ensures follows { Follows F.model F.held self.old self.new result }
         // Where it stands, a fault is out of memory, or that of a commit that was planned to fail.
         ensures by_plan { (s : F.model.State) (h : History) (t : List ℕ)

@@ -7,6 +7,8 @@ use Rattle.fuse_session.specs.DevicePort.{device_told}
 use Rattle.fuse_session.specs.DeviceSteps.{DeviceStep, DeviceSteps}
 use Rattle.fuse_session.specs.Port.{PortState}
 use Rattle.fuse_session.specs.Stepping.{Stepped, Chain}
+use Rattle.fuse_session.specs.StreamSteps.{Sides, told_by, StreamStep, StreamSteps}
+use Rattle.fuse_session.specs.declared.stream.StreamPort.{StreamPort}
 use Rattle.fuse_session.specs.Transcript.{PortEvent, Received, Handed, Step, Steps, IsTranscript, Tells}
 
 pub steps_more : (a b c : PortState) (xs ys : List PortEvent) → Steps a b xs → Steps b c ys → Steps a c (xs ++ ys)
@@ -41,3 +43,13 @@ device_step was_read was_written a b (Handed slice result) one = one.sends
 pub device_tells : {R W : Type 0} (was_read : R → R → Result ℕ Error → List ℕ → Type 0) (was_written : W → W → Result ℕ Error → List ℕ → Type 0)
     → Tells device_told (λ (a b : DevicePort R W) events. DeviceSteps was_read was_written a b events)
 device_tells was_read was_written = chain_tells device_told (DeviceStep was_read was_written) (device_step was_read was_written)
+
+pub stream_path : {R W : Type 0} (s : Sides R W) → IsTranscript (λ (a b : StreamPort R W) events. StreamSteps s a b events)
+stream_path s = chain_path (StreamStep s)
+
+stream_step : {R W : Type 0} (s : Sides R W) (a b : StreamPort R W) (e : PortEvent) → StreamStep s a b e → Step (told_by s a) (told_by s b) e
+stream_step s a b (Received result bytes) one = record { buffer = one.buffer; came = one.came; receives = one.receives }
+stream_step s a b (Handed slice result) one = one.sends
+
+pub stream_tells : {R W : Type 0} (s : Sides R W) → Tells (told_by s) (λ (a b : StreamPort R W) events. StreamSteps s a b events)
+stream_tells s = chain_tells (told_by s) (StreamStep s) (stream_step s)

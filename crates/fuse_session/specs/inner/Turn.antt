@@ -10,7 +10,7 @@ use Rattle.fuse_session.specs.declared.port.Sent.{Sent}
 use Rattle.fuse_session.specs.Transcript.{Received, sends_of, Gave}
 use Rattle.fuse_session.specs.Deeds.{Deeds}
 use Rattle.fuse_session.specs.Starts.{Kept, HoldsUnder}
-use Rattle.fuse_session.specs.Passage.{Passage}
+use Rattle.fuse_session.specs.Passage.{Passage, doing}
 use Rattle.fuse_session.specs.Ended.{ended_store, IsIntact}
 use Rattle.fuse_session.specs.Serving.{Waiting, KeepsFirm, Whole, Run}
 use Rattle.fuse_session.specs.Ends.{EndsNot, EndsAs, receive_failed, counts_at}
@@ -57,10 +57,12 @@ pub record TurnPassed {M : Model} (p : Passage M) (before after : Waiting) (coun
 
 -- the session ended
 pub record TurnEnded {M : Model} (p : Passage M) (before : Waiting) (served : Served) : Type 0 where
-  pub life : Run (in_one_turn p) before served.ended
+  pub deeds : Deeds
+  pub done : OneTurn p.did deeds
+  pub life : Run (doing p deeds) before served.ended
   pub counts : SessionCounts
   pub below : IsBelow counts (2 ^ 20)
-  pub ends : EndsAs (in_one_turn p) before 0 served.ended counts
+  pub ends : EndsAs (doing p deeds) before 0 served.ended counts
   pub told_are : served.counts ≡ counts_at (receive_failed p.port p.port') served.ended counts
   pub at_most : p.port.confirms ≡ true → IsIntact p.keeper' served.ended → (kept : Kept) → HandsOn kept p.keeper before.pending
       → HoldsUnder kept p.keeper'

@@ -10,7 +10,7 @@ use Rattle.fuse_answer.specs.Bodies.{entry_bytes, attr_out_bytes}
 use Rattle.fuse_answer.specs.declared.records.Attr.{Attr}
 use Rattle.fuse_init.specs.declared.settings.Settings.{Settings}
 use Rattle.fuse_init.specs.declared.profile.Profile.TheVariants as profiles
-use Rattle.fuse_tree.specs.State.{State, new_store}
+use Rattle.fuse_tree.specs.State.{State, new_store, made_at}
 use Rattle.fuse_tree.specs.Do.{done}
 
 abbrev pub at : ℕ → Moment
@@ -34,9 +34,12 @@ init major minor flags flags2 = acts.Init (record { major = major; minor = minor
 abbrev pub after_init : State → Act → State
 after_init s a = (done s (asks 2 0 a) (at 1000)).state
 
+abbrev pub unmounted : State
+unmounted = new_store profiles.Plain 0 (made_at (at 0))
+
 -- init-agreed, on which the other examples stand
 abbrev pub first : State
-first = after_init (new_store profiles.Plain 0 (at 0)) (init 7 40 0x40002021 (Some 0x80))
+first = after_init unmounted (init 7 40 0x40002021 (Some 0x80))
 
 abbrev pub agrees : ℕ → ℕ → Option Settings
 agrees minor flags = Some (record { minor = minor; max_readahead = 131072; flags = record { 0 = flags } })
@@ -45,11 +48,11 @@ abbrev pub Inits : Type 0
 Inits =
     (first.settings ≡ agrees 40 (2 ^ 0 + 2 ^ 5 + 2 ^ 30 + 2 ^ 39))
     × ((after_init first (init 7 31 0x21 None)).settings ≡ agrees 31 (2 ^ 0 + 2 ^ 5))
-    × ((after_init (new_store profiles.Plain 0 (at 0)) (init 8 0 0x21 None)).settings ≡ None)
+    × ((after_init unmounted (init 8 0 0x21 None)).settings ≡ None)
     × ((after_init first (init 8 0 0x21 None)).settings ≡ first.settings)
-    × ((done (new_store profiles.Plain 0 (at 0)) (asks 2 0 (init 7 22 0x21 None)) (at 1000)).said ≡ refuses eproto)
-    × ((done (new_store profiles.Plain 0 (at 0)) (asks 4 1 (acts.Getattr 0 0)) (at 1000)).said ≡ refuses eproto)
-    × ((done (new_store profiles.Plain 0 (at 0)) (asks 4 9 acts.Destroy) (at 1000)).said ≡ refuses eproto)
+    × ((done unmounted (asks 2 0 (init 7 22 0x21 None)) (at 1000)).said ≡ refuses eproto)
+    × ((done unmounted (asks 4 1 (acts.Getattr 0 0)) (at 1000)).said ≡ refuses eproto)
+    × ((done unmounted (asks 4 9 acts.Destroy) (at 1000)).said ≡ refuses eproto)
 
 -- ---- first-run: MKDIR of `a` at 1000 s
 

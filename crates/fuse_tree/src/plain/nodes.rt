@@ -1,9 +1,10 @@
 use crate::limits::ROOT_ID;
 use crate::mode::S_IFDIR;
+use crate::origin::Origin;
 use crate::plain::chunks::Chunks;
 use crate::rows::{Child, EntryRow, Full, NodeRow};
 use crate::space::blocks_of;
-use fuse_wire::{ByteList, Memory, Moment};
+use fuse_wire::{ByteList, Memory};
 use std::alloc::Global;
 use std::marker::Model;
 
@@ -171,19 +172,19 @@ ghost use Rattle.fuse_tree.specs.Clearing.{blocks_freed};
 ghost use Rattle.fuse_tree.specs.Rows.{row_of, content_of};
 
 /// The root of a new store.
-pub(super) fn root_row(now: Moment) -> NodeRow
-    ensures { (p : Profile) (capacity : ℕ) → result ≡ row_of (new_store p capacity now) (root_node now) }
+pub(super) fn root_row(from: Origin) -> NodeRow
+    ensures { (p : Profile) (capacity : ℕ) → result ≡ row_of (new_store p capacity from) (root_node from) }
 {
     NodeRow {
         node: ROOT_ID,
         mode: S_IFDIR + 0o755,
-        uid: 0,
-        gid: 0,
+        uid: from.owner.uid,
+        gid: from.owner.gid,
         rdev: 0,
         size: 0,
-        atime: now,
-        mtime: now,
-        ctime: now,
+        atime: from.made,
+        mtime: from.made,
+        ctime: from.made,
         up: 0,
         subdirs: 0,
     }

@@ -38,6 +38,9 @@ fn messages(alloc: Global, uniques: &[u64]) -> Result<Vec<u8>, AllocError> {
     Ok(out)
 }
 
+// For the answers of a session.
+const ROOM: usize = 4096;
+
 // Serves these messages in pieces of `size` bytes, if the keeper has not failed.
 fn serve_on(
     alloc: Global,
@@ -50,7 +53,7 @@ fn serve_on(
     for _ in uniques {
         arrivals.push(Arrival::Piece(piece))?;
     }
-    let mut port = MemoryPort::new(alloc, input, arrivals, Vec::new(alloc), false);
+    let mut port = MemoryPort::new(alloc, input, arrivals, Vec::new(alloc), false, ROOM)?;
     if !keeper.failed() {
         serve(alloc, keeper, &mut port, &mut Fixed(NOW), 10);
     }

@@ -60,7 +60,8 @@ fn serves(
     }
     let arrivals = Vec::new(alloc);
     let outcomes = Vec::new(alloc);
-    let mut port = MemoryPort::new(alloc, session.input, arrivals, outcomes, false);
+    let room = session.wanted.len();
+    let mut port = MemoryPort::new(alloc, session.input, arrivals, outcomes, false, room)?;
     let served = serve_files(alloc, keeper, &mut port, &mut Fixed(NOW), 1000);
     let is_end = matches!(served.ended, Ended::End);
     Ok(is_end && port.sent() == session.wanted.as_slice() && served.counts == Some(counts))

@@ -63,7 +63,7 @@ fn serves(
     if keeper.failed() {
         return Ok([false; 4]);
     }
-    let mut port = LossyPort::new(alloc, life.input, every);
+    let mut port = LossyPort::new(alloc, life.input, every, life.sent.len())?;
     let served = serve(alloc, keeper, &mut port, &mut Fixed(NOW), 1000);
     Ok([
         matches!(served.ended, Ended::End) && port.tally() == (2, 0),

@@ -83,7 +83,11 @@ const BOTH: &[u8; 32] = b"\x10\0\0\0\x07\0\0\0\0\0\0\0\0\0\0\0\x10\0\0\0\x08\0\0
 
 // `resume` under settings of this minor, over a port with these outcomes: the port after it, and
 // whether it succeeds.
-fn resumed_at(alloc: Global, minor: u32, outcomes: Vec<Outcome>) -> (MemoryPort, bool) {
+fn resumed_at(
+    alloc: Global,
+    minor: u32,
+    outcomes: Vec<Outcome>,
+) -> Result<(MemoryPort, bool), AllocError> {
     let settings = Settings {
         minor,
         max_readahead: 131072,
@@ -93,18 +97,20 @@ fn resumed_at(alloc: Global, minor: u32, outcomes: Vec<Outcome>) -> (MemoryPort,
         settings,
         failed: false,
     };
-    let mut port = MemoryPort::new(alloc, Vec::new(alloc), Vec::new(alloc), outcomes, false);
+    let none = Vec::new(alloc);
+    let mut port = MemoryPort::new(alloc, none, Vec::new(alloc), outcomes, false, BOTH.len())?;
     let resumed = resume(&mut keeper, &mut port).is_ok();
-    (port, resumed)
+    Ok((port, resumed))
 }
 
 #[test]
-fn notices_by_minor(rt: HostRuntime) {
+fn notices_by_minor(rt: HostRuntime) -> Result<(), AllocError> {
     let alloc = rt.alloc();
-    let (older, old) = resumed_at(alloc, 43, Vec::new(alloc));
-    let (newer, new) = resumed_at(alloc, 44, Vec::new(alloc));
+    let (older, old) = resumed_at(alloc, 43, Vec::new(alloc))?;
+    let (newer, new) = resumed_at(alloc, 44, Vec::new(alloc))?;
     assert!(rt; old && older.sent() == NOTICE.as_slice());
     assert!(rt; new && newer.sent() == BOTH.as_slice());
+    Ok(())
 }
 
 // The port takes a whole notice, and fails at the next.
@@ -112,7 +118,7 @@ fn notices_by_minor(rt: HostRuntime) {
 fn epoch_not_sent(rt: HostRuntime) -> Result<(), AllocError> {
     let alloc = rt.alloc();
     let outcomes = [Outcome::Take(16), Outcome::Failed].to_vec(alloc)?;
-    let (port, resumed) = resumed_at(alloc, 44, outcomes);
+    let (port, resumed) = resumed_at(alloc, 44, outcomes)?;
     assert!(rt; !resumed && port.sent() == NOTICE.as_slice());
     Ok(())
 }

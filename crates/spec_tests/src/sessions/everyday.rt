@@ -151,7 +151,8 @@ fn answers(alloc: Global, pairs: &[Pair]) -> Result<bool, StoreFault> {
         put_hex(&mut wanted, answer)?;
     }
     let mut keeper = new_everyday_keeper(alloc)?;
-    let mut port = MemoryPort::new(alloc, input, arrivals, Vec::new(alloc), false);
+    let room = wanted.len();
+    let mut port = MemoryPort::new(alloc, input, arrivals, Vec::new(alloc), false, room)?;
     if keeper.failed() {
         return Ok(false);
     }

@@ -8,7 +8,7 @@ use Rattle.fuse_files.proofs.simulating.new_keeper.Goals as goal
 pub returns-in-Ok-create-clause-stands : goal.returns-in-Ok-create-clause-stands
 returns-in-Ok-create-clause-stands g c =
     let made = c.in-Ok-create.ensures in
-    subst (λ k. (keeper_told g.P.Profiled.PROFILE over_files k).is_honest → StandsFor (keeper_told g.P.Profiled.PROFILE over_files k) (new_state g.P.Profiled.PROFILE c.args.capacity) [] []) (sym c.new.ensures)
+    subst (λ k. (keeper_told g.P.Profiled.PROFILE over_files k).is_honest → StandsFor (keeper_told g.P.Profiled.PROFILE over_files k) (new_state g.P.Profiled.PROFILE c.args.kind) [] []) (sym c.new.ensures)
     (λ honest. made.stands honest (made.was honest))
 
 pub returns-in-Ok-create-clause-firm : goal.returns-in-Ok-create-clause-firm

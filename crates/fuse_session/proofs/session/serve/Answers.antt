@@ -1,10 +1,10 @@
-use Rattle.std.proofs.Common.{◌∙◌, ◌+◌, ◌-◌, ◌*◌, ◌^◌, [], ap, arith, length, refl, sym, subst}
+use Rattle.std.proofs.Common.{◌∙◌, ◌≡◌, ◌+◌, ◌-◌, ◌*◌, ◌^◌, [], ap, arith, length, refl, sym, subst}
 use Rattle.fuse_keeper.specs.Stands.{Records}
 use Rattle.fuse_keeper.specs.Group.{ids_of}
 use Rattle.fuse_request.specs.Framing.{fed_of}
 use Rattle.fuse_session.specs.declared.ended.Ended.TheVariants.{Memory, Turns}
 use Rattle.fuse_session.specs.Counting.{plus, none_counted}
-use Rattle.fuse_session.specs.Deeds.{Deeds, Did}
+use Rattle.fuse_session.specs.Deeds.{Deeds}
 use Rattle.fuse_session.specs.Serving.{nothing_waits}
 use Rattle.fuse_session.specs.Starts.{Kept}
 use Rattle.fuse_session.specs.inner.Counting.{IsBelow}
@@ -15,9 +15,10 @@ use Rattle.fuse_session.proofs.Handing.{holds_under, hands_start}
 use Rattle.fuse_session.proofs.Waiting.{ready_new, room_still}
 use Rattle.fuse_session.proofs.Growing.{whole_life, life_more}
 use Rattle.fuse_session.proofs.Sessions.{whole_start, whole_step, ends_more, life_none, failed_both, counts_more, counts_below, failed_since}
-use Rattle.fuse_session.proofs.Prompting.{Answering, first_none, first_more, stops_none, stops_more, caught_whole, whole_did, prompt_run}
+use Rattle.fuse_session.proofs.Prompting.{first_none, first_more, stops_none, stops_more, caught_whole}
+use Rattle.fuse_session.proofs.Sharing.{whole_just}
 use Rattle.fuse_session.proofs.Transcripts.{each_gave}
-use Rattle.fuse_session.proofs.Doing.{no_deeds, did_none, did_more}
+use Rattle.fuse_session.proofs.Doing.{no_deeds, then_did, did_none, did_more}
 use Rattle.fuse_session.proofs.session.serve.Goals as goal
 
 pub returns-in_default-clause-session : goal.returns-in_default-clause-session
@@ -27,9 +28,11 @@ returns-in_default-clause-session g c =
     let none = did_none g.C.Clock.gave g.K.Keeper.performed g.P.Port.became g.met.C.Clock.logged g.met.K.Keeper.log g.met.P.Port.path
     c.args.clock.now c.args.keeper.now c.args.port.now in
     record {
+      deeds = no_deeds;
+      done = none;
       ends = record { counts = none_counted; ends = tt; told_are = refl };
-      life = life_none M k _ (g.P.Port.told c.args.port.now) nothing_waits Memory refl none;
-      prompt = record { deeds = no_deeds; done = none; first = first_none M _ _ _; stops = stops_none };
+      life = life_none M k (λ d. d ≡ no_deeds) (g.P.Port.told c.args.port.now) nothing_waits Memory refl refl;
+      prompt = record { first = first_none M _ _ _; stops = stops_none };
       lots = λ _ _ rows (records : Records) held rowed.
           holds_under M (record { records = records; lots = k.lots }) k [] (hands_start M k [] rows records held rowed);
       receives = omega arith;
@@ -133,33 +136,30 @@ returns-in-Err-clause-session g c =
     let k' = g.K.Keeper.told c.one_turn.new.keeper in
     let p = g.P.Port.told c.args.port.now in
     let r = g.P.Port.told c.one_turn.new.port in
-    let did = Did (g.C.Clock.gave c.args.clock.now c.one_turn.new.clock) (g.K.Keeper.performed c.args.keeper.now c.one_turn.new.keeper)
-    (g.P.Port.became c.args.port.now c.one_turn.new.port) in
-    let onward = λ (b : Deeds) (two : _).
-    did_more g.C.Clock.gave g.K.Keeper.performed g.P.Port.became g.met.C.Clock.logged g.met.K.Keeper.log g.met.P.Port.path
-    c.args.clock.now c.loop-turn.clock c.one_turn.new.clock c.args.keeper.now c.loop-turn.keeper c.one_turn.new.keeper
-    c.args.port.now c.loop-turn.port c.one_turn.new.port inv.whole.turned.work.deeds b inv.whole.turned.work.done.0.done two in
+    let before = inv.whole.turned.work.deeds in
+    let onward = λ (b : Deeds) (two : b ≡ t.deeds). ap (then_did before) two in
     let gave = each_gave _ _ inv.whole.turned.work.deeds.events
     (g.met.P.Port.tells c.args.port.now c.loop-turn.port inv.whole.turned.work.deeds.events inv.whole.turned.work.done.0.done.events)
     inv.not_ended.ends inv.receive_failures in
     record {
+      deeds = then_did before t.deeds;
+      done = did_more g.C.Clock.gave g.K.Keeper.performed g.P.Port.became g.met.C.Clock.logged g.met.K.Keeper.log g.met.P.Port.path
+          c.args.clock.now c.loop-turn.clock c.one_turn.new.clock c.args.keeper.now c.loop-turn.keeper c.one_turn.new.keeper
+          c.args.port.now c.loop-turn.port c.one_turn.new.port before t.deeds inv.whole.turned.work.done.0.done t.done.done;
       ends = record {
         counts = plus c.loop-turn.counts t.counts;
         ends = ends_more M c.histories_grow.ensures c.cut_joins.ensures k m k' _ _ _ _ _ _ nothing_waits _ 0 c.args.turns ended c.loop-turn.counts t.counts
-            inv.whole t.ends t.not_turns inv.receive_failures inv.not_ended e.honest (λ b two. onward b two.done);
+            inv.whole t.ends t.not_turns inv.receive_failures inv.not_ended e.honest onward;
         told_are = counts_more ended _ _ c.loop-turn.counts t.counts c.in-Err.served.counts c.sum_with-sum.result
             (failed_since p (g.P.Port.told c.loop-turn.port) r inv.receive_failures) t.told_are c.sum_with-sum.ensures;
       };
       life = life_more M c.histories_grow.ensures c.cut_joins.ensures k m k' _ _ _ _ _ _ nothing_waits _ c.loop-turn.counts ended inv.whole t.life
-          inv.may e.honest inv.firm (λ b two. onward b two.done);
-      prompt = prompt_run M k k' did p _ nothing_waits ended
-          (life_more M c.histories_grow.ensures c.cut_joins.ensures k m k' _ _ (Answering k k' did p.confirms) _ _ _ nothing_waits _ c.loop-turn.counts ended
-          inv.whole t.life inv.may e.honest inv.firm (λ b two. record {
-            done = onward b two.done;
-            first = first_more M k m k' _ _ inv.whole.turned.work.deeds b e.honest (caught_whole M _ _ _ _ _ _ _ inv.whole inv.ready.good gave)
-                inv.whole.turned.work.done.0.first two;
-            stops = stops_more _ inv.whole.turned.work.deeds b gave two;
-          }));
+          inv.may e.honest inv.firm onward;
+      prompt = record {
+        first = first_more M k m k' _ _ before t.deeds e.honest (caught_whole M _ _ _ _ _ _ _ inv.whole inv.ready.good gave)
+            inv.whole.turned.work.done.0.first t.done;
+        stops = stops_more _ before t.deeds gave t.done;
+      };
       lots = λ confirms intact rows (records : Records) held rowed.
           let before : Kept = record { records = records; lots = k.lots } in
           t.at_most (inv.confirms ∙ confirms) intact before
@@ -179,9 +179,11 @@ returns-clause-session g c =
     let inv = c.loop-turn.invariant in
     let k = g.K.Keeper.told c.args.keeper.now in
     let k' = g.K.Keeper.told c.loop-turn.keeper in
-    let whole = whole_did M _ _ _ _ _ _ _ _ _ inv.whole in
+    let whole = whole_just M _ _ _ _ _ _ _ _ inv.whole in
     let work = inv.whole.turned.work in
     record {
+      deeds = work.deeds;
+      done = work.done.0.done;
       ends = record {
         counts = c.loop-turn.counts;
         ends = (
@@ -192,7 +194,7 @@ returns-clause-session g c =
         told_are = refl;
       };
       life = whole_life M k k' _ _ _ nothing_waits _ c.loop-turn.counts Turns refl whole inv.firm;
-      prompt = record { deeds = work.deeds; done = work.done.0.done; first = work.done.0.first; stops = work.done.0.stops };
+      prompt = record { first = work.done.0.first; stops = work.done.0.stops };
       lots = λ confirms intact rows (records : Records) held rowed.
           let before : Kept = record { records = records; lots = k.lots } in
           holds_under M before k' (ids_of c.loop-turn.pending.items) (inv.more confirms intact.honest before (hands_start M k [] rows records held rowed));

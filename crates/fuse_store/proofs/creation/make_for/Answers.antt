@@ -13,15 +13,15 @@ use Rattle.fuse_store.proofs.creation.make_for.Goals as goal
 
 pub returns-clause-serves : goal.returns-clause-serves
 returns-clause-serves g c =
-    served_so (IsBare no_schema) (IsNew (capacity_for c.args.profile c.args.capacity) c.args.now) (IsBare no_schema) (λ _. HeldFor (new_holding c.args.profile c.args.capacity c.args.now))
-    (made_new c.new_store_is_tree.ensures c.args.profile c.args.capacity c.args.now c.requires c.wide.ensures) (state g.S.Store c.args.conn.now) (state g.S.Store c.make_store.new.conn)
+    served_so (IsBare no_schema) (IsNew (capacity_for c.args.profile c.args.capacity) c.args.from) (IsBare no_schema) (λ _. HeldFor (new_holding c.args.profile c.args.capacity c.args.from))
+    (made_new c.new_store_is_tree.ensures c.args.profile c.args.capacity c.args.from c.requires c.wide.ensures) (state g.S.Store c.args.conn.now) (state g.S.Store c.make_store.new.conn)
     c.make_store.result
-    (subst (λ room. ServesAs (IsBare no_schema) (IsNew room c.args.now) (state g.S.Store c.args.conn.now) (state g.S.Store c.make_store.new.conn)
+    (subst (λ room. ServesAs (IsBare no_schema) (IsNew room c.args.from) (state g.S.Store c.args.conn.now) (state g.S.Store c.make_store.new.conn)
     c.make_store.result) c.room_for.ensures.is c.make_store.ensures.serves)
 
 pub returns-clause-done : goal.returns-clause-done
 returns-clause-done g c =
-    made_open (λ _. HeldFor (new_holding c.args.profile c.args.capacity c.args.now)) (state g.S.Store c.args.conn.now) (state g.S.Store c.make_store.new.conn) c.make_store.result
+    made_open (λ _. HeldFor (new_holding c.args.profile c.args.capacity c.args.from)) (state g.S.Store c.args.conn.now) (state g.S.Store c.make_store.new.conn) c.make_store.result
     (returns-clause-serves g c)
     (was_bare (state g.S.Store c.args.conn.now) c.schema.result.now c.if-not-is_autocommit.ensures.value (c.if-not-is_autocommit.ensures.settled refl)
     c.schema.ensures.live c.schema.ensures.value
@@ -56,7 +56,7 @@ returns-clause-taken g c = λ clean outside has.
 
 pub returns-then-not-is_empty-clause-serves : goal.returns-then-not-is_empty-clause-serves
 returns-then-not-is_empty-clause-serves g c =
-    alone_serves (IsBare no_schema) (λ _. HeldFor (new_holding c.args.profile c.args.capacity c.args.now)) (state g.S.Store c.args.conn.now) (state g.S.Store c.refuse_store.new.conn)
+    alone_serves (IsBare no_schema) (λ _. HeldFor (new_holding c.args.profile c.args.capacity c.args.from)) (state g.S.Store c.args.conn.now) (state g.S.Store c.refuse_store.new.conn)
     c.refuse_store.result c.refuse_store.ensures.alone
 
 pub returns-then-not-is_empty-clause-crash : goal.returns-then-not-is_empty-clause-crash

@@ -12,23 +12,23 @@ use Rattle.fuse_store_tables.proofs.creation.make_all.Goals as goal
 
 pub returns-in_err-make_plain-clause-made : goal.returns-in_err-make_plain-clause-made
 returns-in_err-make_plain-clause-made g c =
-    fails_alone (IsBare no_schema) (IsNew None c.args.now) (IsNew c.args.room c.args.now) _ _ _ c.from_residual.result c.in_err-make_plain.ensures.made
+    fails_alone (IsBare no_schema) (IsNew None c.args.from) (IsNew c.args.room c.args.from) _ _ _ c.from_residual.result c.in_err-make_plain.ensures.made
     c.from_residual.ensures.0
 
 pub returns-in-None-clause-made : goal.returns-in-None-clause-made
 returns-in-None-clause-made g c =
     let made = c.in_ok-make_plain.ensures.made in
-    subst (λ room. Takes {X = Unit {0}} {E = Error} (IsBare no_schema) (IsNew room c.args.now) (state g.S.Store c.args.conn.now)
+    subst (λ room. Takes {X = Unit {0}} {E = Error} (IsBare no_schema) (IsNew room c.args.from) (state g.S.Store c.args.conn.now)
     (state g.S.Store c.make_plain.new.conn) (Ok tt)) (sym c.in-None.is) (record { stays = made.stays; turns = made.turns })
 
 pub returns-in-Some-clause-made : goal.returns-in-Some-clause-made
 returns-in-Some-clause-made g c =
     let low = subst (λ room. IfSome room (λ capacity. capacity < 2 ^ 51)) c.in-Some.is c.requires in
-    subst (λ room. Takes (IsBare no_schema) (IsNew room c.args.now) (state g.S.Store c.args.conn.now) (state g.S.Store c.add_room.new.conn) c.add_room.result)
+    subst (λ room. Takes (IsBare no_schema) (IsNew room c.args.from) (state g.S.Store c.args.conn.now) (state g.S.Store c.add_room.new.conn) c.add_room.result)
     (sym c.in-Some.is)
-    (then_as (IsBare no_schema) (IsNew None c.args.now) (IsNew (Some c.in-Some.capacity) c.args.now) (state g.S.Store c.args.conn.now)
+    (then_as (IsBare no_schema) (IsNew None c.args.from) (IsNew (Some c.in-Some.capacity) c.args.from) (state g.S.Store c.args.conn.now)
     (state g.S.Store c.make_plain.new.conn) (state g.S.Store c.add_room.new.conn) _ c.add_room.result c.in_ok-make_plain.ensures.made
-    (rooms_new c.in-Some.capacity c.args.now low _ _ c.add_room.result c.add_room.ensures.made))
+    (rooms_new c.in-Some.capacity c.args.from low _ _ c.add_room.result c.add_room.ensures.made))
 
 pub returns-in_err-make_plain-clause-within : goal.returns-in_err-make_plain-clause-within
 returns-in_err-make_plain-clause-within g c = within_failed _ _ _ _ c.in_err-make_plain.ensures.within c.from_residual.ensures.0

@@ -18,17 +18,17 @@ returns-clause-made g c =
     let a = state g.S.Store c.args.conn.now in
     let b = state g.S.Store c.make_tables.new.conn in
     let d = state g.S.Store c.write_node.new.conn in
-    let node = root c.args.now in
+    let node = root c.args.from in
     let last =
     taken_from Holds (λ k. Holds (with_node node k)) (λ (_ : ⊤). counters_alone) b d c.write_node.result c.write_node.ensures.made in
     let all =
-    then_as (IsBare no_schema) HasCounters (λ _. Holds (new_store None c.args.now)) a b d _ c.write_node.result c.in_ok-make_tables.ensures.made
+    then_as (IsBare no_schema) HasCounters (λ _. Holds (new_store None c.args.from)) a b d _ c.write_node.result c.in_ok-make_tables.ensures.made
     last in
-    narrowed_if (IsBare no_schema) (λ _. Holds (new_store None c.args.now)) (IsNew None c.args.now) a d c.write_node.result all
+    narrowed_if (IsBare no_schema) (λ _. Holds (new_store None c.args.from)) (IsNew None c.args.from) a d c.write_node.result all
     (λ clean k at on. record {
       is_open = on.is_open;
       in_transaction = on.in_transaction;
-      holds = record { holds = on.holds; fit = fit_new None c.args.now tt };
+      holds = record { holds = on.holds; fit = fit_new None c.args.from tt };
     })
 
 pub returns-in_err-make_tables-clause-within : goal.returns-in_err-make_tables-clause-within

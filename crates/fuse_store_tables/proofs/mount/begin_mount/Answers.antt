@@ -7,7 +7,7 @@ use Rattle.fuse_store_tables.specs.Moves.{Serves}
 use Rattle.fuse_store_tables.proofs.Joining.{served, undone}
 use Rattle.fuse_store_tables.proofs.Fitting.{fit_cleared, second_serves}
 use Rattle.fuse_store_tables.specs.inner.Transaction.{open_undone}
-use Rattle.fuse_store_tables.proofs.Alone.{undone_alone}
+use Rattle.fuse_store_tables.proofs.Alone.{undone_alone, undone_kept}
 use Rattle.fuse_store_tables.proofs.mount.begin_mount.Goals as goal
 
 pub returns-in-Ok-clause-fit : goal.returns-in-Ok-clause-fit
@@ -36,3 +36,8 @@ returns-in-Ok-clause-ended g c = λ clean. c.in-Ok.ensures.ended clean
 
 pub returns-in-Err-clause-ended : goal.returns-in-Err-clause-ended
 returns-in-Err-clause-ended g c = λ clean. c.undo.ensures.autocommit clean
+
+pub returns-in-Err-clause-undone : goal.returns-in-Err-clause-undone
+returns-in-Err-clause-undone g c = λ clean is_open.
+    undone_kept (state g.S.Store c.args.conn.now) (state g.S.Store c.transact.new.conn) (state g.S.Store c.undo.new.conn) c.in-Err.ensures.keeps c.undo.ensures
+    clean is_open

@@ -1,4 +1,6 @@
 use Rattle.sqlite.specs.Held.{state}
+use Rattle.std.proofs.Common.{OnErr}
+use Rattle.sqlite.specs.State.{HasCleanDisk, KeepsCommit}
 use Rattle.fuse_store_tables.specs.Content.{Holds}
 use Rattle.fuse_store_tables.specs.Clearing.{cleared}
 use Rattle.fuse_store_tables.specs.inner.Performing.{Performs}
@@ -6,7 +8,7 @@ use Rattle.fuse_store_tables.proofs.Joining.{failed_first, failed_inside, failed
 use Rattle.fuse_store_tables.specs.Moves.{RestsAs, StaysOpen}
 use Rattle.fuse_store_tables.specs.inner.Transaction.{open_first, open_inside, open_failed, open_committed}
 use Rattle.fuse_store_tables.proofs.Alone.{commits_then, begins_nothing, on_refusal, outside_err}
-use Rattle.fuse_store_tables.proofs.Within.{nothing_within}
+use Rattle.fuse_store_tables.proofs.Within.{nothing_within, keeps_within, keeps_commit}
 use Rattle.fuse_store_tables.proofs.mount.transact.Goals as goal
 
 pub returns-in_err-begin-clause-performs : goal.returns-in_err-begin-clause-performs
@@ -61,3 +63,22 @@ returns-in_ok-commit-in-Ok-clause-ended g c = λ clean. (c.in_ok-commit-in-Ok.en
 pub returns-in_err-commit-in-Ok-clause-fault : goal.returns-in_err-commit-in-Ok-clause-fault
 returns-in_err-commit-in-Ok-clause-fault g c = λ clean.
     outside_err (λ k. RestsAs (Holds k) (state g.S.Store c.args.conn.now)) _ c.from_residual-in_err-commit-in-Ok.result c.from_residual-in_err-commit-in-Ok.ensures.1
+
+-- ---- what was committed is kept
+
+pub returns-in_err-begin-clause-keeps : goal.returns-in_err-begin-clause-keeps
+returns-in_err-begin-clause-keeps g c =
+    on_err (λ r. OnErr r (HasCleanDisk (state g.S.Store c.begin.new.conn) → KeepsCommit (state g.S.Store c.args.conn.now) (state g.S.Store c.begin.new.conn)))
+    c.from_residual.result c.from_residual.ensures.0 (λ e. c.in_err-begin.ensures.kept)
+
+pub returns-in-Err-clause-keeps : goal.returns-in-Err-clause-keeps
+returns-in-Err-clause-keeps g c = λ clean.
+    keeps_within (state g.S.Store c.args.conn.now) (state g.S.Store c.begin.new.conn) (state g.S.Store c.clear.new.conn) _ _ c.in_ok-begin.ensures
+    c.in-Err.ensures.within clean
+
+pub returns-in_err-commit-in-Ok-clause-keeps : goal.returns-in_err-commit-in-Ok-clause-keeps
+returns-in_err-commit-in-Ok-clause-keeps g c =
+    on_err (λ r. OnErr r (HasCleanDisk (state g.S.Store c.commit.new.conn) → KeepsCommit (state g.S.Store c.args.conn.now) (state g.S.Store c.commit.new.conn)))
+    c.from_residual-in_err-commit-in-Ok.result c.from_residual-in_err-commit-in-Ok.ensures.0
+    (λ e. keeps_commit (state g.S.Store c.args.conn.now) (state g.S.Store c.begin.new.conn) (state g.S.Store c.clear.new.conn) (state g.S.Store c.commit.new.conn)
+    _ _ _ c.in_ok-begin.ensures c.in-Ok.ensures.within c.in_err-commit-in-Ok.ensures)

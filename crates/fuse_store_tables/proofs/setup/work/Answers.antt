@@ -1,4 +1,5 @@
-use Rattle.std.proofs.Common.{Ok, Err, inl, inr, sym, arith, ◌∙◌}
+use Rattle.std.proofs.Common.{Ok, Err, inl, inr, sym, arith}
+use Rattle.std.proofs.lemmas.Bool.Decides.{not_from_Decides}
 use Rattle.sqlite.specs.Held.{state}
 use Rattle.fuse_keeper.specs.declared.fault.StoreFault.{StoreFault}
 use Rattle.fuse_store_tables.specs.Opening.{IsStored, IsFirst, IsSecond, IsUnindexed, IsOpened}
@@ -39,34 +40,34 @@ returns-in-Ok-clause-opened g c =
     c.in-Ok.ensures.made in
     record { stays = all.stays; turns = all.turns }
 
-pub returns-then-indexed-clause-opened : goal.returns-then-indexed-clause-opened
-returns-then-indexed-clause-opened g c =
+pub returns-then-second-clause-opened : goal.returns-then-second-clause-opened
+returns-then-second-clause-opened g c =
     let a = state g.S.Store c.args.conn.now in
     let b = state g.S.Store c.find_version.new.conn in
     let v = c.in_ok-version.version in
     let second : Takes {E = StoreFault} IsStored IsSecond a b (Ok v) = narrowed IsStored IsStored IsSecond a b v v c.in_ok-version.ensures.unchanged
     (λ clean k at on. found_second a b c.schema-schema.result.now c.schema-schema.ensures.value v c.if-version-eq2.true
-    (sym c.has_index-indexed.ensures ∙ c.if-indexed.true) (c.in_ok-version.ensures.value clean) (c.in_ok-version.ensures.reads.same clean) k at on) in
+    (c.is_second-second.ensures.0 c.if-second.true) (c.in_ok-version.ensures.value clean) (c.in_ok-version.ensures.reads.same clean) k at on) in
     then_as IsStored IsSecond IsOpened a b (state g.S.Store c.open_second.new.conn) v c.open_second.result second c.open_second.ensures.opened
 
-pub returns-else-indexed-clause-opened : goal.returns-else-indexed-clause-opened
-returns-else-indexed-clause-opened g c =
+pub returns-then-unindexed-clause-opened : goal.returns-then-unindexed-clause-opened
+returns-then-unindexed-clause-opened g c =
     let a = state g.S.Store c.args.conn.now in
     let b = state g.S.Store c.find_version.new.conn in
     let v = c.in_ok-version.version in
     let lacking : Takes {E = StoreFault} IsStored IsUnindexed a b (Ok v) = narrowed IsStored IsStored IsUnindexed a b v v c.in_ok-version.ensures.unchanged
     (λ clean k at on. found_unindexed a b c.schema-schema.result.now c.schema-schema.ensures.value v c.if-version-eq2.true
-    (sym c.has_index-indexed.ensures ∙ c.if-indexed.false) (c.in_ok-version.ensures.value clean) (c.in_ok-version.ensures.reads.same clean) k at on) in
+    (c.is_unindexed-unindexed.ensures.0 c.if-unindexed.true) (c.in_ok-version.ensures.value clean) (c.in_ok-version.ensures.reads.same clean) k at on) in
     then_as IsStored IsUnindexed IsOpened a b (state g.S.Store c.open_unindexed.new.conn) v c.open_unindexed.result lacking c.open_unindexed.ensures.made
 
-pub returns-then-indexed-clause-whole : goal.returns-then-indexed-clause-whole
-returns-then-indexed-clause-whole g c =
+pub returns-then-second-clause-whole : goal.returns-then-second-clause-whole
+returns-then-second-clause-whole g c =
     tested_second (state g.S.Store c.args.conn.now) (state g.S.Store c.find_version.new.conn) (state g.S.Store c.open_second.new.conn)
     c.in_ok-version.version c.open_second.result c.in_ok-version.ensures.laid c.in_ok-version.ensures.shows c.if-version-eq2.true
     c.open_second.ensures.opened.stays.survives c.open_second.ensures.whole
 
-pub returns-else-indexed-clause-whole : goal.returns-else-indexed-clause-whole
-returns-else-indexed-clause-whole g c =
+pub returns-then-unindexed-clause-whole : goal.returns-then-unindexed-clause-whole
+returns-then-unindexed-clause-whole g c =
     tested_second (state g.S.Store c.args.conn.now) (state g.S.Store c.find_version.new.conn) (state g.S.Store c.open_unindexed.new.conn)
     c.in_ok-version.version c.open_unindexed.result c.in_ok-version.ensures.laid c.in_ok-version.ensures.shows c.if-version-eq2.true
     c.open_unindexed.ensures.made.stays.survives c.open_unindexed.ensures.whole
@@ -80,15 +81,15 @@ returns-in-Ok-clause-profile g c = λ clean k at.
     let mid = earlier b d _ c.in-Ok.ensures.made.stays.survives clean in
     sym (plain_in 10 k (omega arith) (c.in-Ok.ensures.whole clean k (c.in_ok-version.ensures.laid.turns mid k at)).0)
 
-pub returns-then-indexed-clause-profile : goal.returns-then-indexed-clause-profile
-returns-then-indexed-clause-profile g c = λ clean.
+pub returns-then-second-clause-profile : goal.returns-then-second-clause-profile
+returns-then-second-clause-profile g c = λ clean.
     let b = state g.S.Store c.find_version.new.conn in
     let d = state g.S.Store c.open_second.new.conn in
     let mid = earlier b d _ c.open_second.ensures.opened.stays.survives clean in
     told_before c.open_second.result _ _ (c.in_ok-version.ensures.laid.turns mid) (c.open_second.ensures.profile clean)
 
-pub returns-else-indexed-clause-profile : goal.returns-else-indexed-clause-profile
-returns-else-indexed-clause-profile g c = λ clean.
+pub returns-then-unindexed-clause-profile : goal.returns-then-unindexed-clause-profile
+returns-then-unindexed-clause-profile g c = λ clean.
     let b = state g.S.Store c.find_version.new.conn in
     let d = state g.S.Store c.open_unindexed.new.conn in
     let mid = earlier b d _ c.open_unindexed.ensures.made.stays.survives clean in
@@ -99,30 +100,33 @@ returns-else-indexed-clause-profile g c = λ clean.
 pub returns-then-not-first-clause-fault : goal.returns-then-not-first-clause-fault
 returns-then-not-first-clause-fault g c =
     refused_first (state g.S.Store c.args.conn.now) (state g.S.Store c.find_version.new.conn) c.schema-schema.result.now c.schema-schema.ensures.value
-    (sym c.has_first-first.ensures ∙ c.if-not-first.true)
+    c.in_ok-version.version c.in_ok-version.ensures.value (not_from_Decides c.is_first-first.result c.is_first-first.ensures c.if-not-first.true)
+    c.if-version-eq1.true
 
-pub returns-then-not-second-clause-fault : goal.returns-then-not-second-clause-fault
-returns-then-not-second-clause-fault g c =
+pub returns-else-unindexed-clause-fault : goal.returns-else-unindexed-clause-fault
+returns-else-unindexed-clause-fault g c =
     refused_second (state g.S.Store c.args.conn.now) (state g.S.Store c.find_version.new.conn) c.schema-schema.result.now c.schema-schema.ensures.value
-    c.in_ok-version.version (sym c.has_second-second.ensures ∙ c.if-not-second.true) c.if-version-eq2.true c.in_ok-version.ensures.value
+    c.in_ok-version.version c.in_ok-version.ensures.value (not_from_Decides c.is_second-second.result c.is_second-second.ensures c.if-second.false)
+    (not_from_Decides c.is_unindexed-unindexed.result c.is_unindexed-unindexed.ensures c.if-unindexed.false) c.if-version-eq2.true
 
 pub returns-in-Ok-clause-tabled : goal.returns-in-Ok-clause-tabled
 returns-in-Ok-clause-tabled g c =
     tabled_first (state g.S.Store c.args.conn.now) (state g.S.Store c.find_version.new.conn) (state g.S.Store c.open_first.new.conn) c.schema-schema.result.now
     c.schema-schema.ensures.value c.in_ok-version.version c.in_ok-version.ensures.reports c.in-Ok.ensures.made.stays.survives c.if-version-eq1.true
-    (sym c.has_first-first.ensures ∙ c.if-not-first.false)
+    (c.is_first-first.ensures.0 c.if-not-first.false)
 
-pub returns-then-indexed-clause-tabled : goal.returns-then-indexed-clause-tabled
-returns-then-indexed-clause-tabled g c =
+pub returns-then-second-clause-tabled : goal.returns-then-second-clause-tabled
+returns-then-second-clause-tabled g c =
     tabled_second (state g.S.Store c.args.conn.now) (state g.S.Store c.find_version.new.conn) (state g.S.Store c.open_second.new.conn) c.schema-schema.result.now
     c.schema-schema.ensures.value c.in_ok-version.version c.in_ok-version.ensures.reports c.open_second.ensures.opened.stays.survives c.open_second.result
-    c.if-version-eq2.true (sym c.has_second-second.ensures ∙ c.if-not-second.false)
+    c.if-version-eq2.true (inl (c.is_second-second.ensures.0 c.if-second.true))
 
-pub returns-else-indexed-clause-tabled : goal.returns-else-indexed-clause-tabled
-returns-else-indexed-clause-tabled g c =
+pub returns-then-unindexed-clause-tabled : goal.returns-then-unindexed-clause-tabled
+returns-then-unindexed-clause-tabled g c =
     tabled_second (state g.S.Store c.args.conn.now) (state g.S.Store c.find_version.new.conn) (state g.S.Store c.open_unindexed.new.conn)
     c.schema-schema.result.now c.schema-schema.ensures.value c.in_ok-version.version c.in_ok-version.ensures.reports
-    c.open_unindexed.ensures.made.stays.survives c.open_unindexed.result c.if-version-eq2.true (sym c.has_second-second.ensures ∙ c.if-not-second.false)
+    c.open_unindexed.ensures.made.stays.survives c.open_unindexed.result c.if-version-eq2.true
+    (inr (c.is_unindexed-unindexed.ensures.0 c.if-unindexed.true))
 
 -- ---- of any database
 
@@ -138,7 +142,7 @@ returns-in-Ok-clause-alone g c = λ other.
     let b = state g.S.Store c.find_version.new.conn in
     let d = state g.S.Store c.open_first.new.conn in
     reads_never a d (Ok _) (λ clean. other clean (to_migrate a b d c.schema-schema.result.now c.schema-schema.ensures.value c.in_ok-version.version
-    c.in_ok-version.ensures.reports c.in-Ok.ensures.made.stays.survives c.if-version-eq1.true (sym c.has_first-first.ensures ∙ c.if-not-first.false) clean))
+    c.in_ok-version.ensures.reports c.in-Ok.ensures.made.stays.survives c.if-version-eq1.true (c.is_first-first.ensures.0 c.if-not-first.false) clean))
     (survives_then a b d _ _ (λ _. Unit {0}) (λ _ _ _. tt) (λ _ _ _. tt) c.in_ok-version.ensures.reads.commits.survives c.in-Ok.ensures.made.stays.survives)
 
 pub returns-in-Err-clause-alone : goal.returns-in-Err-clause-alone
@@ -147,36 +151,36 @@ returns-in-Err-clause-alone g c = λ other.
     let b = state g.S.Store c.find_version.new.conn in
     let d = state g.S.Store c.open_first.new.conn in
     reads_never a d (Err _) (λ clean. other clean (to_migrate a b d c.schema-schema.result.now c.schema-schema.ensures.value c.in_ok-version.version
-    c.in_ok-version.ensures.reports c.in-Err.ensures.made.stays.survives c.if-version-eq1.true (sym c.has_first-first.ensures ∙ c.if-not-first.false) clean))
+    c.in_ok-version.ensures.reports c.in-Err.ensures.made.stays.survives c.if-version-eq1.true (c.is_first-first.ensures.0 c.if-not-first.false) clean))
     (survives_then a b d _ _ (λ _. Unit {0}) (λ _ _ _. tt) (λ _ _ _. tt) c.in_ok-version.ensures.reads.commits.survives c.in-Err.ensures.made.stays.survives)
 
-pub returns-then-not-second-clause-alone : goal.returns-then-not-second-clause-alone
-returns-then-not-second-clause-alone g c = λ other. reads_told _ _ _ _ c.in_ok-version.ensures.reads
+pub returns-else-unindexed-clause-alone : goal.returns-else-unindexed-clause-alone
+returns-else-unindexed-clause-alone g c = λ other. reads_told _ _ _ _ c.in_ok-version.ensures.reads
 
-pub returns-then-indexed-clause-alone : goal.returns-then-indexed-clause-alone
-returns-then-indexed-clause-alone g c = λ other. reads_then _ _ _ _ _ c.in_ok-version.ensures.reads c.open_second.ensures.reads
+pub returns-then-second-clause-alone : goal.returns-then-second-clause-alone
+returns-then-second-clause-alone g c = λ other. reads_then _ _ _ _ _ c.in_ok-version.ensures.reads c.open_second.ensures.reads
 
-pub returns-else-indexed-clause-alone : goal.returns-else-indexed-clause-alone
-returns-else-indexed-clause-alone g c = λ other.
+pub returns-then-unindexed-clause-alone : goal.returns-then-unindexed-clause-alone
+returns-then-unindexed-clause-alone g c = λ other.
     let a = state g.S.Store c.args.conn.now in
     let b = state g.S.Store c.find_version.new.conn in
     let d = state g.S.Store c.open_unindexed.new.conn in
     reads_never a d c.open_unindexed.result (λ clean. other clean (to_index a b d c.schema-schema.result.now c.schema-schema.ensures.value
     c.in_ok-version.version c.in_ok-version.ensures.reports c.open_unindexed.ensures.made.stays.survives c.if-version-eq2.true
-    (sym c.has_second-second.ensures ∙ c.if-not-second.false) (sym c.has_index-indexed.ensures ∙ c.if-indexed.false) clean))
+    (c.is_unindexed-unindexed.ensures.0 c.if-unindexed.true) clean))
     (survives_then a b d _ _ (λ _. Unit {0}) (λ _ _ _. tt) (λ _ _ _. tt) c.in_ok-version.ensures.reads.commits.survives
     c.open_unindexed.ensures.made.stays.survives)
 
 pub returns-in-Err-clause-refused : goal.returns-in-Err-clause-refused
 returns-in-Err-clause-refused g c = λ refused. commits_then _ _ _ c.in_ok-version.ensures.reads.commits (c.in-Err.ensures.refused refused)
 
-pub returns-then-indexed-clause-refused : goal.returns-then-indexed-clause-refused
-returns-then-indexed-clause-refused g c =
+pub returns-then-second-clause-refused : goal.returns-then-second-clause-refused
+returns-then-second-clause-refused g c =
     on_refusal (state g.S.Store c.args.conn.now) (state g.S.Store c.open_second.new.conn) c.open_second.result
     (commits_then _ (state g.S.Store c.find_version.new.conn) _ c.in_ok-version.ensures.reads.commits c.open_second.ensures.reads.commits)
 
-pub returns-else-indexed-clause-refused : goal.returns-else-indexed-clause-refused
-returns-else-indexed-clause-refused g c =
+pub returns-then-unindexed-clause-refused : goal.returns-then-unindexed-clause-refused
+returns-then-unindexed-clause-refused g c =
     refused_then (state g.S.Store c.args.conn.now) (state g.S.Store c.find_version.new.conn) (state g.S.Store c.open_unindexed.new.conn)
     c.open_unindexed.result c.in_ok-version.ensures.reads.commits c.open_unindexed.ensures.refused
 
@@ -192,18 +196,18 @@ returns-in-Err-clause-says g c = λ clean.
     plain_says _ c.in-Err.fault (reported_damaged _ _ (c.in_ok-version.ensures.reports (earlier b d _ c.in-Err.ensures.made.stays.survives clean))
     (inl c.if-version-eq1.true)) c.in-Err.ensures.plain
 
-pub returns-then-not-second-clause-says : goal.returns-then-not-second-clause-says
-returns-then-not-second-clause-says g c = λ clean. reported_damaged _ _ (c.in_ok-version.ensures.reports clean) (inr c.if-version-eq2.true)
+pub returns-else-unindexed-clause-says : goal.returns-else-unindexed-clause-says
+returns-else-unindexed-clause-says g c = λ clean. reported_damaged _ _ (c.in_ok-version.ensures.reports clean) (inr c.if-version-eq2.true)
 
-pub returns-then-indexed-clause-says : goal.returns-then-indexed-clause-says
-returns-then-indexed-clause-says g c = λ clean.
+pub returns-then-second-clause-says : goal.returns-then-second-clause-says
+returns-then-second-clause-says g c = λ clean.
     let b = state g.S.Store c.find_version.new.conn in
     let d = state g.S.Store c.open_second.new.conn in
     says_if _ c.open_second.result (reported_damaged _ _ (c.in_ok-version.ensures.reports (earlier b d _ c.open_second.ensures.opened.stays.survives clean))
     (inr c.if-version-eq2.true)) c.open_second.ensures.plain
 
-pub returns-else-indexed-clause-says : goal.returns-else-indexed-clause-says
-returns-else-indexed-clause-says g c = λ clean.
+pub returns-then-unindexed-clause-says : goal.returns-then-unindexed-clause-says
+returns-then-unindexed-clause-says g c = λ clean.
     let b = state g.S.Store c.find_version.new.conn in
     let d = state g.S.Store c.open_unindexed.new.conn in
     says_if _ c.open_unindexed.result (reported_damaged _ _ (c.in_ok-version.ensures.reports (earlier b d _ c.open_unindexed.ensures.made.stays.survives clean))
@@ -225,14 +229,14 @@ returns-in-Err-clause-within g c =
     let all = within_then _ _ _ _ (Err _) c.in_ok-version.ensures.within c.in-Err.ensures.within in
     record { survives = all.survives; kept = all.kept; within = tt }
 
-pub returns-then-not-second-clause-within : goal.returns-then-not-second-clause-within
-returns-then-not-second-clause-within g c = within_told _ _ _ _ c.in_ok-version.ensures.within
+pub returns-else-unindexed-clause-within : goal.returns-else-unindexed-clause-within
+returns-else-unindexed-clause-within g c = within_told _ _ _ _ c.in_ok-version.ensures.within
 
-pub returns-then-indexed-clause-within : goal.returns-then-indexed-clause-within
-returns-then-indexed-clause-within g c = within_then _ _ _ _ _ c.in_ok-version.ensures.within c.open_second.ensures.within
+pub returns-then-second-clause-within : goal.returns-then-second-clause-within
+returns-then-second-clause-within g c = within_then _ _ _ _ _ c.in_ok-version.ensures.within c.open_second.ensures.within
 
-pub returns-else-indexed-clause-within : goal.returns-else-indexed-clause-within
-returns-else-indexed-clause-within g c = within_then _ _ _ _ _ c.in_ok-version.ensures.within c.open_unindexed.ensures.within
+pub returns-then-unindexed-clause-within : goal.returns-then-unindexed-clause-within
+returns-then-unindexed-clause-within g c = within_then _ _ _ _ _ c.in_ok-version.ensures.within c.open_unindexed.ensures.within
 
 pub returns-in-Err-clause-fault : goal.returns-in-Err-clause-fault
 returns-in-Err-clause-fault g c =
@@ -244,24 +248,24 @@ returns-in-Err-clause-fault g c =
     sure_next {Y = Unit {0}} IsStored IsFirst a b (state g.S.Store c.open_first.new.conn) v (Err c.in-Err.fault) first c.in-Err.ensures.made.stays.survives
     c.in-Err.ensures.fault
 
-pub returns-else-indexed-clause-fault : goal.returns-else-indexed-clause-fault
-returns-else-indexed-clause-fault g c =
+pub returns-then-unindexed-clause-fault : goal.returns-then-unindexed-clause-fault
+returns-then-unindexed-clause-fault g c =
     let a = state g.S.Store c.args.conn.now in
     let b = state g.S.Store c.find_version.new.conn in
     let v = c.in_ok-version.version in
     let lacking : Takes {E = StoreFault} IsStored IsUnindexed a b (Ok v) = narrowed IsStored IsStored IsUnindexed a b v v c.in_ok-version.ensures.unchanged
     (λ clean k at on. found_unindexed a b c.schema-schema.result.now c.schema-schema.ensures.value v c.if-version-eq2.true
-    (sym c.has_index-indexed.ensures ∙ c.if-indexed.false) (c.in_ok-version.ensures.value clean) (c.in_ok-version.ensures.reads.same clean) k at on) in
+    (c.is_unindexed-unindexed.ensures.0 c.if-unindexed.true) (c.in_ok-version.ensures.value clean) (c.in_ok-version.ensures.reads.same clean) k at on) in
     sure_next IsStored IsUnindexed a b (state g.S.Store c.open_unindexed.new.conn) v c.open_unindexed.result lacking
     c.open_unindexed.ensures.made.stays.survives c.open_unindexed.ensures.fault
 
-pub returns-then-indexed-clause-fault : goal.returns-then-indexed-clause-fault
-returns-then-indexed-clause-fault g c =
+pub returns-then-second-clause-fault : goal.returns-then-second-clause-fault
+returns-then-second-clause-fault g c =
     let a = state g.S.Store c.args.conn.now in
     let b = state g.S.Store c.find_version.new.conn in
     let v = c.in_ok-version.version in
     let second : Takes {E = StoreFault} IsStored IsSecond a b (Ok v) = narrowed IsStored IsStored IsSecond a b v v c.in_ok-version.ensures.unchanged
     (λ clean k at on. found_second a b c.schema-schema.result.now c.schema-schema.ensures.value v c.if-version-eq2.true
-    (sym c.has_index-indexed.ensures ∙ c.if-indexed.true) (c.in_ok-version.ensures.value clean) (c.in_ok-version.ensures.reads.same clean) k at on) in
+    (c.is_second-second.ensures.0 c.if-second.true) (c.in_ok-version.ensures.value clean) (c.in_ok-version.ensures.reads.same clean) k at on) in
     sure_next IsStored IsSecond a b (state g.S.Store c.open_second.new.conn) v c.open_second.result second
     c.open_second.ensures.opened.stays.survives c.open_second.ensures.fault

@@ -1,9 +1,9 @@
 use Rattle.std.proofs.Common.{rules, arith, ◌≡◌, length, sym, ◌∙◌}
 use Rattle.std.proofs.lemmas.Grind.{common_steps}
 use Rattle.fuse_session.specs.Memory.{first_outcome, outcomes_left, kept_by}
-use Rattle.fuse_session.proofs.Rooms.{refused, answers_failed, answers_no_place, answers_no_room}
+use Rattle.fuse_session.proofs.Rooms.{refused, answers_failed, answers_no_room}
 use Rattle.fuse_session.proofs.memory.MemoryPortPort.send.Goals.{in-Take, in-Gone, in-Failed}
-use Rattle.fuse_session.proofs.memory.MemoryPortPort.send.Goals.{then-eq-via-then-eq, then-eq-via-else-eq+then-is_err, then-eq-via-else-eq+else-is_err+then-is_err-2}
+use Rattle.fuse_session.proofs.memory.MemoryPortPort.send.Goals.{then-eq-via-then-eq, then-eq-via-else-eq+then-is_err}
 use Rattle.fuse_session.proofs.memory.MemoryPortPort.send.Goals as goal
 
 pub returns-then-eq-clause-answers : goal.returns-then-eq-clause-answers
@@ -23,9 +23,7 @@ returns-then-eq-clause-answers c =
     ] in
     elim c.then-eq.branch [
       | then-eq-via-then-eq w ↦ answers_failed p o c.match-outcome.outcome (length c.args.bytes.now) (search rules) same
-      | then-eq-via-else-eq+then-is_err w ↦ answers_no_place p q o (length c.args.bytes.now) c.next_outcome-outcome.ensures.gone
-          (refused w.reserve.result _ w.reserve.ensures.full (sym w.is_err.ensures.value ∙ w.if-is_err.true))
-      | then-eq-via-else-eq+else-is_err+then-is_err-2 w ↦ answers_no_room p q o c.match-outcome.outcome (length c.args.bytes.now) _
+      | then-eq-via-else-eq+then-is_err w ↦ answers_no_room p q o c.match-outcome.outcome (length c.args.bytes.now) _
           c.next_outcome-outcome.ensures.sent same kept
-          (refused w.reserve-else-is_err.result _ w.reserve-else-is_err.ensures.full (sym w.is_err-else-is_err.ensures.value ∙ w.if-is_err-2.true))
+          (refused w.reserve.result _ w.reserve.ensures.full (sym w.is_err.ensures.value ∙ w.if-is_err.true))
     ]

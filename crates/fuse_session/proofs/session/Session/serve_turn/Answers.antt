@@ -5,7 +5,8 @@ use Rattle.fuse_session.specs.declared.port.Received.{Received as Receipt}
 use Rattle.fuse_session.specs.Transcript.{Received}
 use Rattle.fuse_session.specs.Deeds.{Did}
 use Rattle.fuse_session.specs.inner.Turn.{OneTurn, muted, waits}
-use Rattle.fuse_session.proofs.Doing.{turn_none, turn_hears}
+use Rattle.fuse_session.proofs.Doing.{turn_none, turn_hears, one_heard, then_did, just_heard, just_more}
+use Rattle.fuse_session.proofs.Sharing.{processed_just, broken_just, by_just, unheard_just}
 use Rattle.fuse_keeper.specs.Group.{ids_of}
 use Rattle.fuse_session.specs.inner.Counting.{IsBelow}
 use Rattle.fuse_session.specs.Counting.{none_counted}
@@ -17,7 +18,7 @@ use Rattle.fuse_session.specs.inner.Finishing.{ended_at, ended_port}
 use Rattle.fuse_session.proofs.Counted.{below_more}
 use Rattle.fuse_session.proofs.Handing.{holds_under}
 use Rattle.fuse_session.proofs.Growing.{life_heard, whole_heard}
-use Rattle.fuse_session.proofs.Sessions.{life_unheard, ends_unheard, unheard_store, fault_ends, fault_not_turns, fault_counts, life_worked, ends_finished}
+use Rattle.fuse_session.proofs.Sessions.{came_by, life_unheard, ends_unheard, unheard_store, fault_ends, fault_not_turns, fault_counts, life_worked, ends_finished}
 use Rattle.fuse_session.proofs.Sessions.{finished_store, finished_counts, unheard_counts, none_below}
 use Rattle.fuse_session.proofs.session.Session.serve_turn.Goals as goal
 
@@ -30,17 +31,21 @@ returns-in-Err-clause-err g c =
     let e = c.in-Err.ended in
     let clock = c.args.self.now.clock.now in
     let became = g.P.Port.became c.args.self.now.port.now c.receive_messages.new.port in
-    let alone = λ (result : Receipt) (bytes : List ℕ) (once : became (Received result bytes ∷ [])).
-    turn_none (g.C.Clock.gave clock clock) (g.K.Keeper.performed keeper keeper) g.P.Port.became c.args.self.now.port.now c.receive_messages.new.port
-    result bytes ((g.met.C.Clock.logged).none clock) ((g.met.K.Keeper.log).none keeper) once in
+    let one = came_by e became _ _ c.args.framer.now c.in-Err.ensures.err in
+    let just = unheard_just e became _ _ c.args.framer.now c.in-Err.ensures.err in
+    let deeds = one_heard one.result one.received in
+    let alone = λ (result : Receipt) (bytes : List ℕ) (once : by_just one (Received result bytes ∷ [])). just_heard result one.result bytes one.received once in
     let by = unheard_store e became _ _ c.args.framer.now c.in-Err.ensures.err in
     record {
-      life = life_unheard g.K.Keeper.model k _ became _ _ (ids_of c.args.self.now.pending.now.items) c.args.framer.now e by.0 alone c.in-Err.ensures.err
+      deeds = deeds;
+      done = (turn_none (g.C.Clock.gave clock clock) (g.K.Keeper.performed keeper keeper) g.P.Port.became c.args.self.now.port.now c.receive_messages.new.port
+          one.result one.received ((g.met.C.Clock.logged).none clock) ((g.met.K.Keeper.log).none keeper) one.once).0;
+      life = life_unheard g.K.Keeper.model k _ (by_just one) _ _ (ids_of c.args.self.now.pending.now.items) c.args.framer.now e by.0 alone just
           c.in-Err.ensures.hearing;
       counts = none_counted;
       below = none_below (2 ^ 20);
-      ends = ends_unheard g.K.Keeper.model k _ became _ _ (ids_of c.args.self.now.pending.now.items) c.args.framer.now e 0 alone c.requires.opened
-          c.in-Err.ensures.err c.in-Err.ensures.hearing;
+      ends = ends_unheard g.K.Keeper.model k _ (by_just one) _ _ (ids_of c.args.self.now.pending.now.items) c.args.framer.now e 0 alone c.requires.opened
+          just c.in-Err.ensures.hearing;
       told_are = unheard_counts e became _ _ c.args.framer.now _ none_counted c.in-Err.ensures.err c.counts_of-counts.ensures;
       at_most = λ _ _ (before : Kept) h. holds_under g.K.Keeper.model before k _ h;
       firm = λ _ _ firm. firm;
@@ -82,15 +87,21 @@ returns-in-Err-serve_messages-clause-err g c =
     let pass = passage k k' q r (Did (g.C.Clock.gave c.args.self.now.clock.now c.serve_messages.new.self.clock.now)
     (g.K.Keeper.performed c.args.self.now.keeper.now c.serve_messages.new.self.keeper.now)
     (g.P.Port.became c.receive_messages.new.port c.serve_messages.new.self.port.now)) in
+    let broken = subst (λ x. Broken (muted pass) (ids_of c.args.self.now.pending.now.items) c.as_slice-slice.result.now x) (sym e) s.err in
+    let came = c.in-Ok.ensures.ok.came in
+    let turn = turn_hears (g.C.Clock.gave c.args.self.now.clock.now c.serve_messages.new.self.clock.now)
+    (g.K.Keeper.performed c.args.self.now.keeper.now c.serve_messages.new.self.keeper.now) g.P.Port.became g.met.P.Port.path c.args.self.now.port.now
+    c.receive_messages.new.port c.serve_messages.new.self.port.now came.result c.in-Ok.ensures.ok.received broken.work.deeds came.once came.gave
+    broken.work.done in
     record {
+      deeds = then_did (one_heard came.result c.in-Ok.ensures.ok.received) broken.work.deeds;
+      done = turn.0;
       life = life_heard g.K.Keeper.model c.histories_grow.ensures k k' s.honest
           _ _ (g.P.Port.became c.args.self.now.port.now c.receive_messages.new.port) _ _ _ (ids_of c.args.self.now.pending.now.items)
           c.args.framer.now c.receive_messages.new.framer c.in-Ok.waiting.messages.items c.as_slice-slice.result.now c.in-Ok.waiting.fault _
-          c.in-Ok.ensures.ok (λ b two. turn_hears (g.C.Clock.gave c.args.self.now.clock.now c.serve_messages.new.self.clock.now)
-          (g.K.Keeper.performed c.args.self.now.keeper.now c.serve_messages.new.self.keeper.now) g.P.Port.became g.met.P.Port.path c.args.self.now.port.now
-          c.receive_messages.new.port c.serve_messages.new.self.port.now c.in-Ok.ensures.ok.came.result c.in-Ok.ensures.ok.received b c.in-Ok.ensures.ok.came.once c.in-Ok.ensures.ok.came.gave two)
+          c.in-Ok.ensures.ok (λ b two. just_more (one_heard came.result c.in-Ok.ensures.ok.received) broken.work.deeds b _ two turn.1)
           c.in-Ok.ensures.hearing c.as_slice-slice.ensures.value
-          (subst (λ x. Broken (muted pass) (ids_of c.args.self.now.pending.now.items) c.as_slice-slice.result.now x) (sym e) s.err) s.quiet;
+          (broken_just g.K.Keeper.model _ _ _ _ _ _ _ _ broken) s.quiet;
       counts = none_counted;
       below = none_below (2 ^ 20);
       ends = fault_ends g.K.Keeper.model _ _ _ c.ended_of.result _ c.ended_of.ensures.fault
@@ -160,24 +171,27 @@ returns-clause-err g c =
     let short = c.requires.opened.short in
     let room = c.requires.room in
     let by = finished_store e _ _ _ fin.1 in
+    let work = s.ok.turned.work in
+    let turn = turn_hears (g.C.Clock.gave c.args.self.now.clock.now c.serve_messages.new.self.clock.now)
+    (g.K.Keeper.performed c.args.self.now.keeper.now c.serve_messages.new.self.keeper.now) g.P.Port.became g.met.P.Port.path c.args.self.now.port.now
+    c.receive_messages.new.port c.serve_messages.new.self.port.now heard.came.result heard.received work.deeds heard.came.once heard.came.gave work.done in
+    let just = processed_just g.K.Keeper.model _ _ _ _ _ _ _ _ _ s.ok in
     record {
+      deeds = then_did (one_heard heard.came.result heard.received) work.deeds;
+      done = turn.0;
       life = life_worked g.K.Keeper.model c.histories_grow.ensures k k' s.honest _ _ (g.P.Port.became c.args.self.now.port.now c.receive_messages.new.port) _ _ _
           (ids_of c.args.self.now.pending.now.items) (ids_of c.serve_messages.new.self.pending.now.items)
           c.args.framer.now c.receive_messages.new.framer c.in-Ok.waiting.messages.items c.as_slice-slice.result.now c.in-Ok.waiting.fault progress
-          e by.0 heard (λ b two. turn_hears (g.C.Clock.gave c.args.self.now.clock.now c.serve_messages.new.self.clock.now)
-          (g.K.Keeper.performed c.args.self.now.keeper.now c.serve_messages.new.self.keeper.now) g.P.Port.became g.met.P.Port.path c.args.self.now.port.now
-          c.receive_messages.new.port c.serve_messages.new.self.port.now c.in-Ok.ensures.ok.came.result c.in-Ok.ensures.ok.received b c.in-Ok.ensures.ok.came.once c.in-Ok.ensures.ok.came.gave two)
-          c.in-Ok.ensures.hearing c.as_slice-slice.ensures.value s.ok s.quiet s.firm;
+          e by.0 heard (λ b two. just_more (one_heard heard.came.result heard.received) work.deeds b _ two turn.1)
+          c.in-Ok.ensures.hearing c.as_slice-slice.ensures.value just s.quiet s.firm;
       counts = progress.counts;
       below = below_more progress.counts (length c.as_slice-slice.result.now) (2 ^ 20)
           (omega (arith, ap length c.as_slice-slice.ensures.value, took.few, took.at, c.in-Ok.ensures.fed, short, room)) s.below;
       ends = ends_finished g.K.Keeper.model c.histories_grow.ensures k k' s.honest _ _ (g.P.Port.became c.args.self.now.port.now c.receive_messages.new.port) _ _ _
           (ids_of c.args.self.now.pending.now.items) (ids_of c.serve_messages.new.self.pending.now.items)
           c.args.framer.now c.receive_messages.new.framer c.in-Ok.waiting.messages.items c.as_slice-slice.result.now c.in-Ok.waiting.fault _
-          progress 0 e fin.1 heard (λ b two. turn_hears (g.C.Clock.gave c.args.self.now.clock.now c.serve_messages.new.self.clock.now)
-          (g.K.Keeper.performed c.args.self.now.keeper.now c.serve_messages.new.self.keeper.now) g.P.Port.became g.met.P.Port.path c.args.self.now.port.now
-          c.receive_messages.new.port c.serve_messages.new.self.port.now c.in-Ok.ensures.ok.came.result c.in-Ok.ensures.ok.received b c.in-Ok.ensures.ok.came.once c.in-Ok.ensures.ok.came.gave two)
-          c.in-Ok.ensures.hearing c.as_slice-slice.ensures.value (omega (arith, c.fed.ensures, c.held.ensures)) s.ok s.quiet;
+          progress 0 e fin.1 heard (λ b two. just_more (one_heard heard.came.result heard.received) work.deeds b _ two turn.1)
+          c.in-Ok.ensures.hearing c.as_slice-slice.ensures.value (omega (arith, c.fed.ensures, c.held.ensures)) just s.quiet;
       told_are = finished_counts e _ _ _ c.in-Err-finish.served.counts progress.counts fin.1 _ fin.0;
       at_most = λ confirms is (before : Kept) h. holds_under g.K.Keeper.model before k' _ (s.more (c.in-Ok.ensures.hearing.confirms ∙ confirms) is.honest
           before h);

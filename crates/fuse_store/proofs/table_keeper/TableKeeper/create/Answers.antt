@@ -16,28 +16,28 @@ use Rattle.fuse_store.proofs.table_keeper.TableKeeper.create.Goals as goal
 
 pub returns-in-Ok-clause-stands : goal.returns-in-Ok-clause-stands
 returns-in-Ok-clause-stands g c = λ clean is_open.
-    let at : RestsAs (HeldFor (new_holding g.P.Profiled.PROFILE c.args.capacity c.args.now)) (state g.S.Store c.make_for.new.conn) =
-    subst (λ (p : Profile). RestsAs (HeldFor (new_holding p c.args.capacity c.args.now)) (state g.S.Store c.make_for.new.conn)) c.PROFILE.ensures
+    let at : RestsAs (HeldFor (new_holding g.P.Profiled.PROFILE c.args.capacity c.args.from)) (state g.S.Store c.make_for.new.conn) =
+    subst (λ (p : Profile). RestsAs (HeldFor (new_holding p c.args.capacity c.args.from)) (state g.S.Store c.make_for.new.conn)) c.PROFILE.ensures
     (c.in-Ok.ensures.done clean is_open) in
     record {
-      rows = rowed (new_store g.P.Profiled.PROFILE c.args.capacity c.args.now);
+      rows = rowed (new_store g.P.Profiled.PROFILE c.args.capacity c.args.from);
       records = records_of [];
       held =
-          holds_at c.one_holding.ensures None (state g.S.Store c.make_for.new.conn) (new_holding g.P.Profiled.PROFILE c.args.capacity c.args.now)
-          (rowed (new_store g.P.Profiled.PROFILE c.args.capacity c.args.now)) (records_of [])
-          (rests_unknown (new_holding g.P.Profiled.PROFILE c.args.capacity c.args.now) (state g.S.Store c.make_for.new.conn) at)
-          (its_own (new_holding g.P.Profiled.PROFILE c.args.capacity c.args.now));
+          holds_at c.one_holding.ensures None (state g.S.Store c.make_for.new.conn) (new_holding g.P.Profiled.PROFILE c.args.capacity c.args.from)
+          (rowed (new_store g.P.Profiled.PROFILE c.args.capacity c.args.from)) (records_of [])
+          (rests_unknown (new_holding g.P.Profiled.PROFILE c.args.capacity c.args.from) (state g.S.Store c.make_for.new.conn) at)
+          (its_own (new_holding g.P.Profiled.PROFILE c.args.capacity c.args.from));
       stands =
-          starts g.P.Profiled.PROFILE (new_store g.P.Profiled.PROFILE c.args.capacity c.args.now)
-          (record { tree = at.holds.tree; profile = new_profile g.P.Profiled.PROFILE c.args.capacity c.args.now });
+          starts g.P.Profiled.PROFILE (new_store g.P.Profiled.PROFILE c.args.capacity c.args.from)
+          (record { tree = at.holds.tree; profile = new_profile g.P.Profiled.PROFILE c.args.capacity c.args.from });
     }
 
 pub returns-in-Ok-clause-lots : goal.returns-in-Ok-clause-lots
 returns-in-Ok-clause-lots g c = λ clean is_open.
-    let at : RestsAs (HeldFor (new_holding g.P.Profiled.PROFILE c.args.capacity c.args.now)) (state g.S.Store c.make_for.new.conn) =
-    subst (λ (p : Profile). RestsAs (HeldFor (new_holding p c.args.capacity c.args.now)) (state g.S.Store c.make_for.new.conn)) c.PROFILE.ensures
+    let at : RestsAs (HeldFor (new_holding g.P.Profiled.PROFILE c.args.capacity c.args.from)) (state g.S.Store c.make_for.new.conn) =
+    subst (λ (p : Profile). RestsAs (HeldFor (new_holding p c.args.capacity c.args.from)) (state g.S.Store c.make_for.new.conn)) c.PROFILE.ensures
     (c.in-Ok.ensures.done clean is_open) in
-    c.lots_are_read.ensures.same None (new_holding g.P.Profiled.PROFILE c.args.capacity c.args.now) (state g.S.Store c.make_for.new.conn).now at.holds
+    c.lots_are_read.ensures.same None (new_holding g.P.Profiled.PROFILE c.args.capacity c.args.from) (state g.S.Store c.make_for.new.conn).now at.holds
 
 pub returns-in-Ok-clause-honest : goal.returns-in-Ok-clause-honest
 returns-in-Ok-clause-honest g c = λ clean.

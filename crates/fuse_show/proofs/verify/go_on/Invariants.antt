@@ -1,0 +1,9 @@
+use Rattle.std.proofs.Common.{◌≡◌, None}
+use Rattle.fuse_show.proofs.verify.go_on.Given as goal
+
+abbrev pub invariant-loop : goal.invariant-loop
+invariant-loop g l = record {
+  fault : g.L.Look.fault l.look ≡ None;
+  looks : g.L.Look.looks l.fn.look l.look;
+  silent : g.W.Write.contents l.writer ≡ g.W.Write.contents l.fn.writer;
+}

@@ -1,0 +1,81 @@
+ghost use Rattle.std.specs.Prelude.{◌≡◌, IfErr, OnOk};
+ghost use Rattle.std.specs.Io.KnownBytes.{Appends};
+ghost use Rattle.fuse_show.specs.Verdict.{tally_text};
+
+use crate::checks::type_of;
+use crate::fault::ShowFault;
+use fuse_tree::{NodeRow, S_IFDIR, S_IFLNK, S_IFREG, blocks_of};
+use std::fmt;
+use std::io::Write;
+
+/// What a walk over a tree met: its nodes, those of each type, and their bytes.
+#[derive(Clone, Copy, Debug, PartialEq, Eq)]
+pub struct Tally {
+    pub nodes: u64,
+    pub directories: u64,
+    pub files: u64,
+    pub links: u64,
+    pub others: u64,
+    /// The sum of all sizes.
+    pub bytes: u64,
+    /// The blocks that all sizes take.
+    pub blocks: u64,
+}
+
+impl Tally {
+    /// Of nothing.
+    pub(crate) const NONE: Tally = Tally {
+        nodes: 0,
+        directories: 0,
+        files: 0,
+        links: 0,
+        others: 0,
+        bytes: 0,
+        blocks: 0,
+    };
+
+    /// With one more node.
+    pub(crate) fn with(self, row: &NodeRow) -> Tally {
+        let mut tally = self;
+        tally.nodes = self.nodes.saturating_add(1);
+        tally.bytes = self.bytes.saturating_add(row.size);
+        tally.blocks = self.blocks.saturating_add(blocks_of(row.size));
+        let kind = type_of(row.mode);
+        if kind == S_IFDIR {
+            tally.directories = self.directories.saturating_add(1);
+        } else if kind == S_IFREG {
+            tally.files = self.files.saturating_add(1);
+        } else if kind == S_IFLNK {
+            tally.links = self.links.saturating_add(1);
+        } else {
+            tally.others = self.others.saturating_add(1);
+        }
+        tally
+    }
+}
+
+impl fmt::Display for Tally {
+    ghost use Rattle.std.specs.Prelude.{Some};
+    ghost use Rattle.fuse_show.specs.Verdict.{tally_text};
+
+    ghost output = { λ t. Some (tally_text t) };
+
+    fn fmt<W: fmt::Write>(&self, f: &mut fmt::Formatter<W>) -> fmt::Result {
+        write!(
+            f,
+            "ok nodes={} directories={} files={} links={} others={} bytes={}\n",
+            self.nodes, self.directories, self.files, self.links, self.others, self.bytes
+        )
+    }
+}
+
+/// Writes the line of a sound tree.
+pub fn show_tally<W: Write>(tally: &Tally, writer: &mut W) -> Result<(), ShowFault>
+    ensures shown { OnOk result (Appends (W.contents writer.old) (W.contents writer.new)
+        (tally_text tally.now)) }
+    ensures fault { IfErr result (λ fault. fault ≡ ShowFault.Output) }
+{
+    write!(writer, "{tally}")?;
+    writer.flush()?;
+    Ok(())
+}

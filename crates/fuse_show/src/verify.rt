@@ -1,0 +1,442 @@
+// A walk over a whole tree, which checks each row that it meets.
+ghost use Rattle.std.specs.Prelude.{◌≡◌, ◌<◌, ◌≤◌, None, OnOk, IfOk};
+ghost use Rattle.fuse_tree.specs.Bounds.{read_limit};
+ghost use Rattle.fuse_show.specs.Looks.{ReadOff};
+ghost use Rattle.fuse_show.specs.Verdict.{Counts};
+ghost use Rattle.fuse_show.specs.inner.Going.{Goes};
+
+use crate::checks::{fault_of_counters, fault_of_entry, fault_of_row, type_of};
+use crate::fault::ShowFault;
+use crate::modes::is_directory;
+use crate::names::write_name;
+use crate::tally::Tally;
+use fuse_tree::{Counters, EntryRow, Look, LookFault, MAX_READ, NodeRow, ROOT_ID, S_IFLNK};
+use std::alloc::{AllocError, Global};
+use std::io::Write;
+
+// The number of entries that one look reads.
+const PAGE: usize = 1024;
+
+/// Why a tree is not sound, or not all of it was looked at.
+#[derive(Clone, Copy, Debug, PartialEq, Eq)]
+pub enum VerifyFault {
+    /// A look failed.
+    Look(LookFault),
+    /// A row is wrong. Its line is written.
+    Wrong,
+    /// There was no memory for the paths of the directories that were left.
+    Memory,
+    /// Writing failed.
+    Output,
+}
+
+impl From<AllocError> for VerifyFault {
+    fn from(_e: AllocError) -> VerifyFault {
+        VerifyFault::Memory
+    }
+}
+
+impl From<ShowFault> for VerifyFault {
+    fn from(_e: ShowFault) -> VerifyFault {
+        VerifyFault::Output
+    }
+}
+
+// A directory whose entries are to be looked at.
+#[derive(Drop)]
+struct Place {
+    node: u64,
+    subdirs: u32,
+    path: Vec<u8>,
+}
+
+// What a walk has met, and the directories that are left of it.
+#[derive(Drop)]
+struct Walk {
+    tally: Tally,
+    left: Vec<Place>,
+}
+
+// Writes a line of what is wrong at a path.
+fn write_finding<W: Write>(writer: &mut W, path: &[u8], text: &str) -> Result<(), ShowFault> {
+    write_name(
+        writer,
+        if path.is_empty() {
+            b"/".as_slice()
+        } else {
+            path
+        },
+    )?;
+    write!(writer, ": {text}\n")?;
+    writer.flush()?;
+    Ok(())
+}
+
+// The fault of what is wrong at a path, of which the line is written.
+fn wrong<W: Write>(writer: &mut W, path: &[u8], text: &str) -> VerifyFault {
+    match write_finding(writer, path, text) {
+        Ok(()) => VerifyFault::Wrong,
+        Err(_) => VerifyFault::Output,
+    }
+}
+
+// The fault of a look at a path, of which a line is written.
+fn unread<W: Write>(writer: &mut W, path: &[u8], fault: LookFault) -> VerifyFault {
+    match write_finding(writer, path, "its rows can't be read") {
+        Ok(()) => VerifyFault::Look(fault),
+        Err(_) => VerifyFault::Output,
+    }
+}
+
+// The path of a name in a directory.
+fn path_of(alloc: Global, dir: &[u8], name: &[u8]) -> Result<Vec<u8>, AllocError> {
+    let mut path = Vec::from_slice(alloc, dir)?;
+    path.push(b'/')?;
+    path.extend_from_slice(name)?;
+    Ok(path)
+}
+
+// The number of bytes of the next read, when `left` bytes remain.
+fn piece_of(left: u64) -> u32
+    requires { 0 < left }
+    ensures some { 0 < result }
+    ensures within { result ≤ left }
+{
+    left.min(u64::from(MAX_READ)) as u32
+}
+
+// What is wrong with a piece of a content, which has so many bytes.
+fn fault_of_piece(row: &NodeRow, bytes: &[u8], len: u32) -> Option<&'static str> {
+    if bytes.len() as u64 != u64::from(len) {
+        return Some("its content has fewer bytes than its size says");
+    }
+    if type_of(row.mode) == S_IFLNK && bytes.contains(&0) {
+        return Some("its target has a zero byte");
+    }
+    None
+}
+
+// Reads the whole content of a node.
+fn read_content<L: Look, W: Write>(
+    look: &mut L,
+    row: &NodeRow,
+    path: &[u8],
+    writer: &mut W,
+) -> Result<(), VerifyFault>
+    requires { L.fault look.old ≡ None }
+    ensures goes { Goes L.fault L.looks look.old look.new result }
+    ensures silent { OnOk result (W.contents writer.new ≡ W.contents writer.old) }
+{
+    let mut offset: u64 = 0;
+    while offset < row.size {
+        let len = piece_of(row.size - offset);
+        let bytes = match look.bytes(row.node, offset, len) {
+            Ok(bytes) => bytes,
+            Err(fault) => return Err(unread(writer, path, fault)),
+        };
+        if let Some(text) = fault_of_piece(row, bytes.as_slice(), len) {
+            return Err(wrong(writer, path, text));
+        }
+        offset += u64::from(len);
+    }
+    Ok(())
+}
+
+// The row of the node of an entry, whose content is read.
+fn find_row<L: Look, W: Write>(
+    look: &mut L,
+    number: u64,
+    dir: u64,
+    counters: &Counters,
+    path: &[u8],
+    writer: &mut W,
+) -> Result<NodeRow, VerifyFault>
+    requires { L.fault look.old ≡ None }
+    ensures goes { Goes L.fault L.looks look.old look.new result }
+    ensures silent { OnOk result (W.contents writer.new ≡ W.contents writer.old) }
+{
+    let row = match look.node(number) {
+        Ok(Some(row)) => row,
+        Ok(None) => return Err(wrong(writer, path, "its node is missing")),
+        Err(fault) => return Err(unread(writer, path, fault)),
+    };
+    if let Some(text) = fault_of_row(&row, dir, counters) {
+        return Err(wrong(writer, path, text));
+    }
+    match read_content(look, &row, path, writer) {
+        Ok(()) => Ok(row),
+        Err(fault) => Err(fault),
+    }
+}
+
+// The walk with one more node; a directory is left to be looked at.
+fn add_node(walk: &mut Walk, row: &NodeRow, path: Vec<u8>) -> Result<(), AllocError> {
+    walk.tally = walk.tally.with(row);
+    if is_directory(row.mode) {
+        walk.left.push(Place {
+            node: row.node,
+            subdirs: row.subdirs,
+            path,
+        })?;
+    }
+    Ok(())
+}
+
+// Checks an entry of a directory after this cookie, and its node. Returns the node's row.
+fn visit_entry<L: Look, W: Write>(
+    alloc: Global,
+    look: &mut L,
+    walk: &mut Walk,
+    place: &Place,
+    entry: &EntryRow,
+    after: u64,
+    counters: &Counters,
+    writer: &mut W,
+) -> Result<NodeRow, VerifyFault>
+    requires { L.fault look.old ≡ None }
+    ensures goes { Goes L.fault L.looks look.old look.new result }
+    ensures silent { OnOk result (W.contents writer.new ≡ W.contents writer.old) }
+{
+    let path = path_of(alloc, place.path.as_slice(), entry.name.as_slice())?;
+    if let Some(text) = fault_of_entry(entry, place.node, after, counters) {
+        return Err(wrong(writer, path.as_slice(), text));
+    }
+    match find_row(
+        look,
+        entry.child,
+        place.node,
+        counters,
+        path.as_slice(),
+        writer,
+    ) {
+        Ok(row) => {
+            add_node(walk, &row, path)?;
+            Ok(row)
+        }
+        Err(fault) => Err(fault),
+    }
+}
+
+// The cookie of the last entry of those that were checked, and the number of directories among them.
+#[derive(Clone, Copy)]
+struct Passed {
+    cookie: u64,
+    directories: u32,
+}
+
+impl Passed {
+    // With one more entry.
+    fn with(self, entry: &EntryRow, row: &NodeRow) -> Passed {
+        let more = u32::from(is_directory(row.mode));
+        Passed {
+            cookie: entry.cookie,
+            directories: self.directories.saturating_add(more),
+        }
+    }
+}
+
+// Checks entries of a directory, in order.
+fn visit_entries<L: Look, W: Write>(
+    alloc: Global,
+    look: &mut L,
+    walk: &mut Walk,
+    place: &Place,
+    entries: &[EntryRow],
+    before: Passed,
+    counters: &Counters,
+    writer: &mut W,
+) -> Result<Passed, VerifyFault>
+    requires { L.fault look.old ≡ None }
+    ensures goes { Goes L.fault L.looks look.old look.new result }
+    ensures silent { OnOk result (W.contents writer.new ≡ W.contents writer.old) }
+{
+    let mut passed = before;
+    for entry in entries {
+        match visit_entry(
+            alloc,
+            look,
+            walk,
+            place,
+            entry,
+            passed.cookie,
+            counters,
+            writer,
+        ) {
+            Ok(row) => passed = passed.with(entry, &row),
+            Err(fault) => return Err(fault),
+        }
+    }
+    Ok(passed)
+}
+
+// Checks the entries of a directory after those that were passed, as many as one look reads. The
+// second result is whether there may be more.
+fn visit_page<L: Look, W: Write>(
+    alloc: Global,
+    look: &mut L,
+    walk: &mut Walk,
+    place: &Place,
+    before: Passed,
+    counters: &Counters,
+    writer: &mut W,
+) -> Result<(Passed, bool), VerifyFault>
+    requires { L.fault look.old ≡ None }
+    ensures goes { Goes L.fault L.looks look.old look.new result }
+    ensures silent { OnOk result (W.contents writer.new ≡ W.contents writer.old) }
+{
+    let entries = match look.entries_after(place.node, before.cookie, PAGE) {
+        Ok(entries) => entries,
+        Err(fault) => return Err(unread(writer, place.path.as_slice(), fault)),
+    };
+    let page = entries.as_slice();
+    match visit_entries(alloc, look, walk, place, page, before, counters, writer) {
+        Ok(passed) => Ok((passed, page.len() == PAGE)),
+        Err(fault) => Err(fault),
+    }
+}
+
+// Checks all entries of a directory, and that it has as many directories as are counted. No more
+// nodes are met than there are.
+fn visit_directory<L: Look, W: Write>(
+    alloc: Global,
+    look: &mut L,
+    walk: &mut Walk,
+    place: &Place,
+    counters: &Counters,
+    writer: &mut W,
+) -> Result<(), VerifyFault>
+    requires { L.fault look.old ≡ None }
+    ensures goes { Goes L.fault L.looks look.old look.new result }
+    ensures silent { OnOk result (W.contents writer.new ≡ W.contents writer.old) }
+{
+    let mut passed = Passed {
+        cookie: 0,
+        directories: 0,
+    };
+    for _ in 0..counters.nodes {
+        match visit_page(alloc, look, walk, place, passed, counters, writer) {
+            Ok((more, true)) => passed = more,
+            Ok((more, false)) => {
+                if more.directories != place.subdirs {
+                    let path = place.path.as_slice();
+                    return Err(wrong(
+                        writer,
+                        path,
+                        "its directories are not those that are counted",
+                    ));
+                }
+                return Ok(());
+            }
+            Err(fault) => return Err(fault),
+        }
+    }
+    Err(wrong(
+        writer,
+        place.path.as_slice(),
+        "it has more entries than there are nodes",
+    ))
+}
+
+// The walk that begins at the root.
+fn begin_walk<L: Look, W: Write>(
+    alloc: Global,
+    look: &mut L,
+    counters: &Counters,
+    writer: &mut W,
+) -> Result<Walk, VerifyFault>
+    requires { L.fault look.old ≡ None }
+    ensures goes { Goes L.fault L.looks look.old look.new result }
+    ensures silent { OnOk result (W.contents writer.new ≡ W.contents writer.old) }
+{
+    if let Some(text) = fault_of_counters(counters) {
+        return Err(wrong(writer, b"/", text));
+    }
+    let row = match find_row(look, ROOT_ID, 0, counters, b"/", writer) {
+        Ok(row) => row,
+        Err(fault) => return Err(fault),
+    };
+    if !is_directory(row.mode) {
+        return Err(wrong(writer, b"/", "it is no directory"));
+    }
+    let mut walk = Walk {
+        tally: Tally::NONE,
+        left: Vec::new(alloc),
+    };
+    add_node(&mut walk, &row, Vec::new(alloc))?;
+    Ok(walk)
+}
+
+// Goes on with a walk to its end.
+fn go_on<L: Look, W: Write>(
+    alloc: Global,
+    look: &mut L,
+    walk: &mut Walk,
+    counters: &Counters,
+    writer: &mut W,
+) -> Result<(), VerifyFault>
+    requires { L.fault look.old ≡ None }
+    ensures goes { Goes L.fault L.looks look.old look.new result }
+    ensures silent { OnOk result (W.contents writer.new ≡ W.contents writer.old) }
+{
+    for _ in 0..counters.nodes {
+        let Some(place) = walk.left.pop() else {
+            return Ok(());
+        };
+        match visit_directory(alloc, look, walk, &place, counters, writer) {
+            Ok(()) => {}
+            Err(fault) => return Err(fault),
+        }
+    }
+    Ok(())
+}
+
+// What is wrong with what was met at the end of a walk. The walk is at its end only where no directory
+// is left.
+fn fault_of_walk(walk: &Walk, counters: &Counters) -> Option<&'static str>
+    ensures { result ≡ None → Counts counters.now walk.now.tally }
+{
+    if !walk.left.is_empty() || walk.tally.nodes > counters.nodes {
+        return Some("more nodes lie in it than are counted");
+    }
+    if walk.tally.nodes != counters.nodes {
+        return Some("fewer nodes lie in it than are counted");
+    }
+    match counters.room {
+        Some(room) if room.used != walk.tally.blocks => {
+            Some("its files take not as many blocks as are counted")
+        }
+        _ => None,
+    }
+}
+
+/// Walks over the whole tree that a look sees, from the root on: checks each entry and the row of its
+/// node, and reads each content. What is wrong is written on a line, with its path.
+pub fn verify_tree<L: Look, W: Write>(
+    alloc: Global,
+    look: &mut L,
+    writer: &mut W,
+) -> Result<Tally, VerifyFault>
+    requires { L.fault look.old ≡ None }
+    // As many nodes and blocks were met as there are.
+    ensures counted { ReadOff (L.is_clean look.new) (L.sees look.old) (λ rows.
+        IfOk result (Counts rows.counters)) }
+    // Nothing is written of a tree in which all is right.
+    ensures silent { OnOk result (W.contents writer.new ≡ W.contents writer.old) }
+{
+    let counters = match look.counters() {
+        Ok(counters) => counters,
+        Err(fault) => return Err(unread(writer, b"/", fault)),
+    };
+    let mut walk = match begin_walk(alloc, look, &counters, writer) {
+        Ok(walk) => walk,
+        Err(fault) => return Err(fault),
+    };
+    match go_on(alloc, look, &mut walk, &counters, writer) {
+        Ok(()) => {}
+        Err(fault) => return Err(fault),
+    }
+    match fault_of_walk(&walk, &counters) {
+        None => Ok(walk.tally),
+        Some(text) => Err(wrong(writer, b"/", text)),
+    }
+}

@@ -1,0 +1,58 @@
+/* The files of the store, as a server writes and flushes them. A server commits by writing to the log, after its header. What it writes
+ * into the header and into the store are commits that were made before. A program that has no log may commit by any write. */
+#define _GNU_SOURCE
+#include "gather.h"
+#include <fcntl.h>
+#include <stdarg.h>
+#include <stdlib.h>
+#include <string.h>
+#include <sys/syscall.h>
+#include <unistd.h>
+
+enum { LOG_HEADER_SIZE = 41 };
+
+static const char log_suffix[] = "-wal";
+
+static int log_file = -1;
+
+/* The log has the store's path, and the suffix after it. */
+static bool is_log(const char *path) {
+  const char *store = getenv(STORE_VARIABLE);
+  size_t length = store ? strlen(store) : 0;
+  return store && strncmp(path, store, length) == 0 && strcmp(path + length, log_suffix) == 0;
+}
+
+static bool may_commit(int file, size_t size, off_t at) {
+  return log_file < 0 || (file == log_file && at + (off_t)size > LOG_HEADER_SIZE);
+}
+
+#pragma GCC visibility push(default)
+
+int open(const char *path, int flags, ...) {
+  va_list others;
+  va_start(others, flags);
+  mode_t mode = flags & (O_CREAT | O_TMPFILE) ? va_arg(others, mode_t) : 0;
+  va_end(others);
+  int file = (int)syscall(SYS_openat, AT_FDCWD, path, flags, mode);
+  if (file >= 0 && is_log(path) && !(flags & O_PATH)) log_file = file;
+  return file;
+}
+
+ssize_t pwrite(int file, const void *from, size_t size, off_t at) {
+  if (may_commit(file, size, at)) note_commit();
+  return syscall(SYS_pwrite64, file, from, size, at);
+}
+
+ssize_t pwrite64(int file, const void *from, size_t size, off_t at) __attribute__((alias("pwrite")));
+
+int fsync(int file) {
+  report()->counts.flushes++;
+  return (int)syscall(SYS_fsync, file);
+}
+
+int fdatasync(int file) {
+  report()->counts.flushes++;
+  return (int)syscall(SYS_fdatasync, file);
+}
+
+#pragma GCC visibility pop

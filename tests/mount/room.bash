@@ -1,0 +1,211 @@
+# Phases of tests/mount/run: a store whose disk gets full. Each runs in a folder of its own.
+
+# Writes files of 20,000 bytes, which follow from their number, until a write fails or the file `enough` exists.
+write_pieces() {
+  local number=0
+  while ! [ -e enough ]; do
+    piece "$number" >"mnt/$number" || return 1
+    number=$((number + 1))
+    echo "$number" >written
+  done
+}
+
+piece() {
+  yes "piece $1" | head -c 20000
+}
+
+compare_pieces() {
+  local number
+  for ((number = 0; number < $(cat written); number++)); do
+    piece "$number" | cmp - "mnt/$number" || return 1
+  done
+}
+
+# Whether the log of the supervisor has this line so many times.
+has_lines() {
+  [ "$(grep -c "$2" log)" -eq "$1" ]
+}
+
+# Whether it was said that calls wait, and each time then that there is room again.
+has_room_again() {
+  grep -oE "calls that take room wait|room again" log | xargs | grep -qxE "(calls that take room wait room again ?)+"
+}
+
+# While the disk is full calls that take room wait, without end. They go on once there is room, and the reserve is made again. The disk may get full
+# again at once. The store has a capacity beyond that of the disk at first.
+full_disk() {
+  options=size=1G
+  mkdir disk && mount -t tmpfs -o size=8m none disk && start disk/store mnt log || return 1
+  expect "there is a reserve" [ "$(stat -c '%s %a' disk/store-reserve)" = "1048576 600" ] || return 1
+  write_pieces &
+  local writer=$! written_before
+  record "$writer"
+  await 120 has_lines 1 "disk has no room left: calls that take room wait until there is some" || return 1
+  expect "the reserve was given up" [ ! -e disk/store-reserve ] || return 1
+  expect "it was said once" has_lines 1 "disk/store-reserve is given up" || return 1
+  sleep 5
+  written_before=$(cat written)
+  sleep 30
+  expect "the writer waits" [ "$(cat written)" = "$written_before" ] && kill -0 "$writer" || return 1
+  mount -o remount,size=16m disk && sleep 10 && mount -o remount,size=1g disk && await 120 has_room_again || return 1
+  touch enough
+  wait "$writer"
+  expect "no write failed" [ $? -eq 0 ] || return 1
+  expect "more was written than had room at first" [ "$(cat written)" -gt "$written_before" ] || return 1
+  compare_pieces && unmount_and_end mnt || return 1
+  expect "it was said each time" has_room_again || return 1
+  expect "the reserve is made again" [ -e disk/store-reserve ] || return 1
+  start disk/store mnt log-again && compare_pieces && unmount_and_end mnt && umount disk
+}
+
+# Fills a disk to its last byte.
+fill() {
+  cat /dev/zero >"$1" 2>line
+  expect "the disk is full" grep -q "No space left" line
+}
+
+has_no_handles() {
+  "$engine" store "$1" | grep -qx handles=0
+}
+
+# The reserve of a store stays when it is unmounted, and the disk becomes full. The store is mounted, files are removed from it, and the reserve
+# is made again of the room that there is. Without it the mount is refused.
+full_mount() {
+  mkdir disk && mount -t tmpfs -o size=8m none disk && start disk/store mnt log || return 1
+  piece 1 >mnt/1 && piece 2 >mnt/2 && await 60 has_no_handles disk/store && unmount_and_end mnt && fill disk/filler || return 1
+  expect "an unmount leaves the reserve" [ -e disk/store-reserve ] || return 1
+  start disk/store mnt log-full && piece 2 | cmp - mnt/2 && rm mnt/1 || return 1
+  expect "it names the reserve" grep -q "disk has no room left: .*disk/store-reserve is given up" log-full || return 1
+  stop_and_end && rm disk/store-reserve && fill disk/filler-too || return 1
+  refuses 3 "fusekeep-mount: .*disk has no room left" "$program" disk/store || return 1
+  rm disk/filler && start disk/store mnt log-again && piece 2 | cmp - mnt/2 || return 1
+  expect "the file that was removed is gone" [ "$(ls mnt)" = 2 ] || return 1
+  unmount_and_end mnt && umount disk
+}
+
+# Makes a file system of this size in a file, and mounts it on `disk`: make_disk SIZE
+make_disk() {
+  mkdir disk && truncate -s "$1" image && mkfs.ext4 -q -F image && mount -o loop image disk
+}
+
+# Writes files of 4 MiB, whose numbers go into `written`, until a write fails.
+write_large() {
+  local number=0
+  while dd if=/dev/urandom of="mnt/$number" bs=1M count=4 status=none; do
+    number=$((number + 1))
+    echo "$number" >written
+  done 2>failure
+}
+
+# A mount fills its disk by itself: its store has room for less than the disk, so that a write fails as on any disk that is full, and
+# nothing waits. Files are removed, and there is room again.
+fills_disk() {
+  local size
+  for size in 100M 600M; do
+    rm -rf image disk && make_disk "$size" && start disk/store mnt "log-$size" || return 1
+    write_large
+    expect "a write fails for lack of room ($(cat failure))" grep -q "No space left on device" failure || return 1
+    expect "it took no reserve" [ "$(stat -c %s disk/store-reserve)" -eq 8388608 ] || return 1
+    expect "files are removed at once" timeout 60 rm "mnt/$(cat written)" mnt/0 || return 1
+    expect "there is room again" cp mnt/1 mnt/again && cmp mnt/1 mnt/again || return 1
+    expect "no server ended" [ "$(grep -c "ended\|no room" "log-$size")" -eq 0 ] || return 1
+    stop_and_end && umount disk || return 1
+  done
+}
+
+# A store is said to have more room than its disk. Writes wait, files are removed meanwhile, and then the writes go on, in the room of the
+# files that were removed.
+overfull() {
+  options=size=1G
+  make_disk 100M && start disk/store mnt log || return 1
+  write_large &
+  local writer=$! last
+  record "$writer"
+  await 120 grep -q "has no room left" log || return 1
+  sleep 2
+  last=$(cat written)
+  expect "files are removed" timeout 30 rm mnt/{0..3} || return 1
+  await 60 has_written_after "$last" || return 1
+  expect "there was room again" has_lines 1 "there is room again" || return 1
+  expect "the reserve is there" [ -e disk/store-reserve ] || return 1
+  kill "$writer"
+  wait "$writer"
+  expect "a file can be read" cmp mnt/5 <(cat mnt/5) || return 1
+  await 60 stops_in 10 || return 1
+  options=
+  start disk/store mnt log-again && rm mnt/1* && stop_and_end && umount disk
+}
+
+has_written_after() {
+  [ "$(cat written)" -gt "$1" ]
+}
+
+# Whether a signal ends the mount in so many seconds.
+stops_in() {
+  kill -TERM "$supervisor"
+  await "$1" isnt_running "$supervisor"
+}
+
+# Others fill the disk. Writes wait, and files are removed and read meanwhile; a killed server has its line in the list; a signal ends the
+# mount in seconds, though a call waits; and it is mounted again so that files can be removed. When there is room again, writes go on.
+filled_by_others() {
+  options=size=1G
+  make_disk 100M && start disk/store mnt log || return 1
+  head -c 4000000 /dev/urandom >mnt/large && piece 1 >mnt/1 && piece 2 >mnt/2 && piece 3 >mnt/3 && fill disk/filler || return 1
+  python3 "$here/killer.py" "$supervisor" 1 0.3 || return 1
+  await 60 grep -q signal=9 disk/store-mount.log || return 1
+  head -c 8000000 /dev/urandom >mnt/waits 2>failure &
+  local writer=$!
+  record "$writer"
+  await 60 grep -q "has no room left" log && sleep 2 || return 1
+  expect "a file is removed" timeout 30 rm mnt/1 && expect "a large one is removed" timeout 30 rm mnt/large || return 1
+  expect "a file is read" cmp mnt/2 <(piece 2) && expect "the writer waits" kill -0 "$writer" || return 1
+  stops_in 10 && isnt_mounted "$PWD/mnt" || return 1
+  wait "$writer"
+  expect "the call has ended with an error" [ -s failure ] || return 1
+  fill disk/filler-too
+  options=
+  start disk/store mnt log-again || return 1
+  expect "the next mount removes, too" timeout 30 rm mnt/2 || return 1
+  yes | head -c 16000000 >mnt/4 &
+  writer=$!
+  record "$writer"
+  await 60 [ -e mnt/4 ] && sleep 1 || return 1
+  expect "a file is removed beside one that is made" timeout 30 rm mnt/3 && expect "the writer still waits" kill -0 "$writer" || return 1
+  rm disk/filler disk/filler-too && await 60 isnt_running "$writer" && yes | head -c 16000000 | cmp - mnt/4 || return 1
+  expect "files that stayed are there" [ "$(ls mnt | xargs)" = "4 waits" ] && unmount_and_end mnt && umount disk
+}
+
+# A file that needs more room for its removal than the reserve has: its `rm` waits, and files of other directories are removed. Another one
+# is made shorter by steps, and then it is removed.
+large_removals() {
+  options=size=1G
+  mkdir disk && mount -t tmpfs -o size=240m none disk && start disk/store mnt log && mkdir mnt/one mnt/other || return 1
+  dd if=/dev/urandom of=mnt/one/large bs=1M count=80 status=none && cp mnt/one/large mnt/other && fill disk/filler || return 1
+  rm mnt/one/large &
+  local remover=$! length
+  record "$remover"
+  await 120 grep -q 'UNLINK .* "large" needs more room than there is: it waits' log || return 1
+  for length in 50M 25M 0; do
+    expect "the other is made shorter, to $length" timeout 60 truncate -s "$length" mnt/other/large || return 1
+  done
+  expect "it is removed" timeout 60 rm mnt/other/large && expect "the first waits" kill -0 "$remover" && rm disk/filler || return 1
+  await 120 isnt_running "$remover" && expect "both are gone" [ -z "$(ls -A mnt/one)$(ls -A mnt/other)" ] && unmount_and_end mnt && umount disk
+}
+
+# A disk that has less room than it shows: the reserve isn't written again and again.
+false_room() {
+  local count
+  make_engine full-engine <<END
+if [ "\$4" = --resume ] && [ -e "$PWD/full" ]; then
+  sleep 0.3
+  echo "$PWD/store: no room left" >&2
+  exit 1
+fi
+LD_PRELOAD=\$PRELOAD exec "$engine" "\$@"
+END
+  start store mnt log && touch full && kill -KILL "$(server_by_parent)" && sleep 12 || return 1
+  count=$(grep -c "store-reserve is made again" log)
+  expect "it is made at times ($count)" [ "$count" -ge 1 ] && expect "and not often ($count)" [ "$count" -le 3 ] || return 1
+  rm full && mkdir mnt/a && unmount_and_end mnt
+}
