@@ -54,3 +54,4 @@ pub mod Telling
 pub mod Checks
 pub mod NumberRows
 pub mod Renewed
+pub mod SelectTexts

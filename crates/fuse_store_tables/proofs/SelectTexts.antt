@@ -1,0 +1,24 @@
+-- Texts that are a SELECT, whatever the schema.
+use Rattle.std.proofs.Common.{refl}
+use Rattle.sqlite_resolve.specs.Compile.{first}
+use Rattle.sqlite_tied.specs.Compute.{everything}
+use Rattle.fuse_store_tables.proofs.Selects.{IsSelectText}
+use Rattle.fuse_store_tables.proofs.CounterRows.{select_text as counters_text}
+use Rattle.fuse_store_tables.proofs.KeptRows.{select_text as record_text}
+use Rattle.fuse_store_tables.proofs.RecordCounts.{kept_text, lots_text}
+
+pub counters_select : IsSelectText (first counters_text)
+unfolding first everything
+counters_select = (_, refl)
+
+pub record_select : IsSelectText (first record_text)
+unfolding first everything
+record_select = (_, refl)
+
+pub kept_count_select : IsSelectText (first kept_text)
+unfolding first everything
+kept_count_select = (_, refl)
+
+pub lot_count_select : IsSelectText (first lots_text)
+unfolding first everything
+lot_count_select = (_, refl)
