@@ -1,4 +1,4 @@
--- The groups in which the messages of a session are performed (own profile).
+-- The groups in which the messages of a session are performed (defined by this project).
 use Rattle.std.specs.Prelude.{◌≡◌, ◌==◌, ◌||◌, ◌+◌, ℕ, nat_lt, Bool, true, false, not, if◌then◌else◌, List, [], ◌∷◌, ◌++◌, length, map}
 use Rattle.std.specs.List.{flat_map}
 use Rattle.fuse_wire.specs.Opcodes.{fuse_destroy}

@@ -1,4 +1,4 @@
--- A whole session: all that `serve` promises, over the keeper and the port before and after it (own profile).
+-- A whole session: all that `serve` promises, over the keeper and the port before and after it (defined by this project).
 use Rattle.std.specs.Prelude.{◌≡◌, ◌↔◌, ◌<◌, ◌≤◌, ◌+◌, ℕ, true, false}
 use Rattle.fuse_keeper.specs.Model.{Model}
 use Rattle.fuse_keeper.specs.KeeperState.{AnswersNoMore}

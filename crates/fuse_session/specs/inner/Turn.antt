@@ -1,4 +1,4 @@
--- One turn of a session (own profile).
+-- One turn of a session (defined by this project).
 use Rattle.std.specs.Prelude.{◌≡◌, ◌⊎◌, ◌^◌, ℕ, Bool, true, false, List, [], ◌∷◌, ◌++◌}
 use Rattle.fuse_request.specs.Act.{Asked}
 use Rattle.fuse_request.specs.Framing.{Held}
