@@ -1,7 +1,7 @@
 """Everyday stores with rows that a store's tables may not hold: those that a plain store lacks, and the rows that go with them."""
 from functools import partial
 
-from hostile.by_rows import ABOVE, KEYS, NODE_COLUMNS, NUMBERS, shown
+from hostile.by_rows import ABOVE, KEYS, NODE_COLUMNS, NUMBERS, column_edits, shown
 from hostile.edit import by_sql
 
 # Nodes 51 and 52 are links, of four bytes and of 4,095; 53 is a file that CREATE made; 54 is an open directory without a name, and 9 an
@@ -13,17 +13,6 @@ COLUMNS = [
     ("nodes", "node", (*LINKS, 54), {"node": KEYS} | {column: NUMBERS for column in NODE_COLUMNS}),
     ("handles", "fh", (3, 7, 8), {"fh": KEYS, "node": NUMBERS, "access": NUMBERS}),
 ]
-
-
-def column_edits():
-    """Each column of each table, with values that are not allowed and some that are."""
-    for table, key, rows, columns in COLUMNS:
-        for row in rows:
-            for column, values in columns.items():
-                for value in values:
-                    statement = f"UPDATE OR REPLACE {table} SET {column} = ? WHERE {key} = {row}"
-                    name = f"{table} {row}: {column} is {shown(value)}"
-                    yield by_sql(f"everyday, column of {table}", name, (statement, value), always=False, everyday=True)
 
 
 def rooms():
@@ -84,4 +73,5 @@ def removed():
 
 def all_of_everyday():
     """All everyday stores with such rows."""
-    return [one for group in (rooms, links, removed, column_edits) for one in group()]
+    columns = column_edits("everyday, ", COLUMNS, everyday=True)
+    return [*rooms(), *links(), *removed(), *columns]

@@ -31,15 +31,15 @@ def shown(value):
     return f"{len(value)} bytes" if isinstance(value, bytes) and len(value) > 8 else repr(value)
 
 
-def column_edits():
+def column_edits(kind="", tables=COLUMNS, everyday=False):
     """Each column of each table, with values that are not allowed and some that are."""
-    for table, key, rows, columns in COLUMNS:
+    for table, key, rows, columns in tables:
         for row in rows:
             for column, values in columns.items():
                 for value in values:
                     statement = f"UPDATE OR REPLACE {table} SET {column} = ? WHERE {key} = {row}"
                     name = f"{table} {row}: {column} is {shown(value)}"
-                    yield by_sql(f"column of {table}", name, (statement, value), always=False)
+                    yield by_sql(f"{kind}column of {table}", name, (statement, value), always=False, everyday=everyday)
 
 
 def missing_rows():

@@ -1,4 +1,4 @@
--- The counts of a keeper over another one (own profile).
+-- The counts of a keeper over another one (defined by this project).
 use Rattle.std.specs.Prelude.{◌≡◌, ℕ, ◌+◌, ◌-◌, ◌<◌, ◌^◌, min, List, length, Result, Ok, Err}
 use Rattle.std.specs.List.{count_by}
 use Rattle.fuse_keeper.specs.declared.fault.StoreFault.{StoreFault}

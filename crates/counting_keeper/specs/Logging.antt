@@ -1,4 +1,4 @@
--- The log of a keeper over another one (own profile).
+-- The log of a keeper over another one (defined by this project).
 use Rattle.std.specs.Prelude.{◌≡◌, ℕ, true, List, ◌++◌, map}
 use Rattle.fuse_keeper.specs.History.{ids_in}
 use Rattle.fuse_keeper.specs.Performance.{Performance}

@@ -1,4 +1,4 @@
--- The forms of answers (own profile).
+-- The forms of answers (defined by this project).
 use Rattle.std.specs.Prelude.{ℕ, List, [], Option, Some, None, pos}
 use Rattle.fuse_wire.specs.declared.errno.Errno.{Errno}
 use Rattle.fuse_answer.specs.Said.{Said}

@@ -1,4 +1,5 @@
--- The answer to each request, and the settings after it (own profile): the first check that applies decides. A moment does not matter.
+-- The answer to each request, and the settings after it (defined by this project): the first check that applies decides.
+-- A moment does not matter.
 use Rattle.std.specs.Prelude.{◌==◌, ◌||◌, ℕ, Bool, true, false, not, nat_eq, nat_lt, if◌then◌else◌, List, [], length, take, drop}
 use Rattle.std.specs.Prelude.{Option, Some, None, is_some, codes}
 use Rattle.std.specs.List.{list_any}

@@ -1,4 +1,4 @@
--- The answer to READDIR (own profile; fuse.h: fuse_dirent): the entries after an offset, as many as fit.
+-- The answer to READDIR (defined by this project; fuse.h: fuse_dirent): the entries after an offset, as many as fit.
 use Rattle.std.specs.Prelude.{◌-◌, ◌==◌, ℕ, Bool, true, not, nat_le, nat_lt, if◌then◌else◌, List, [], ◌∷◌, filter, codes}
 use Rattle.fuse_wire.specs.Errnos.{ebadf, enotdir, einval}
 use Rattle.fuse_request.specs.declared.request.ReadIn.{ReadIn}

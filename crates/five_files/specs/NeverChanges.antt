@@ -1,4 +1,4 @@
--- The files never change (own profile).
+-- The files never change (defined by this project).
 use Rattle.std.specs.Prelude.{◌≡◌, true, Option, is_some}
 use Rattle.fuse_init.specs.declared.settings.Settings.{Settings}
 use Rattle.fuse_keeper.specs.History.{Entry, History, after, answer_to}

@@ -1,4 +1,4 @@
--- The five nodes (own profile): a directory, and in it three regular files and a symbolic link.
+-- The five nodes (defined by this project): a directory, and in it three regular files and a symbolic link.
 use Rattle.std.specs.Prelude.{◌+◌, ◌/◌, ◌==◌, ℕ, Bool, true, false, if◌then◌else◌, List, [], length, Option, Some, None, codes}
 use Rattle.fuse_answer.specs.declared.records.Attr.{Attr}
 use Rattle.five_files.specs.declared.node.Node.{Node}

@@ -1,4 +1,4 @@
--- That the files stay where they are served (own profile).
+-- That the files stay where they are served (defined by this project).
 use Rattle.std.specs.Prelude.{◌≡◌, ◌≤◌, ℕ, true, [], length, take, Option, is_some}
 use Rattle.fuse_init.specs.declared.settings.Settings.{Settings}
 use Rattle.fuse_keeper.specs.History.{Entry, after, grown, answer_to}

@@ -1,4 +1,4 @@
--- The file system of five files (own profile).
+-- The file system of five files (defined by this project).
 use Rattle.std.specs.Prelude.{Option, None}
 use Rattle.fuse_init.specs.declared.settings.Settings.{Settings}
 use Rattle.fuse_keeper.specs.Model.{Model}

@@ -1,4 +1,4 @@
--- An answer without its unique: an error number and a body (own profile: its bounds).
+-- An answer without its unique: an error number and a body (its bounds are defined by this project).
 use Rattle.std.specs.Prelude.{◌≡◌, ◌≢◌, ◌≤◌, ℕ, List, [], length}
 use Rattle.fuse_wire.specs.Bounds.{max_body_len}
 

@@ -1,4 +1,4 @@
--- Why a database failed: its errors, as far as a user can do something about them (own profile).
+-- Why a database failed: its errors, as far as a user can do something about them (defined by this project).
 use Rattle.sqlite.specs.declared.error.Error.{Error}
 use Rattle.sqlite.specs.declared.error.Error.TheVariants.{SqliteFailure}
 use Rattle.sqlite.specs.declared.error.ErrorCode.{ErrorCode}

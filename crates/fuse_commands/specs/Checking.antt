@@ -1,4 +1,4 @@
--- The counts of the messages of a stream, and their line (own profile).
+-- The counts of the messages of a stream, and their line (defined by this project).
 use Rattle.std.specs.Prelude.{◌≡◌, ◌&&◌, ℕ, zero, suc, Bool, true, false, List, ◌++◌, length, codes, decimal, Option, Some, None, is_some, is_none}
 use Rattle.std.specs.List.{filter}
 use Rattle.std.specs.Io.KnownBytes.{Appends}

@@ -1,4 +1,4 @@
--- The lines of the messages of a stream (own profile).
+-- The lines of the messages of a stream (defined by this project).
 use Rattle.std.specs.Prelude.{◌≡◌, ◌+◌, ℕ, List, [], ◌∷◌, ◌++◌, length, if◌then◌else◌, codes, decimal, Option, Some, None}
 use Rattle.std.specs.Io.KnownBytes.{Appends}
 use Rattle.fuse_wire.specs.Ids.{id_of, resent}

@@ -1,4 +1,4 @@
--- The table of endings: the exit status of each, and its line on standard error (own profile).
+-- The table of endings: the exit status of each, and its line on standard error (defined by this project).
 use Rattle.std.specs.Prelude.{◌≤◌, List, ℕ, ◌++◌, codes, decimal, Option, Some, None}
 use Rattle.fuse_request.specs.declared.framer.FrameFault.{FrameFault}
 use Rattle.fuse_request.specs.declared.framer.FrameFault.TheVariants as frame

@@ -1,4 +1,4 @@
--- An input, read piece by piece (own profile).
+-- An input, read piece by piece (defined by this project).
 use Rattle.std.specs.Prelude.{◌+◌, ◌-◌, ◌^◌, ℕ, List, min, Option}
 use Rattle.fuse_commands.specs.declared.progress.ProgressLine.{ProgressLine}
 use Rattle.fuse_commands.specs.declared.progress.ProgressReader.{ProgressReader}

@@ -1,4 +1,4 @@
--- The fault of a stream, and how a command over it ends (own profile).
+-- The fault of a stream, and how a command over it ends (defined by this project).
 use Rattle.std.specs.Prelude.{ℕ, List, length, Option, Some, None}
 use Rattle.fuse_request.specs.declared.framer.FrameFault.{FrameFault}
 use Rattle.fuse_request.specs.Stream.{cut, joined}

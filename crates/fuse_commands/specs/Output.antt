@@ -1,4 +1,4 @@
--- The lines of the output (own profile).
+-- The lines of the output (defined by this project).
 use Rattle.std.specs.Prelude.{◌/◌, ℕ, List, [], ◌∷◌, ◌++◌, Option, Some, None, codes, decimal}
 use Rattle.std.specs.List.{flat_map}
 use Rattle.hex.specs.Hex.{encode_lower}

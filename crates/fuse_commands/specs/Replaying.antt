@@ -1,4 +1,4 @@
--- The messages, the answers and the state after a replay (own profile).
+-- The messages, the answers and the state after a replay (defined by this project).
 use Rattle.std.specs.Prelude.{◌≡◌, ◌⊎◌, ℕ, List, [], ◌++◌, length, Option, Some}
 use Rattle.std.specs.List.{AllByRecursion, flat_map}
 use Rattle.std.specs.Io.KnownBytes.{Appends}

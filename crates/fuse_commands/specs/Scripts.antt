@@ -1,4 +1,4 @@
--- Scripts: a line for each event (own profile).
+-- Scripts: a line for each event (defined by this project).
 use Rattle.std.specs.Prelude.{◌≡◌, ◌⊎◌, ◌<◌, ◌^◌, ◌==◌, ℕ, suc, false, codes, List, [], ◌∷◌, ◌++◌, length, Ok}
 use Rattle.std.specs.List.{slice_split}
 use Rattle.std.specs.Str.Parse.{AllDigits, digits_value}

@@ -1,4 +1,4 @@
--- What serving a port does: at Resume the notices, then a session (own profile).
+-- What serving a port does: at Resume the notices, then a session (defined by this project).
 use Rattle.std.specs.Prelude.{◌≡◌, ◌⊎◌, ℕ, true, List, [], Option, None, Ok, Err, OnOk}
 use Rattle.fuse_wire.specs.declared.moment.Moment.{Moment}
 use Rattle.fuse_keeper.specs.Model.{Model}

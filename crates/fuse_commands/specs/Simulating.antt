@@ -1,4 +1,4 @@
--- The outcomes of the events of a script, and the output (own profile).
+-- The outcomes of the events of a script, and the output (defined by this project).
 use Rattle.std.specs.Prelude.{◌≡◌, ℕ, codes, List, [], ◌++◌, map, length, take, Option, Some, None}
 use Rattle.std.specs.List.{flat_map}
 use Rattle.hex.specs.Hex.{encode_lower}

@@ -1,4 +1,4 @@
--- A replay over a new store in memory (own profile).
+-- A replay over a new store in memory (defined by this project).
 use Rattle.std.specs.Prelude.{◌≡◌, []}
 use Rattle.fuse_wire.specs.declared.moment.Moment.{Moment}
 use Rattle.fuse_init.specs.declared.profile.Profile.{Profile}

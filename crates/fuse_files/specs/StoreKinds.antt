@@ -1,4 +1,5 @@
--- The blocks of the new store that is asked for, by its profile and the bytes that it shall have room for, and its owner (own profile).
+-- The new store that is asked for: its blocks, by its profile and the bytes that it shall have room for, and its owner
+-- (defined by this project).
 use Rattle.std.specs.Prelude.{◌/◌, ◌%◌, ◌==◌, ◌&&◌, nat_lt, if◌then◌else◌, ℕ, Option, Some, None}
 use Rattle.fuse_init.specs.declared.profile.Profile.{Profile}
 use Rattle.fuse_init.specs.declared.profile.Profile.TheVariants.{Plain, Everyday}

@@ -1,4 +1,4 @@
--- The runs of servers over the files of a store are lives (own profile).
+-- The runs of servers over the files of a store are lives (defined by this project).
 use Rattle.std.proofs.Common.{◌⊎◌, inl, inr}
 use Rattle.std.specs.Prelude.{◌≡◌, List, [], Option, Some, None, Result, Ok, Err, IsTrue}
 use Rattle.fuse_session.specs.declared.counts.SessionCounts.{SessionCounts}

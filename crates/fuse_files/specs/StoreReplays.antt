@@ -1,4 +1,4 @@
--- A replay over the files of a store: what is opened, replayed and closed (own profile).
+-- A replay over the files of a store: what is opened, replayed and closed (defined by this project).
 use Rattle.std.specs.Prelude.{◌≡◌, ◌⊎◌, ℕ, List, Option, Some, None, Result, IfSome}
 use Rattle.sqlite_disk.specs.declared.Disk.{Ghosts}
 use Rattle.sqlite_disk.specs.declared.Files.{Files}

@@ -1,4 +1,4 @@
--- A run of a server over the files of a store: what is opened, served and closed (own profile).
+-- A run of a server over the files of a store: what is opened, served and closed (defined by this project).
 use Rattle.std.specs.Prelude.{◌≡◌, ◌⊎◌, List, [], ◌∷◌, Some, None, Result, Ok, Err, IfSome}
 use Rattle.sqlite_disk.specs.declared.Disk.{Ghosts}
 use Rattle.sqlite_disk.specs.declared.Files.{Files}

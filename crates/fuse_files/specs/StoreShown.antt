@@ -1,4 +1,4 @@
--- What is shown of the store in files that were read (own profile).
+-- What is shown of the store in files that were read (defined by this project).
 use Rattle.std.specs.Prelude.{◌≡◌, ◌⊎◌, ⊤, ℕ, List, length, Option, Result, Ok, Err}
 use Rattle.std.specs.List.{sum_by}
 use Rattle.std.specs.Io.KnownBytes.{Appends}

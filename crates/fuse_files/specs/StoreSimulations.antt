@@ -1,4 +1,4 @@
--- A script that is run over a new store in files that crash (own profile).
+-- A script that is run over a new store in files that crash (defined by this project).
 use Rattle.std.specs.Prelude.{◌≡◌, ◌≤◌, ◌⊎◌, ℕ, true, false, List, [], Option, Some, IsSomeAnd}
 use Rattle.std.specs.Io.KnownBytes.{Appends}
 use Rattle.sqlite_disk.specs.declared.Disk.{Ghosts}

@@ -1,4 +1,4 @@
--- What is verified of the store in files that were read (own profile).
+-- What is verified of the store in files that were read (defined by this project).
 use Rattle.std.specs.Prelude.{⊤, ℕ, List, Option}
 use Rattle.std.specs.Io.KnownBytes.{Appends}
 use Rattle.fuse_tree.specs.Rows.{Rows, rowed}

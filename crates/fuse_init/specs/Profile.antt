@@ -1,4 +1,4 @@
--- What a profile of the tree decides (own profile; the bits of flags and of open flags are those of fuse.h).
+-- What a profile of the tree decides (defined by this project; the bits of flags and of open flags are those of fuse.h).
 use Rattle.std.specs.Prelude.{◌^◌, ◌==◌, ◌&&◌, ◌||◌, ℕ, Bool, true, false, Option, Some, None}
 use Rattle.std.specs.Int.RustNames.{bit_or}
 use Rattle.fuse_wire.specs.Bits.{fuse_async_read, fuse_big_writes, fuse_do_readdirplus, fuse_readdirplus_auto, fuse_parallel_dirops}

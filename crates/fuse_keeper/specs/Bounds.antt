@@ -1,4 +1,4 @@
--- Bounds of a call of a keeper (own profile).
+-- Bounds of a call of a keeper (defined by this project).
 use Rattle.std.specs.Prelude.{ℕ}
 
 -- the most requests of a group

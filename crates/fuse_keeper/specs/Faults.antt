@@ -1,4 +1,4 @@
--- Faults of `sqlite` as faults of a store (own profile).
+-- Faults of `sqlite` as faults of a store (defined by this project).
 use Rattle.std.specs.Prelude.{Bool, true, false, if◌then◌else◌}
 use Rattle.sqlite.specs.declared.error.Error.{Error}
 use Rattle.sqlite.specs.declared.error.Error.TheVariants.{SqliteFailure}

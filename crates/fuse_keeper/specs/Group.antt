@@ -1,4 +1,4 @@
--- The groups that a keeper performs (own profile).
+-- The groups that a keeper performs (defined by this project).
 use Rattle.std.specs.Prelude.{◌≢◌, ℕ, List, [], ◌∷◌, map}
 use Rattle.fuse_wire.specs.declared.id.Id.{Id}
 use Rattle.fuse_wire.specs.declared.moment.Moment.{Moment}

@@ -1,4 +1,4 @@
--- Histories: the requests that were performed, each once (own profile).
+-- Histories: the requests that were performed, each once (defined by this project).
 use Rattle.std.specs.Prelude.{◌≡◌, ℕ, Bool, true, false, ◌==◌, if◌then◌else◌, List, [], ◌∷◌, ◌++◌, map, Option, Some, None}
 use Rattle.fuse_wire.specs.Ids.{id_of}
 use Rattle.fuse_wire.specs.declared.moment.Moment.{Moment}

@@ -1,4 +1,4 @@
--- The state of a keeper, and how a call changes it (own profile).
+-- The state of a keeper, and how a call changes it (defined by this project).
 use Rattle.std.specs.Prelude.{◌≡◌, ◌||◌, ◌⊎◌, ℕ, ◌+◌, Bool, false, List, [], All, Result, is_err, IfErr, OnOk, OnErr}
 use Rattle.fuse_keeper.specs.declared.fault.StoreFault.{StoreFault}
 use Rattle.fuse_keeper.specs.declared.keeper.Done.{Done}

@@ -1,5 +1,5 @@
--- The lots that records are kept in (own profile). A keeper allocates at most one after it is opened or a mount begins, and puts
--- all later records under that lot; so the records of different openings are in different lots.
+-- The lots that records are kept in (defined by this project). A keeper allocates at most one after it is opened or a mount begins, and
+-- puts all later records under that lot; so the records of different openings are in different lots.
 use Rattle.std.specs.Prelude.{◌≡◌, ◌⊎◌, ℕ, true, false, List, [], ◌∷◌, ◌++◌, Option, Some, None}
 use Rattle.fuse_answer.specs.Said.{Said}
 use Rattle.fuse_keeper.specs.History.{Entry, is_in, ids_in}

@@ -1,4 +1,4 @@
--- A file system: its states, the effect and the answer of each request, and how a state is held (own profile).
+-- A file system: its states, the effect and the answer of each request, and how a state is held (defined by this project).
 use Rattle.std.specs.Prelude.{◌≡◌, ℕ, Option}
 use Rattle.fuse_wire.specs.declared.moment.Moment.{Moment}
 use Rattle.fuse_request.specs.Act.{Asked}

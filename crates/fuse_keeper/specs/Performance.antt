@@ -1,4 +1,4 @@
--- What a keeper was asked to perform (own profile).
+-- What a keeper was asked to perform (defined by this project).
 use Rattle.std.specs.Prelude.{ℕ, List, [], ◌∷◌, ◌++◌}
 use Rattle.fuse_keeper.specs.History.{Entry}
 

@@ -1,4 +1,4 @@
--- The records that a map stands for (own profile).
+-- The records that a map stands for (defined by this project).
 use Rattle.std.specs.Prelude.{ℕ, nat_eq}
 use Rattle.std.specs.HashMap.{HashMap, get}
 use Rattle.fuse_answer.specs.Said.{Said}

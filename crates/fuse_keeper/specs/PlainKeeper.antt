@@ -1,4 +1,4 @@
--- The state of a keeper in memory (own profile).
+-- The state of a keeper in memory (defined by this project).
 use Rattle.std.specs.Prelude.{◌≡◌, false}
 use Rattle.fuse_keeper.specs.declared.fault.StoreFault.TheVariants.{Memory}
 use Rattle.fuse_keeper.specs.declared.plain.PlainKeeper.{PlainKeeper}

@@ -1,4 +1,4 @@
--- How rows and records stand for a history, and what a crash may leave of them (own profile).
+-- How rows and records stand for a history, and what a crash may leave of them (defined by this project).
 use Rattle.std.specs.Prelude.{◌≡◌, ◌⊎◌, ℕ, false, nat_eq, if◌then◌else◌, List, length, map, Option, Some, None, is_some}
 use Rattle.std.specs.List.{IsDistinct}
 use Rattle.fuse_answer.specs.Said.{Said}

@@ -1,4 +1,4 @@
--- The fault of a body (own profile), by the kinds of bodies: the first one in the order of Malformed.
+-- The fault of a body (defined by this project), by the kinds of bodies: the first one in the order of Malformed.
 use Rattle.std.specs.Prelude.{◌-◌, ◌*◌, ◌==◌, ◌||◌, ℕ, nat_lt, if◌then◌else◌, List, [], ◌∷◌, length, drop, Option, Some, None}
 use Rattle.fuse_wire.specs.Bytes.{number_of, after_nul}
 use Rattle.fuse_request.specs.declared.decoding.Malformed.{Malformed}

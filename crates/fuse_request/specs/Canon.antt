@@ -1,4 +1,4 @@
--- The one spelling of a request whose unused bytes are 0, and which requests may be encoded (own profile).
+-- The one spelling of a request whose unused bytes are 0, and which requests may be encoded (defined by this project).
 use Rattle.std.specs.Prelude.{◌≡◌, ◌+◌, ◌*◌, ◌/◌, ◌%◌, ◌==◌, ◌&&◌, ℕ, Bool, true, not, List, ◌++◌, length}
 use Rattle.std.specs.List.{list_any}
 use Rattle.fuse_wire.specs.Layout.{form, HasForm}

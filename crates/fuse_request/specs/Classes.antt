@@ -1,4 +1,4 @@
--- How a message is answered (own profile).
+-- How a message is answered (defined by this project).
 use Rattle.std.specs.Prelude.{◌≡◌, ◌==◌, ◌&&◌, ◌⊎◌, ℕ, Bool, true, false, not, if◌then◌else◌, List, Option, Some, None}
 use Rattle.fuse_wire.specs.Errnos.{einval, enosys}
 use Rattle.fuse_wire.specs.Ids.{id_of}

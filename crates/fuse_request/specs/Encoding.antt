@@ -1,4 +1,4 @@
--- The request that is read from an encoded message (own profile).
+-- The request that is read from an encoded message (defined by this project).
 use Rattle.std.specs.Prelude.{◌≡◌, ℕ, None, List}
 use Rattle.fuse_request.specs.Act.{Asked}
 use Rattle.fuse_request.specs.Faults.{first_fault}

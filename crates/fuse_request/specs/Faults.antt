@@ -1,4 +1,4 @@
--- The fault of bytes that spell no request: the first one in the order of Malformed (own profile).
+-- The fault of bytes that spell no request: the first one in the order of Malformed (defined by this project).
 use Rattle.std.specs.Prelude.{◌-◌, ◌==◌, ℕ, not, nat_lt, if◌then◌else◌, List, length, Option, Some}
 use Rattle.fuse_request.specs.declared.decoding.Malformed.{Malformed}
 use Rattle.fuse_request.specs.declared.decoding.Malformed.TheVariants.{HeaderShort, LenDiffers, ExtTooLong}

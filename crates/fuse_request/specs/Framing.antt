@@ -1,4 +1,4 @@
--- The state of a framer, and its answers (own profile).
+-- The state of a framer, and its answers (defined by this project).
 use Rattle.std.specs.Prelude.{◌≡◌, ◌≤◌, ◌+◌, ◌-◌, ℕ, nat_lt, if◌then◌else◌, List, [], ◌∷◌, ◌++◌, length, Option, Some, None, Result, Ok, Err, IfSome}
 use Rattle.std.specs.Option.{option_or}
 use Rattle.fuse_wire.specs.Bytes.{number_of}

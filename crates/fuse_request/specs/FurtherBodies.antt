@@ -117,7 +117,7 @@ value_fault size (Some value) = if length value == size then None else Some Coun
 abbrev pub setxattr_fault : List ℕ → Option Malformed
 setxattr_fault b = at_least compat_setxattr_in_size (λ rest. value_fault (number_of 4 b) (after_nul rest)) b
 
--- an opcode: its number, what is wrong with a body (own profile), and what a body says at its places
+-- an opcode: its number, what is wrong with a body (defined by this project), and what a body says at its places
 pub record FurtherOpcode : Type 0 where
   pub opcode : ℕ
   pub fault : List ℕ → Option Malformed

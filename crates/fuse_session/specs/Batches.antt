@@ -1,4 +1,4 @@
--- What a keeper is asked to perform: the messages batch by batch, with the ids that are settled by then (own profile).
+-- What a keeper is asked to perform: the messages batch by batch, with the ids that are settled by then (defined by this project).
 use Rattle.std.specs.Prelude.{◌≡◌, ◌⊎◌, ℕ, Bool, List, [], ◌∷◌, ◌++◌, length}
 use Rattle.fuse_request.specs.Opcodes.{OpcodeSet}
 use Rattle.fuse_keeper.specs.Group.{left_pending}

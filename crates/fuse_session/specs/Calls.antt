@@ -1,4 +1,4 @@
--- One call of a reader or a writer, and what a port answers by it (own profile).
+-- One call of a reader or a writer, and what a port answers by it (defined by this project).
 use Rattle.std.specs.Prelude.{◌≡◌, ℕ, ◌==◌, if◌then◌else◌, List, Option, Result, Ok, Err}
 use Rattle.std.specs.Io.{ReadsAtMost, WritesAtMost}
 use Rattle.std.specs.Io.KnownBytes.{ReadConsumes, WriteAppends}

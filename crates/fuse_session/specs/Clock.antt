@@ -1,4 +1,4 @@
--- The moments that a clock gives (own profile).
+-- The moments that a clock gives (defined by this project).
 use Rattle.std.specs.Prelude.{◌≡◌, List, [], ◌∷◌, ◌++◌}
 use Rattle.std.specs.List.{AllByRecursion}
 use Rattle.fuse_wire.specs.declared.moment.Moment.{Moment}

@@ -1,4 +1,5 @@
--- What a session did: the moments that its clock gave, what its keeper was asked to perform, and what happened at its port (own profile).
+-- What a session did: the moments that its clock gave, what its keeper was asked to perform, and what happened
+-- at its port (defined by this project).
 use Rattle.std.specs.Prelude.{◌≡◌, ℕ, List}
 use Rattle.fuse_wire.specs.declared.moment.Moment.{Moment}
 use Rattle.fuse_keeper.specs.Performance.{Performance}

@@ -1,4 +1,4 @@
--- The state of a port over a FUSE device (own profile).
+-- The state of a port over a FUSE device (defined by this project).
 use Rattle.std.specs.Prelude.{ℕ, nat_lt, ◌-◌, ◌^◌, ◌==◌, if◌then◌else◌, true, replicate, None}
 use Rattle.fuse_session.specs.declared.device.DevicePort.{DevicePort}
 use Rattle.fuse_session.specs.declared.port.Sent.{Sent}

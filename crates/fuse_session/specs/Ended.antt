@@ -1,4 +1,4 @@
--- What the ends of a session have in common (own profile).
+-- What the ends of a session have in common (defined by this project).
 use Rattle.std.specs.Prelude.{◌≡◌, Bool, true, false}
 use Rattle.fuse_keeper.specs.declared.fault.StoreFault.{StoreFault}
 use Rattle.fuse_keeper.specs.Model.{Model}

@@ -1,4 +1,4 @@
--- How serving ends: one case for each line of the table of ends (own profile).
+-- How serving ends: one case for each line of the table of ends (defined by this project).
 use Rattle.std.specs.Prelude.{◌≡◌, ◌⊎◌, ◌<◌, ◌==◌, if◌then◌else◌, not, ℕ, ◌+◌, Bool, List, [], ◌++◌, length, take, Option, Some, None}
 use Rattle.std.specs.Io.KnownBytes.{Consumes}
 use Rattle.fuse_request.specs.Framing.{HasNone, bad_length, end_fault}

@@ -1,4 +1,4 @@
--- Messages and the answers to them, over the history that a keeper stands for (own profile).
+-- Messages and the answers to them, over the history that a keeper stands for (defined by this project).
 use Rattle.std.specs.Prelude.{◌≡◌, ℕ, Bool, true, false, List, ◌++◌, length, take}
 use Rattle.fuse_keeper.specs.History.{History, grown, Includes}
 use Rattle.fuse_keeper.specs.Model.{Model}

@@ -1,4 +1,4 @@
--- The state of a port in memory (own profile).
+-- The state of a port in memory (defined by this project).
 use Rattle.std.specs.Prelude.{◌≡◌, ◌⊎◌, ◌<◌, ◌≤◌, ◌+◌, ℕ, nat_lt, ◌-◌, ◌==◌, if◌then◌else◌, min, List, [], ◌∷◌, drop, length, Some, vec_capacity, vec_len}
 use Rattle.fuse_session.specs.declared.memory.Arrival.{Arrival}
 use Rattle.fuse_session.specs.declared.memory.Arrival.TheVariants as arrivals

@@ -1,4 +1,4 @@
--- A keeper and a port before and after, and what was done meanwhile (own profile).
+-- A keeper and a port before and after, and what was done meanwhile (defined by this project).
 use Rattle.std.specs.Prelude.{◌≡◌, ℕ, List}
 use Rattle.fuse_keeper.specs.Model.{Model}
 use Rattle.fuse_keeper.specs.KeeperState.{KeeperState}

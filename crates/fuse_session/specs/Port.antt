@@ -1,4 +1,4 @@
--- The bytes that a port gives and takes (own profile).
+-- The bytes that a port gives and takes (defined by this project).
 use Rattle.std.specs.Prelude.{◌≡◌, ℕ, ◌+◌, ◌<◌, ◌≤◌, ◌^◌, Bool, true, false, ◌==◌, if◌then◌else◌, List, [], ◌∷◌, ◌++◌, length, take, Option, IfSome}
 use Rattle.std.specs.Io.KnownBytes.{Keeps, Appends, Consumes, IsAtEnd}
 use Rattle.fuse_session.specs.declared.port.Received.{Received}

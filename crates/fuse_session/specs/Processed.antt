@@ -1,4 +1,4 @@
--- Messages that are processed, and the bytes that are sent for them (own profile).
+-- Messages that are processed, and the bytes that are sent for them (defined by this project).
 use Rattle.std.specs.Prelude.{◌≡◌, ◌⊎◌, ℕ, Bool, true, false, ◌==◌, List, [], ◌∷◌, ◌++◌, map, Option, Some, None}
 use Rattle.fuse_wire.specs.Ids.{id_of}
 use Rattle.fuse_wire.specs.declared.moment.Moment.{Moment}

@@ -1,4 +1,4 @@
--- All messages that came are answered before more is received (own profile).
+-- All messages that came are answered before more is received (defined by this project).
 use Rattle.std.specs.Prelude.{◌≡◌, ◌⊎◌, ℕ, Bool, List, [], ◌∷◌, ◌++◌, length, None}
 use Rattle.std.specs.List.{AllByRecursion}
 use Rattle.fuse_request.specs.Framing.{bad_length}

@@ -1,4 +1,4 @@
--- A session so far: the bytes that came, the messages processed, the answers sent, and the history of the keeper (own profile).
+-- A session so far: the bytes that came, the messages processed, the answers sent, and the history of the keeper (defined by this project).
 use Rattle.std.specs.Prelude.{◌≡◌, ℕ, ◌+◌, Bool, true, false, List, [], ◌++◌, length, take, drop}
 use Rattle.std.specs.Io.KnownBytes.{Consumes}
 use Rattle.fuse_request.specs.Stream.{cut, joined}

@@ -1,4 +1,4 @@
--- The ids that the answers settle, and the records that stay (own profile).
+-- The ids that the answers settle, and the records that stay (defined by this project).
 use Rattle.std.specs.Prelude.{◌≡◌, ◌⊎◌, ◌≤◌, ◌||◌, ℕ, Bool, true, false, List, [], ◌∷◌, ◌++◌, length, map, Option, None, IfSome}
 use Rattle.std.specs.Io.KnownBytes.{Appends, append_known}
 use Rattle.fuse_request.specs.declared.class.Class.{Class}

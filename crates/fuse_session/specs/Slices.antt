@@ -1,4 +1,4 @@
--- The slices in which answers are handed to a port: each is all that is left of one answer (own profile).
+-- The slices in which answers are handed to a port: each is all that is left of one answer (defined by this project).
 use Rattle.std.specs.Prelude.{◌≡◌, ◌≢◌, ◌||◌, ℕ, Bool, false, List, [], ◌∷◌, ◌++◌}
 use Rattle.fuse_session.specs.declared.port.Sent.{Sent}
 use Rattle.fuse_session.specs.Port.{is_gone}

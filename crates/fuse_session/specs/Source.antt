@@ -1,4 +1,4 @@
--- What one read, write or flush does (own profile).
+-- What one read, write or flush does (defined by this project).
 use Rattle.std.specs.Prelude.{ℕ, List, Option, Result}
 use Rattle.std.specs.Io.{ReadsAtMost, WritesAtMost}
 use Rattle.std.specs.Io.KnownBytes.{ReadConsumes, WriteAppends, Keeps}

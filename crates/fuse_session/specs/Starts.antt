@@ -1,4 +1,4 @@
--- The lots of records: over a session, and over starts (own profile).
+-- The lots of records: over a session, and over starts (defined by this project).
 use Rattle.std.specs.Prelude.{◌≡◌, ◌⊎◌, ◌≤◌, ℕ, true, List, [], ◌∷◌, length, Some, None, is_some}
 use Rattle.std.specs.List.{AllByRecursion}
 use Rattle.fuse_keeper.specs.History.{is_in}

@@ -1,4 +1,4 @@
--- What became of a port by calls, one after the other (own profile).
+-- What became of a port by calls, one after the other (defined by this project).
 use Rattle.std.specs.Prelude.{◌≡◌, List, [], ◌∷◌}
 use Rattle.fuse_session.specs.Port.{PortState}
 use Rattle.fuse_session.specs.Transcript.{PortEvent, Steps}

@@ -1,4 +1,4 @@
--- The state of a port over a reader and a writer (own profile).
+-- The state of a port over a reader and a writer (defined by this project).
 use Rattle.std.specs.Prelude.{ℕ, nat_lt, List, [], Option}
 use Rattle.fuse_session.specs.declared.stream.StreamPort.{StreamPort}
 use Rattle.fuse_session.specs.Port.{PortState}

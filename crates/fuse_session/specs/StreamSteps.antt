@@ -1,4 +1,4 @@
--- What the calls of a port over a reader and a writer did to its two sides (own profile).
+-- What the calls of a port over a reader and a writer did to its two sides (defined by this project).
 use Rattle.std.specs.Prelude.{◌≡◌, ℕ, List, Option, Result}
 use Rattle.std.specs.declared.io.Error.{Error}
 use Rattle.fuse_session.specs.declared.stream.StreamPort.{StreamPort}

@@ -1,4 +1,4 @@
--- What a port was asked for, and how it answered (own profile).
+-- What a port was asked for, and how it answered (defined by this project).
 use Rattle.std.specs.Prelude.{◌≡◌, ◌≢◌, ℕ, Bool, true, false, List, [], ◌∷◌, ◌++◌, map, take, drop}
 use Rattle.fuse_session.specs.declared.port.Received.{Received as Receipt}
 use Rattle.fuse_session.specs.declared.port.Received.TheVariants.{Got, End, Failed as ReceiveFailed}

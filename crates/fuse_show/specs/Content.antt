@@ -1,4 +1,4 @@
--- The bytes of a file (own profile).
+-- The bytes of a file (defined by this project).
 use Rattle.std.specs.Prelude.{ℕ, List}
 use Rattle.fuse_tree.specs.Rows.{Rows, full_at, content_of}
 

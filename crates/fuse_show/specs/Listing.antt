@@ -1,4 +1,4 @@
--- The lines of a directory's entries (own profile, like ls -l).
+-- The lines of a directory's entries (defined by this project, like ls -l).
 use Rattle.std.specs.Prelude.{◌+◌, ◌==◌, ◌++◌, ℕ, if◌then◌else◌, List, [], ◌∷◌, filter, codes, decimal, Option, Some, None}
 use Rattle.std.specs.List.{flat_map}
 use Rattle.fuse_tree.specs.declared.rows.NodeRow.{NodeRow}

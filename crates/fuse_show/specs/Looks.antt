@@ -1,4 +1,4 @@
--- What an operation over a look promises: about the rows that the look sees, its faults, and its output (own profile).
+-- What an operation over a look promises: about the rows that the look sees, its faults, and its output (defined by this project).
 use Rattle.std.specs.Prelude.{◌≡◌, Bool, true, false, Option, Some, None, Result, Ok, Err, OnErr}
 use Rattle.fuse_tree.specs.declared.look.LookFault.{LookFault}
 use Rattle.fuse_tree.specs.Rows.{Rows, IsRowed}

@@ -1,4 +1,4 @@
--- The node at a path (own profile).
+-- The node at a path (defined by this project).
 use Rattle.std.specs.Prelude.{◌≡◌, ℕ, true, false, List, [], ◌∷◌, ◌++◌, Some, None, Result, Ok, Err}
 use Rattle.fuse_tree.specs.Bounds.{fuse_root_id}
 use Rattle.fuse_tree.specs.declared.rows.NodeRow.{NodeRow}

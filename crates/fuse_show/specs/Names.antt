@@ -1,4 +1,4 @@
--- A name on one line, for any bytes (own profile).
+-- A name on one line, for any bytes (defined by this project).
 use Rattle.std.specs.Prelude.{◌+◌, ◌-◌, ◌/◌, ◌%◌, ◌==◌, ◌&&◌, ℕ, Bool, not, nat_le, nat_lt, if◌then◌else◌, List, [], ◌∷◌}
 use Rattle.std.specs.List.{flat_map}
 

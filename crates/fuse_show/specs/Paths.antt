@@ -1,4 +1,4 @@
--- The names of a path (own profile).
+-- The names of a path (defined by this project).
 use Rattle.std.specs.Prelude.{◌==◌, ℕ, not, List, length, filter}
 use Rattle.std.specs.List.{slice_split}
 

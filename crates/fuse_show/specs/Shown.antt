@@ -1,4 +1,4 @@
--- The listing or the content at a path, or why there is none (own profile).
+-- The listing or the content at a path, or why there is none (defined by this project).
 use Rattle.std.specs.Prelude.{◌≡◌, ◌⊎◌, ℕ, Bool, true, false, List, Option, Result, Ok, Err}
 use Rattle.std.specs.Io.KnownBytes.{Appends}
 use Rattle.fuse_tree.specs.declared.rows.NodeRow.{NodeRow}

@@ -1,4 +1,4 @@
--- The summary of a store (own profile).
+-- The summary of a store (defined by this project).
 use Rattle.std.specs.Prelude.{◌*◌, ℕ, List, [], ◌++◌, codes, decimal, Option, Some, None}
 use Rattle.fuse_init.specs.declared.settings.Settings.{Settings}
 use Rattle.fuse_keeper.specs.declared.keeper.StoreCounts.{StoreCounts}

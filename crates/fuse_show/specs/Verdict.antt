@@ -1,4 +1,4 @@
--- The verdict on a tree (own profile).
+-- The verdict on a tree (defined by this project).
 use Rattle.std.specs.Prelude.{◌≡◌, ℕ, List, ◌++◌, codes, decimal, IfSome}
 use Rattle.fuse_tree.specs.declared.rows.Counters.{Counters as CountersRow}
 use Rattle.fuse_show.specs.declared.tally.Tally.{Tally}

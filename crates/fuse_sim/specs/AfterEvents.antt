@@ -1,4 +1,4 @@
--- What holds after events were run to their end: the keeper, the answers, and the records (own profile).
+-- What holds after events were run to their end: the keeper, the answers, and the records (defined by this project).
 use Rattle.std.specs.Prelude.{◌≡◌, ℕ, false, List, ◌++◌, map, Option}
 use Rattle.fuse_keeper.specs.History.{History, said, is_in}
 use Rattle.fuse_keeper.specs.Model.{Model}

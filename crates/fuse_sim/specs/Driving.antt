@@ -1,4 +1,4 @@
--- The effect of events on a keeper, and the answers to them (own profile).
+-- The effect of events on a keeper, and the answers to them (defined by this project).
 use Rattle.std.specs.Prelude.{◌≡◌, ◌≤◌, ℕ, suc, Bool, true, false, if◌then◌else◌, List, [], ◌∷◌, ◌++◌, length, map, take, Option, Some, None, IsSomeAnd, IfSome}
 use Rattle.std.specs.Prelude.{slice_get, All}
 use Rattle.std.specs.List.{flat_map}

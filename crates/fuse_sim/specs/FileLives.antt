@@ -1,4 +1,5 @@
--- Runs of a server over files, one after another within a mount, each over what a crash left of the files of the one before (own profile).
+-- Runs of a server over files, one after another within a mount, each over what a crash left of the files of the one
+-- before (defined by this project).
 use Rattle.std.specs.Prelude.{◌≡◌, true, List, [], ◌∷◌, ◌++◌, ℕ}
 use Rattle.fuse_request.specs.Opcodes.{OpcodeSet}
 use Rattle.fuse_request.specs.Stream.{cut, joined}

@@ -1,5 +1,5 @@
 -- What a keeper is asked to perform as events are run: the groups, and the ids that are handed on with each, so that their
--- records are deleted (own profile).
+-- records are deleted (defined by this project).
 use Rattle.std.specs.Prelude.{◌≡◌, ◌-◌, ℕ, zero, suc, Bool, true, false, if◌then◌else◌, List, [], ◌∷◌, ◌++◌, length, Option}
 use Rattle.fuse_request.specs.Opcodes.{OpcodeSet}
 use Rattle.fuse_keeper.specs.Bounds.{max_group_len}

@@ -1,4 +1,4 @@
--- How the kernel's side keeps the messages of the requests that are pending (own profile).
+-- How the kernel's side keeps the messages of the requests that are pending (defined by this project).
 use Rattle.std.specs.Prelude.{◌≡◌, ℕ, false, List, [], ◌∷◌, All, Vec}
 use Rattle.std.specs.Global.{Global}
 use Rattle.fuse_request.specs.Canon.{canon}

@@ -1,4 +1,4 @@
--- The records that are deleted by events (own profile).
+-- The records that are deleted by events (defined by this project).
 use Rattle.std.specs.Prelude.{◌≡◌, ◌≤◌, ℕ, true, false, List, [], ◌∷◌, length, All, None}
 use Rattle.fuse_request.specs.Opcodes.{OpcodeSet}
 use Rattle.fuse_keeper.specs.History.{is_in, ids_in}

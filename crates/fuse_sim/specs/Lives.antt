@@ -1,4 +1,4 @@
--- Lives of a server within one mount, one after another, each over what the one before left (own profile).
+-- Lives of a server within one mount, one after another, each over what the one before left (defined by this project).
 use Rattle.std.specs.Prelude.{◌≡◌, List, [], ◌∷◌, ◌++◌, ℕ}
 use Rattle.fuse_request.specs.Opcodes.{OpcodeSet}
 use Rattle.fuse_request.specs.Stream.{cut, joined}

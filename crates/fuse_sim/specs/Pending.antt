@@ -1,4 +1,4 @@
--- The requests that are pending on the kernel's side: sent, and their answers not taken, in order (own profile).
+-- The requests that are pending on the kernel's side: sent, and their answers not taken, in order (defined by this project).
 use Rattle.std.specs.Prelude.{◌≡◌, ◌≢◌, ◌+◌, ◌==◌, ℕ, suc, Bool, false, not, if◌then◌else◌, List, [], ◌∷◌, map, drop, Vec, Option, Some, None, Result, Ok, Err}
 use Rattle.std.specs.Global.{Global}
 use Rattle.std.specs.List.{filter}

@@ -1,4 +1,4 @@
--- Two lists of events, one after the other (own profile).
+-- Two lists of events, one after the other (defined by this project).
 use Rattle.std.specs.Prelude.{◌≡◌, ◌⊎◌, ℕ, true, false, List, [], ◌++◌, Option, None, All}
 use Rattle.fuse_keeper.specs.declared.fault.StoreFault.{StoreFault}
 use Rattle.fuse_keeper.specs.History.{History}

@@ -1,4 +1,4 @@
--- What the code does on its way: no public contract cites it (own profile).
+-- What the code does on its way: no public contract cites it (defined by this project).
 pub mod FilesLived
 pub mod HandedBy
 pub mod Marking

@@ -1,4 +1,4 @@
--- A blank database, and a new store (own profile).
+-- A blank database, and a new store (defined by this project).
 use Rattle.std.specs.Prelude.{◌≡◌, ℕ, [], false, IsTrue}
 use Rattle.sqlite.specs.Tree.{Trees}
 use Rattle.sqlite.specs.State.{State}

@@ -1,4 +1,4 @@
--- The store after the begin of a mount (own profile).
+-- The store after the begin of a mount (defined by this project).
 use Rattle.std.specs.Prelude.{[]}
 use Rattle.fuse_tree.specs.Clearing.{cleared}
 use Rattle.fuse_store_tree.specs.Holding.{Holding}

@@ -1,4 +1,4 @@
--- A store of either version, and the store after its opening (own profile).
+-- A store of either version, and the store after its opening (defined by this project).
 use Rattle.std.specs.Prelude.{◌≡◌, ◌≤◌, ◌^◌, ℕ, false, IsTrue, List, [], ◌∷◌, map, Option, None}
 use Rattle.std.specs.List.{AllByRecursion}
 use Rattle.sqlite.specs.Effect.{Database}

@@ -1,4 +1,4 @@
--- Any database after a start (own profile).
+-- Any database after a start (defined by this project).
 use Rattle.std.specs.Prelude.{◌≡◌, ℕ, List, [], IsTrue, false}
 use Rattle.sqlite.specs.Tree.{Trees}
 use Rattle.sqlite.specs.Effect.{Database}

@@ -1,4 +1,4 @@
--- The state of a keeper over a store of either profile (own profile).
+-- The state of a keeper over a store of either profile (defined by this project).
 use Rattle.std.specs.Prelude.{ℕ, Bool, Option}
 use Rattle.sqlite_trees.specs.declared.store.Store.{Ghosts}
 use Rattle.sqlite.specs.Held.{Held, state}

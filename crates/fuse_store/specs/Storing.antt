@@ -1,4 +1,4 @@
--- The fault of a file that is not opened (own profile).
+-- The fault of a file that is not opened (defined by this project).
 use Rattle.sqlite.specs.declared.error.Error.{Error}
 use Rattle.sqlite.specs.declared.error.Error.TheVariants.{SqliteFailure}
 use Rattle.sqlite.specs.declared.error.ErrorCode.{ErrorCode}

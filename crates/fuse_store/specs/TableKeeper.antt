@@ -1,4 +1,4 @@
--- The state of a keeper over tables, by its connection (own profile).
+-- The state of a keeper over tables, by its connection (defined by this project).
 use Rattle.std.specs.Prelude.{◌↔◌, IsTrue, Result}
 use Rattle.sqlite_trees.specs.declared.store.Store.{Ghosts}
 use Rattle.sqlite.specs.State.{HasCleanDisk}

@@ -1,4 +1,4 @@
--- The state of a keeper over tables, by the state of its database (own profile).
+-- The state of a keeper over tables, by the state of its database (defined by this project).
 use Rattle.std.specs.Prelude.{◌≡◌, ◌≤◌, ◌^◌, ℕ, ⊤, Bool, IsTrue, Option, None}
 use Rattle.sqlite.specs.Tree.{Trees}
 use Rattle.sqlite.specs.State.{State, HasCleanDisk}

@@ -1,4 +1,4 @@
--- What a crash leaves of both files of a connection (own profile).
+-- What a crash leaves of both files of a connection (defined by this project).
 use Rattle.sqlite_disk.specs.declared.Disk.{Ghosts}
 use Rattle.sqlite_disk.specs.declared.Files.{Files}
 use Rattle.sqlite_wal.specs.Reads.{AreClean}

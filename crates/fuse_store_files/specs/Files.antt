@@ -1,4 +1,4 @@
--- What the two files of a store hold: its database file and its log, as an open finds them (own profile).
+-- What the two files of a store hold: its database file and its log, as an open finds them (defined by this project).
 use Rattle.std.specs.Prelude.{◌≡◌, ◌⊎◌}
 use Rattle.sqlite_wal.specs.Recovery.{Image}
 use Rattle.sqlite.specs.Tree.{Trees}

@@ -1,4 +1,4 @@
--- What is left of the files of a store (own profile).
+-- What is left of the files of a store (defined by this project).
 use Rattle.std.specs.Prelude.{◌≡◌, ◌⊎◌, Result, IfOk, IfErr, IsTrue}
 use Rattle.sqlite_disk.specs.declared.Disk.{Ghosts}
 use Rattle.sqlite_disk.specs.declared.Files.{Files}

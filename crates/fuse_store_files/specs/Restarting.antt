@@ -1,4 +1,4 @@
--- A keeper whose files crash before it is opened again (own profile).
+-- A keeper whose files crash before it is opened again (defined by this project).
 use Rattle.sqlite_disk.specs.declared.Disk as disk
 use Rattle.sqlite_disk.specs.declared.Files.{Files}
 use Rattle.sqlite_trees.specs.declared.store.Store.{Ghosts}

@@ -1,4 +1,4 @@
--- How a store is opened from its files (own profile).
+-- How a store is opened from its files (defined by this project).
 use Rattle.std.specs.Prelude.{◌≡◌, ℕ, List, [], None}
 use Rattle.sqlite_wal.specs.Recovery.{Image}
 use Rattle.sqlite.specs.Effect.{Database}

@@ -1,4 +1,4 @@
--- The content of the tables after the begin of a mount (own profile).
+-- The content of the tables after the begin of a mount (defined by this project).
 use Rattle.std.specs.Prelude.{ℕ, ◌+◌, ◌-◌, ◌/◌, Bool, not, List, [], map, filter, length, min}
 use Rattle.std.specs.List.{list_any, sum_by}
 use Rattle.std.specs.Ordering.{is_eq, nat_cmp}

@@ -1,4 +1,4 @@
--- The content of the tables, as lists of typed rows (own profile).
+-- The content of the tables, as lists of typed rows (defined by this project).
 use Rattle.std.specs.Prelude.{◌≡◌, ◌<◌, ◌^◌, ℕ, pos, Bool, not, ◌&&◌, List, [], ◌∷◌, ◌++◌, map, filter, find, if◌then◌else◌, unwrap_or, option_map, Option, Some, None}
 use Rattle.std.specs.Option.{is_some}
 use Rattle.std.specs.Ordering.{is_eq, is_gt, nat_cmp, match_ordering}

@@ -1,4 +1,4 @@
--- The faults of a store, by what they say of its tables (own profile).
+-- The faults of a store, by what they say of its tables (defined by this project).
 use Rattle.std.specs.Prelude.{⊤}
 use Rattle.fuse_keeper.specs.declared.fault.StoreFault.{StoreFault}
 use Rattle.fuse_keeper.specs.declared.fault.StoreFault.TheVariants.{Memory, Sql, NotAStore, Version, Damaged}

@@ -1,4 +1,4 @@
--- The tables, and the schema that their texts make (own profile; SQLite: CREATE TABLE, CREATE INDEX).
+-- The tables, and the schema that their texts make (defined by this project; SQLite: CREATE TABLE, CREATE INDEX).
 use Rattle.sqlite.specs.Collation.TheVariants.{Binary}
 use Rattle.std.specs.Prelude.{true, false, [], ◌∷◌, Some, None, codes, List, ℕ, Bool}
 use Rattle.sqlite.specs.declared.types.Value.TheVariants.{Null}

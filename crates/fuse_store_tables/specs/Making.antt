@@ -1,4 +1,4 @@
--- The content of a new store (own profile).
+-- The content of a new store (defined by this project).
 use Rattle.std.specs.Prelude.{ℕ, List, [], ◌∷◌, ◌++◌, Option, Some, None, ⊤}
 use Rattle.sqlite_trees.specs.Tree.{no_trees}
 use Rattle.sqlite.specs.Effect.{Database}

@@ -1,4 +1,4 @@
--- The effect of a call on a store, by the state of the connection before and after it (own profile).
+-- The effect of a call on a store, by the state of the connection before and after it (defined by this project).
 use Rattle.std.specs.Prelude.{◌≡◌, true, false, IsTrue, Result, OnOk, OnErr, IfErr}
 use Rattle.sqlite.specs.Effect.{Database}
 use Rattle.sqlite.specs.State.{State, HasCleanDisk, Survives, KeepsCommit}

@@ -1,4 +1,4 @@
--- A store before and after its opening (own profile).
+-- A store before and after its opening (defined by this project).
 use Rattle.std.specs.Prelude.{◌≡◌, ◌≤◌, ◌⊎◌, ◌<◌, ◌^◌, ◌+◌, ℕ, zero, suc, List, [], ◌∷◌, map, length, if◌then◌else◌}
 use Rattle.std.specs.Prelude.{nat_lt, ⊤}
 use Rattle.std.specs.List.{AllByRecursion}

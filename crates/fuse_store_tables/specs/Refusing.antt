@@ -1,4 +1,4 @@
--- A new store that is refused, as its first table is there (own profile).
+-- A new store that is refused, as its first table is there (defined by this project).
 use Rattle.std.specs.Prelude.{◌≡◌, ◌⊎◌, codes, true, None}
 use Rattle.std.specs.Option.{is_some}
 use Rattle.sqlite_trees.specs.declared.error.StoreError.{StoreError}

@@ -1,4 +1,4 @@
--- The databases that are no store, are of another version, or have other tables than a store (own profile).
+-- The databases that are no store, are of another version, or have other tables than a store (defined by this project).
 use Rattle.std.specs.Prelude.{◌≡◌, ◌≢◌, ◌⊎◌, ℕ, pos, List, [], ◌∷◌, codes, None, Ok, ⊤}
 use Rattle.std.specs.Int.{w64, cast_signed}
 use Rattle.sqlite.specs.declared.types.Value.{Value}

@@ -1,4 +1,4 @@
--- The values that the tables can store (own profile; SQLite: an INTEGER has 64 bits with its sign).
+-- The values that the tables can store (defined by this project; SQLite: an INTEGER has 64 bits with its sign).
 use Rattle.std.specs.Prelude.{◌≡◌, ◌<◌, ◌^◌, length}
 use Rattle.std.specs.List.{AllByRecursion}
 use Rattle.fuse_answer.specs.Said.{FitsAnswer}

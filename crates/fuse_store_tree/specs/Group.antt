@@ -1,4 +1,4 @@
--- The effect of a group, and its answers (own profile).
+-- The effect of a group, and its answers (defined by this project).
 use Rattle.std.specs.Prelude.{◌≡◌, ◌<◌, ◌^◌, ◌+◌, ℕ, true, false, List, [], ◌∷◌, Option, Some, None}
 use Rattle.fuse_answer.specs.Said.{Said}
 use Rattle.fuse_tree.specs.Do.{done}

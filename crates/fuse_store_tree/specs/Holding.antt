@@ -1,4 +1,4 @@
--- The content of the tables where their rows are those of a tree (own profile).
+-- The content of the tables where their rows are those of a tree (defined by this project).
 use Rattle.std.specs.Prelude.{◌≡◌, ◌<◌, ◌≤◌, ◌^◌, ℕ, List, map, Option, option_map}
 use Rattle.std.specs.List.{AllByRecursion}
 use Rattle.sqlite.specs.Effect.{Database}

@@ -1,4 +1,4 @@
--- What is known of the tables from an earlier read (own profile).
+-- What is known of the tables from an earlier read (defined by this project).
 use Rattle.std.specs.Prelude.{◌≡◌, ℕ, Option, IfSome, Result, IfErr}
 use Rattle.sqlite.specs.Effect.{Database}
 use Rattle.sqlite.specs.State.{State, HasCleanDisk}

@@ -1,4 +1,4 @@
--- Reads of the tables by `plan` (own profile).
+-- Reads of the tables by `plan` (defined by this project).
 use Rattle.std.specs.Prelude.{◌≡◌, Option, Some, None, IfSome}
 use Rattle.sqlite.specs.State.{State, HasCleanDisk}
 use Rattle.fuse_keeper.specs.declared.fault.StoreFault.{StoreFault}

@@ -1,4 +1,4 @@
--- The lots and the records of a database, read from its rows (own profile).
+-- The lots and the records of a database, read from its rows (defined by this project).
 use Rattle.std.specs.Prelude.{◌≡◌, ℕ, ℤ, pos, List, [], map, Option}
 use Rattle.sqlite.specs.declared.types.Value.{Value}
 use Rattle.sqlite.specs.declared.types.Value.TheVariants.{Int, Blob}

@@ -1,4 +1,4 @@
--- Laws of the content of a database and of the effect of a call, in the words of a keeper (own profile).
+-- Laws of the content of a database and of the effect of a call, in the words of a keeper (defined by this project).
 use Rattle.std.specs.Prelude.{◌≡◌, ℕ, List, All, Option, Some}
 use Rattle.sqlite.specs.Effect.{Database}
 use Rattle.fuse_tree.specs.State.{State, Tree}

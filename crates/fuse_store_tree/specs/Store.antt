@@ -1,4 +1,4 @@
--- A store as the tables describe it (own profile): the rows of a tree, and the records in their lots.
+-- A store as the tables describe it (defined by this project): the rows of a tree, and the records in their lots.
 use Rattle.std.specs.Prelude.{◌≡◌, ◌<◌, ◌^◌, ◌*◌, ◌/◌, ◌%◌, ℕ, length}
 use Rattle.std.specs.Prelude.{List, [], ◌∷◌, map, fold, option_map, Option, Some, None, slice_index_or}
 use Rattle.std.specs.List.{AllByRecursion}

@@ -1,4 +1,4 @@
--- The bounds and sizes of trees (own profile; fuse.h where it is said).
+-- The bounds and sizes of trees (defined by this project; fuse.h where it is said).
 use Rattle.std.specs.Prelude.{ℕ, ◌^◌}
 
 -- how many nodes there are at most under any profile, and how many open handles

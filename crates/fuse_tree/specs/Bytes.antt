@@ -1,4 +1,4 @@
--- States of bytes (own profile): contents are bytes, and names are bytes other than NUL. The definitions have numbers without
+-- States of bytes (defined by this project): contents are bytes, and names are bytes other than NUL. The definitions have numbers without
 -- bounds, and `done` refuses no name for its NUL; so this holds of the states that requests of bytes lead to, not of every tree.
 use Rattle.std.specs.Prelude.{◌<◌, ◌≤◌, ℕ, List}
 use Rattle.std.specs.List.{AllByRecursion}

@@ -1,4 +1,4 @@
--- A state in which one node has changed (own profile).
+-- A state in which one node has changed (defined by this project).
 use Rattle.std.specs.Prelude.{◌==◌, ℕ, if◌then◌else◌, map}
 use Rattle.fuse_tree.specs.State.{State, Node}
 

@@ -1,4 +1,4 @@
--- The state that a mount begins with (own profile).
+-- The state that a mount begins with (defined by this project).
 use Rattle.std.specs.Prelude.{◌≡◌, ◌-◌, ℕ, Bool, not, List, [], length, filter, Option, None}
 use Rattle.std.specs.Option.{option_map}
 use Rattle.std.specs.List.{sum_by}

@@ -1,4 +1,4 @@
--- Changes that fit a table (own profile): its numbers are of 63 bits, and bytes end within a file.
+-- Changes that fit a table (defined by this project): its numbers are of 63 bits, and bytes end within a file.
 use Rattle.std.specs.Prelude.{◌+◌, ◌<◌, ◌≤◌, ◌^◌, List, length, IfSome}
 use Rattle.std.specs.List.{AllByRecursion}
 use Rattle.fuse_tree.specs.declared.rows.NodeRow.{NodeRow}

@@ -1,4 +1,4 @@
--- CREATE (own profile; fuse(4)): a new regular file, open.
+-- CREATE (defined by this project; fuse(4)): a new regular file, open.
 use Rattle.std.specs.Prelude.{◌+◌, ◌%◌, ℕ, not, if◌then◌else◌, List, length, Option, Some, None, is_some}
 use Rattle.fuse_wire.specs.declared.access_mode.AccessMode.{AccessMode}
 use Rattle.fuse_wire.specs.Errnos.{enoent, eexist, enotdir, einval, enospc}

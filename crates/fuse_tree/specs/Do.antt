@@ -1,4 +1,4 @@
--- The effect and the answer of each request (own profile), over the whole state: the first check that
+-- The effect and the answer of each request (defined by this project), over the whole state: the first check that
 -- applies decides. Neither unique nor pid nor the extensions matter.
 use Rattle.std.specs.Prelude.{ℕ, Bool, true, false, not, if◌then◌else◌, List, [], Option, Some, None, is_some}
 use Rattle.fuse_wire.specs.Errnos.{enoent, enotdir, enosys, eproto, estale}

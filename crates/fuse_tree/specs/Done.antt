@@ -1,4 +1,4 @@
--- The state after a request and its answer (own profile): shared by the definitions of the operations.
+-- The state after a request and its answer (defined by this project): shared by the definitions of the operations.
 use Rattle.std.specs.Prelude.{◌+◌, ◌-◌, ◌/◌, ◌==◌, ℕ, if◌then◌else◌, List, [], length, map, Option, Some, None}
 use Rattle.fuse_wire.specs.declared.errno.Errno.{Errno}
 use Rattle.fuse_wire.specs.declared.moment.Moment.{Moment}

@@ -1,4 +1,4 @@
--- The operations of a profile beside those of the protocol's (own profile).
+-- The operations of a profile beside those of the protocol's (defined by this project).
 use Rattle.std.specs.Prelude.{ℕ, not, if◌then◌else◌, List, Option, Some, is_some}
 use Rattle.fuse_wire.specs.Errnos.{enosys, einval}
 use Rattle.fuse_wire.specs.declared.moment.Moment.{Moment}

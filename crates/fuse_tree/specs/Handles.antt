@@ -1,4 +1,4 @@
--- The handles of a node (own profile). A state and its rows have the same handles, so these words are of both.
+-- The handles of a node (defined by this project). A state and its rows have the same handles, so these words are of both.
 use Rattle.std.specs.Prelude.{◌==◌, ℕ, Bool, if◌then◌else◌, List, Option, Some, None, is_some}
 use Rattle.fuse_wire.specs.declared.access_mode.AccessMode.{AccessMode}
 use Rattle.fuse_tree.specs.declared.rows.HandleRow.{HandleRow}

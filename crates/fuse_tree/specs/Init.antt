@@ -1,4 +1,4 @@
--- INIT (own profile): the new settings replace those of an earlier INIT.
+-- INIT (defined by this project): the new settings replace those of an earlier INIT.
 use Rattle.std.specs.Prelude.{Some}
 use Rattle.fuse_answer.specs.Bodies.{init_bytes}
 use Rattle.fuse_init.specs.declared.negotiation.Negotiated.{Negotiated}

@@ -1,4 +1,4 @@
--- How long a kernel may keep what it is answered (own profile).
+-- How long a kernel may keep what it is answered (defined by this project).
 use Rattle.std.specs.Prelude.{◌==◌, ℕ, Bool, if◌then◌else◌}
 use Rattle.fuse_answer.specs.declared.records.Attr.{Attr}
 use Rattle.fuse_answer.specs.declared.records.EntryOut.{EntryOut}

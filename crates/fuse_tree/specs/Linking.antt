@@ -1,4 +1,4 @@
--- READLINK (own profile; readlink(2)): the target of a symbolic link.
+-- READLINK (defined by this project; readlink(2)): the target of a symbolic link.
 use Rattle.std.specs.Prelude.{not, if◌then◌else◌, take}
 use Rattle.fuse_wire.specs.Errnos.{einval}
 use Rattle.fuse_tree.specs.Bounds.{target_limit}

@@ -1,4 +1,4 @@
--- READDIR (own profile): the entries of a directory after an offset, as many as fit.
+-- READDIR (defined by this project): the entries of a directory after an offset, as many as fit.
 use Rattle.std.specs.Prelude.{◌<◌, ◌==◌, ℕ, zero, suc, Bool, true, not, nat_le, nat_lt, if◌then◌else◌, List, [], ◌∷◌, ◌++◌, length, map, take, filter, Option}
 use Rattle.std.specs.Prelude.{Some, None, codes}
 use Rattle.std.specs.List.{sum_by}

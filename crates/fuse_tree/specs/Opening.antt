@@ -1,4 +1,4 @@
--- OPEN, OPENDIR, RELEASE and RELEASEDIR (own profile).
+-- OPEN, OPENDIR, RELEASE and RELEASEDIR (defined by this project).
 use Rattle.std.specs.Prelude.{◌+◌, ◌==◌, ℕ, not, nat_le, if◌then◌else◌, [], ◌∷◌, ◌++◌, length, filter, Option, Some, None, pos}
 use Rattle.fuse_wire.specs.declared.access_mode.AccessMode.{AccessMode}
 use Rattle.fuse_wire.specs.declared.access_mode.AccessMode.TheVariants.{ReadOnly}

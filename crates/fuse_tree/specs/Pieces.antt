@@ -1,4 +1,4 @@
--- A range of a file, cut at the ends of blocks (own profile).
+-- A range of a file, cut at the ends of blocks (defined by this project).
 use Rattle.std.specs.Prelude.{◌≡◌, ◌≤◌, ◌<◌, ◌+◌, ◌-◌, ◌*◌, ◌/◌, ◌%◌, ℕ, zero, suc, min, List, [], ◌∷◌}
 use Rattle.fuse_tree.specs.Bounds.{block_bytes}
 use Rattle.fuse_tree.specs.declared.pieces.Piece.{Piece}

@@ -1,4 +1,4 @@
--- The rows that lists hold (own profile).
+-- The rows that lists hold (defined by this project).
 use Rattle.std.specs.Prelude.{if◌then◌else◌, Option, Some, None}
 use Rattle.fuse_tree.specs.declared.look.LookFault.{LookFault}
 use Rattle.fuse_tree.specs.declared.look.LookFault.TheVariants.{Memory}

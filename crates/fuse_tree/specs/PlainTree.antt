@@ -1,4 +1,4 @@
--- The rows of a tree over lists (own profile).
+-- The rows of a tree over lists (defined by this project).
 use Rattle.fuse_tree.specs.Rows.{Rows}
 use Rattle.fuse_tree.specs.PlainRows.{rows_of}
 use Rattle.fuse_tree.specs.declared.plain_tree.PlainTree.{PlainTree}

@@ -1,4 +1,4 @@
--- The contract of `plan`, and the laws on requests (own profile).
+-- The contract of `plan`, and the laws on requests (defined by this project).
 use Rattle.std.specs.Prelude.{◌≡◌, ◌<◌, ℕ, Bool, true, false, List, Option, Some, None, Result, Ok, Err}
 use Rattle.fuse_wire.specs.declared.moment.Moment.{Moment}
 use Rattle.fuse_request.specs.Act.{Asked, opcode_of}

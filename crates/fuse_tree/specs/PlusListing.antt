@@ -1,4 +1,4 @@
--- READDIRPLUS (own profile; fuse.h: fuse_direntplus): the entries of READDIR, each with what LOOKUP of it answers.
+-- READDIRPLUS (defined by this project; fuse.h: fuse_direntplus): the entries of READDIR, each with what LOOKUP of it answers.
 use Rattle.std.specs.Prelude.{ℕ, not, nat_lt, if◌then◌else◌, List, map, length, Option, Some, None}
 use Rattle.fuse_wire.specs.Errnos.{enoent, ebadf, enotdir, einval}
 use Rattle.fuse_request.specs.declared.request.ReadIn.{ReadIn}

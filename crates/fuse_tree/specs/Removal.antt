@@ -1,4 +1,5 @@
--- The removal of nodes (own profile): where the profile removes nodes, one that has neither a name nor an fh goes with its content.
+-- The removal of nodes (defined by this project): where the profile removes nodes, one that has neither a name nor an fh
+-- goes with its content.
 use Rattle.std.specs.Prelude.{if◌then◌else◌, filter}
 use Rattle.fuse_tree.specs.State.{State, terms_of, is_kept}
 

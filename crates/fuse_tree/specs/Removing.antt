@@ -1,4 +1,4 @@
--- UNLINK and RMDIR (own profile): an entry goes, and its child loses its name.
+-- UNLINK and RMDIR (defined by this project): an entry goes, and its child loses its name.
 use Rattle.std.specs.Prelude.{◌==◌, ℕ, Bool, not, if◌then◌else◌, List, [], map, filter, Option, Some, None}
 use Rattle.std.specs.List.{list_any}
 use Rattle.fuse_wire.specs.Errnos.{enoent, enotdir, eisdir, enotempty}

@@ -1,4 +1,4 @@
--- RENAME and RENAME2 (own profile): an entry moves, or two children change places.
+-- RENAME and RENAME2 (defined by this project): an entry moves, or two children change places.
 use Rattle.std.specs.Prelude.{◌≡◌, ◌≢◌, ◌+◌, ◌-◌, ◌==◌, ◌&&◌, ◌||◌, ℕ, zero, suc, Bool, true, false, not, nat_le, nat_lt, if◌then◌else◌, List, [], ◌∷◌, ◌++◌}
 use Rattle.std.specs.Prelude.{length, is_some, Option, Some, None}
 use Rattle.std.specs.List.{list_any}

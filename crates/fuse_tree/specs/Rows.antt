@@ -1,4 +1,4 @@
--- The rows that stand for a state, the looks at them, and the effect of a change (own profile).
+-- The rows that stand for a state, the looks at them, and the effect of a change (defined by this project).
 use Rattle.std.specs.Prelude.{◌≡◌, ◌+◌, ◌-◌, ◌==◌, ◌&&◌, ◌||◌, ℕ, Bool, not, nat_lt, if◌then◌else◌, List, [], ◌∷◌, ◌++◌, length, map, find, filter, take, drop}
 use Rattle.std.specs.Prelude.{replicate, Option, Some, None}
 use Rattle.std.specs.Option.{option_map}

@@ -1,4 +1,4 @@
--- True of the rows of each tree (own profile): a reader of rows may rely on it.
+-- True of the rows of each tree (defined by this project): a reader of rows may rely on it.
 use Rattle.std.specs.Prelude.{◌≡◌, ◌≢◌, ◌<◌, ◌≤◌, ℕ, length, Some, None}
 use Rattle.std.specs.List.{AllByRecursion}
 use Rattle.fuse_tree.specs.Bounds.{fuse_root_id}

@@ -1,4 +1,4 @@
--- SETATTR (own profile): the bits of `valid` say which attributes it sets.
+-- SETATTR (defined by this project): the bits of `valid` say which attributes it sets.
 use Rattle.std.specs.Prelude.{◌+◌, ◌*◌, ◌/◌, ◌%◌, ◌==◌, ◌&&◌, ◌||◌, ℕ, Bool, not, List, length, nat_lt, if◌then◌else◌, Option, Some, None}
 use Rattle.std.specs.Int.RustNames.{bit_and}
 use Rattle.fuse_wire.specs.Flags.{valid_bits}

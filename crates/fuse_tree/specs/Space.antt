@@ -1,4 +1,4 @@
--- The room of a store (own profile): each size counts in blocks, written or not.
+-- The room of a store (defined by this project): each size counts in blocks, written or not.
 use Rattle.std.specs.Prelude.{◌+◌, ◌-◌, ℕ, Bool, true, nat_le, Option, Some, None}
 use Rattle.std.specs.Option.{option_map}
 use Rattle.fuse_tree.specs.declared.rows.Room.{Room}

@@ -1,4 +1,4 @@
--- STATFS (own profile; statfs(2)): the blocks and the nodes of a store, and how many of them are left.
+-- STATFS (defined by this project; statfs(2)): the blocks and the nodes of a store, and how many of them are left.
 use Rattle.std.specs.Prelude.{◌-◌, ℕ, length}
 use Rattle.std.specs.Option.{unwrap_or}
 use Rattle.fuse_answer.specs.declared.further.StatfsOut.{StatfsOut}

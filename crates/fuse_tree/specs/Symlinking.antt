@@ -1,4 +1,4 @@
--- SYMLINK (own profile; symlink(2)): a new node whose content is its target.
+-- SYMLINK (defined by this project; symlink(2)): a new node whose content is its target.
 use Rattle.std.specs.Prelude.{◌+◌, ◌==◌, ℕ, not, nat_lt, if◌then◌else◌, List, length, Option, Some, None, is_some}
 use Rattle.fuse_wire.specs.declared.errno.Errno.{Errno}
 use Rattle.fuse_wire.specs.Errnos.{enoent, eexist, enotdir, enospc, enametoolong}

@@ -1,4 +1,4 @@
--- WRITE and READ (own profile).
+-- WRITE and READ (defined by this project).
 use Rattle.std.specs.Prelude.{◌+◌, ◌==◌, ℕ, max, Bool, true, false, not, nat_lt, if◌then◌else◌, List, length, take, drop, Option, Some, None}
 use Rattle.fuse_wire.specs.declared.access_mode.AccessMode.{AccessMode}
 use Rattle.fuse_wire.specs.declared.access_mode.AccessMode.TheVariants.{ReadOnly, WriteOnly, ReadWrite}

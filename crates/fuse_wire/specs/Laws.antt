@@ -1,4 +1,4 @@
--- Laws of numbers, layouts and names (own profile).
+-- Laws of numbers, layouts and names (defined by this project).
 use Rattle.std.specs.Prelude.{◌≡◌, ◌<◌, ◌≤◌, ◌^◌, ℕ, List, ◌∷◌, ◌++◌, length, take, drop, Some, None}
 use Rattle.fuse_wire.specs.Bytes.{le, number_of, IsBytes, HasNoNul, after_nul}
 use Rattle.fuse_wire.specs.Layout.{Part, Lays, Placed, widths, form, HasForm}

@@ -1,4 +1,4 @@
--- Answers that are sent on a line, of which some are lost (own profile).
+-- Answers that are sent on a line, of which some are lost (defined by this project).
 use Rattle.std.specs.Prelude.{◌≡◌, ◌⊎◌, ◌<◌, ◌≤◌, ◌+◌, ℕ, ◌-◌, ◌==◌, if◌then◌else◌, List, [], ◌∷◌, ◌++◌, vec_capacity, vec_len}
 use Rattle.fuse_request.specs.Stream.{joined}
 use Rattle.lossy_port.specs.declared.line.Line.{Line}

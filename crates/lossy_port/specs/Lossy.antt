@@ -1,4 +1,4 @@
--- The state of a port that loses answers (own profile).
+-- The state of a port that loses answers (defined by this project).
 use Rattle.std.specs.Prelude.{◌≡◌, ℕ, nat_lt, ◌-◌, ◌==◌, if◌then◌else◌, min, false, List, [], ◌∷◌, ◌++◌, length, drop, Some}
 use Rattle.fuse_session.specs.declared.port.Received.{Received as Receipt}
 use Rattle.fuse_session.specs.declared.port.Received.TheVariants.{Got, End}

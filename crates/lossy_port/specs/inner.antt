@@ -1,3 +1,3 @@
--- What the code does on its way: no public contract cites it (own profile).
+-- What the code does on its way: no public contract cites it (defined by this project).
 pub mod OneAnswer
 pub mod Laws

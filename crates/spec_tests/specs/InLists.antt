@@ -1,4 +1,4 @@
--- The output of a script over a new store of the tree in lists (own profile).
+-- The output of a script over a new store of the tree in lists (defined by this project).
 use Rattle.std.specs.Prelude.{◌≡◌, ℕ, List, [], ◌++◌, length, Option}
 use Rattle.std.specs.Io.KnownBytes.{Appends}
 use Rattle.fuse_request.specs.Opcodes.{no_others}

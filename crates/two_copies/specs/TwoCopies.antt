@@ -1,4 +1,4 @@
--- The state of a keeper with two copies (own profile).
+-- The state of a keeper with two copies (defined by this project).
 use Rattle.std.specs.Prelude.{◌≡◌, ◌⊎◌, ◌<◌, ◌-◌, ◌+◌, ◌||◌, ℕ, Bool, true, false, List, Result, MatchResult}
 use Rattle.fuse_keeper.specs.declared.fault.StoreFault.{StoreFault}
 use Rattle.fuse_keeper.specs.declared.fault.StoreFault.TheVariants.{Damaged}

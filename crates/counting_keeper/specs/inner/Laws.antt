@@ -1,4 +1,4 @@
--- The laws of the count of openings, and of the log (own profile).
+-- The laws of the count of openings, and of the log (defined by this project).
 use Rattle.std.specs.Prelude.{ℕ, ◌+◌, List, [], ◌++◌, map}
 use Rattle.std.proofs.Common.{arith, sym, ap, ◌∙◌}
 use Rattle.std.proofs.lemmas.List.{append-nil, append_assoc, map-append}

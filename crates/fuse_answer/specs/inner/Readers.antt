@@ -1,4 +1,4 @@
--- The answers of the readers of bodies: the content of a body (fuse.h), or its fault (own profile).
+-- The answers of the readers of bodies: the content of a body (fuse.h), or its fault (defined by this project).
 use Rattle.std.specs.Prelude.{ℕ, List, Result, Ok, Err}
 use Rattle.fuse_answer.specs.declared.reply.ReplyBody.{ReplyBody}
 use Rattle.fuse_answer.specs.declared.reply.BadAnswer.{BadAnswer}

@@ -1,4 +1,4 @@
--- How a command ends whose input, output or memory failed (own profile).
+-- How a command ends whose input, output or memory failed (defined by this project).
 use Rattle.std.specs.Prelude.{◌<◌}
 use Rattle.fuse_commands.specs.declared.ending.Ending.{Ending}
 use Rattle.fuse_commands.specs.Endings.{status_of}

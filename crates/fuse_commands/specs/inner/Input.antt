@@ -1,4 +1,4 @@
--- An input that is read piece by piece (own profile).
+-- An input that is read piece by piece (defined by this project).
 use Rattle.std.specs.Prelude.{ℕ, List, take, Option}
 use Rattle.fuse_commands.specs.declared.input.PieceReader.{PieceReader}
 

@@ -1,4 +1,4 @@
--- The messages of a stream, one after the other (own profile).
+-- The messages of a stream, one after the other (defined by this project).
 use Rattle.std.specs.Prelude.{◌≡◌, ◌⊎◌, ◌+◌, ◌*◌, ℕ, List, [], length, All, Option, Some, None, IfSome, Result, Ok, Err}
 use Rattle.std.specs.Io.KnownBytes.{Consumes, prepend_known, IsAtEnd}
 use Rattle.fuse_wire.specs.Bounds.{max_message_len}

@@ -1,4 +1,4 @@
--- The lines of a script, as they are read (own profile).
+-- The lines of a script, as they are read (defined by this project).
 use Rattle.std.specs.Prelude.{◌≡◌, ◌≢◌, ◌⊎◌, ℕ, List, [], ◌∷◌, ◌++◌, map, All}
 use Rattle.std.specs.Borrow.{Bor}
 use Rattle.fuse_sim.specs.declared.event.Event.{Event}

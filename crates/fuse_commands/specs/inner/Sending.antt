@@ -1,4 +1,4 @@
--- The answers and counts of a session over a stream (own profile).
+-- The answers and counts of a session over a stream (defined by this project).
 use Rattle.std.specs.Prelude.{◌≡◌, ℕ, List, [], ◌∷◌}
 use Rattle.fuse_answer.specs.Laws.{BeginsWithLen}
 use Rattle.fuse_request.specs.Stream.{joined}

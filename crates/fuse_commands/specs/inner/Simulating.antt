@@ -1,4 +1,4 @@
--- The outcomes of a script before they are printed, and its output from a start (own profile).
+-- The outcomes of a script before they are printed, and its output from a start (defined by this project).
 use Rattle.std.specs.Prelude.{◌≡◌, ℕ, List, [], map, length, Option}
 use Rattle.fuse_keeper.specs.Model.{Model}
 use Rattle.fuse_keeper.specs.KeeperState.{KeeperState, IsFirm}

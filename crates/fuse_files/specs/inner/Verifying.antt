@@ -1,4 +1,4 @@
--- How a store is verified (own profile).
+-- How a store is verified (defined by this project).
 use Rattle.std.specs.Prelude.{◌≡◌}
 use Rattle.sqlite.specs.State.{State}
 use Rattle.fuse_tree.specs.Rows.{rowed}

@@ -1,4 +1,4 @@
--- The records of a list over others (own profile).
+-- The records of a list over others (defined by this project).
 use Rattle.std.specs.Prelude.{ℕ, ◌==◌, if◌then◌else◌, List, [], ◌∷◌, map, Option, Some, None}
 use Rattle.fuse_answer.specs.Said.{Said}
 use Rattle.fuse_keeper.specs.declared.group.Record.{Record}

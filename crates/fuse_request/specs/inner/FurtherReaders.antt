@@ -1,4 +1,4 @@
--- What the readers of further bodies return: what a body says at the places of its layout (fuse.h), or its fault (own profile).
+-- What the readers of further bodies return: what a body says at the places of its layout (fuse.h), or its fault (defined by this project).
 use Rattle.std.specs.Prelude.{◌≡◌, ℕ, false, List, [], ◌∷◌, length, Option, Some, None, Result, Ok, Err}
 use Rattle.std.specs.Borrow.{Bor}
 use Rattle.fuse_wire.specs.Bytes.{after_nul}

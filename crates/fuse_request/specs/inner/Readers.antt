@@ -1,4 +1,4 @@
--- The answers of the readers of bodies: the request that a body spells (fuse.h), or its fault (own profile).
+-- The answers of the readers of bodies: the request that a body spells (fuse.h), or its fault (defined by this project).
 use Rattle.std.specs.Prelude.{◌≡◌, ℕ, List, [], ◌∷◌, Some, Result, Ok, Err}
 use Rattle.std.specs.Borrow.{Bor}
 use Rattle.fuse_wire.specs.Layout.{Lays, Placed, text}

@@ -1,4 +1,4 @@
--- What the writers of messages owe each other (own profile).
+-- What the writers of messages owe each other (defined by this project).
 use Rattle.std.specs.Prelude.{◌/◌, length}
 use Rattle.fuse_wire.specs.Written.{AllFit}
 use Rattle.fuse_request.specs.Act.{Act, Lookup, Mknod, Mkdir, Unlink, Rmdir, Rename, Rename2, Asked}

@@ -1,4 +1,4 @@
--- Counts that are added up (own profile).
+-- Counts that are added up (defined by this project).
 use Rattle.std.specs.Prelude.{ℕ, ◌≤◌, Option, Some, None}
 use Rattle.fuse_session.specs.declared.counts.SessionCounts.{SessionCounts}
 use Rattle.fuse_session.specs.Counting.{plus}

@@ -1,4 +1,4 @@
--- How a turn ends a session (own profile).
+-- How a turn ends a session (defined by this project).
 use Rattle.std.specs.Prelude.{◌≡◌, ℕ, Bool, true, false, Option, Some}
 use Rattle.fuse_request.specs.declared.framer.FrameFault.{FrameFault}
 use Rattle.fuse_session.specs.declared.ended.Ended.{Ended}

@@ -1,4 +1,4 @@
--- A group as it is read and answered (own profile).
+-- A group as it is read and answered (defined by this project).
 use Rattle.std.specs.Prelude.{◌≡◌, ◌⊎◌, ◌<◌, ℕ, Bool, true, false, ◌==◌, if◌then◌else◌, List, [], ◌∷◌, length, map, Option, Some, None}
 use Rattle.fuse_wire.specs.declared.moment.Moment.{Moment}
 use Rattle.fuse_answer.specs.Said.{Said}

@@ -1,4 +1,4 @@
--- That a session works on what it was given (own profile).
+-- That a session works on what it was given (defined by this project).
 use Rattle.std.specs.Prelude.{◌≡◌}
 use Rattle.fuse_session.specs.declared.session.Session.{Session}
 

@@ -1,4 +1,4 @@
--- The clocks keep the law of what they gave (own profile).
+-- The clocks keep the law of what they gave (defined by this project).
 use Rattle.std.proofs.Common.{◌≡◌, List, [], ◌∷◌, ◌++◌, refl, sym, ap, subst, ◌∙◌}
 use Rattle.std.specs.List.{AllByRecursion}
 use Rattle.fuse_wire.specs.declared.moment.Moment.{Moment}

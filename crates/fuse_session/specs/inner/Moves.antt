@@ -1,4 +1,4 @@
--- How the steps of a session move a keeper, and the ids that they hand on (own profile).
+-- How the steps of a session move a keeper, and the ids that they hand on (defined by this project).
 use Rattle.std.specs.Prelude.{◌≡◌, ◌<◌, Bool, true, false, List, ℕ}
 use Rattle.fuse_keeper.specs.History.{Includes}
 use Rattle.fuse_keeper.specs.Model.{Model, IsRowed}

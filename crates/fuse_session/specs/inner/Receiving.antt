@@ -1,4 +1,4 @@
--- The bytes that were received, and the messages that wait then (own profile).
+-- The bytes that were received, and the messages that wait then (defined by this project).
 use Rattle.std.specs.Prelude.{◌≡◌, ◌<◌, ◌≤◌, ◌+◌, ℕ, List, [], ◌∷◌, ◌++◌, length, All, Option, Some, None}
 use Rattle.std.specs.Io.KnownBytes.{Consumes}
 use Rattle.fuse_request.specs.declared.framer.FrameFault.{FrameFault}

@@ -1,4 +1,4 @@
--- How the answers of a group are sent (own profile).
+-- How the answers of a group are sent (defined by this project).
 use Rattle.std.specs.Prelude.{◌≡◌, ℕ, Bool, true, false, List, [], ◌++◌, length}
 use Rattle.fuse_request.specs.Opcodes.{OpcodeSet}
 use Rattle.fuse_session.specs.declared.fault.Fault.{Fault}

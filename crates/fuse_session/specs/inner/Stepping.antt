@@ -1,4 +1,4 @@
--- The laws of what became of a port by calls, one after the other (own profile).
+-- The laws of what became of a port by calls, one after the other (defined by this project).
 use Rattle.std.specs.Prelude.{ℕ, List, [], ◌∷◌, ◌++◌, Result, refl}
 use Rattle.std.specs.declared.io.Error.{Error}
 use Rattle.std.proofs.Common.{ap, subst}

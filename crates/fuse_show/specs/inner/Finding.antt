@@ -1,4 +1,4 @@
--- The parts of a lookup (own profile).
+-- The parts of a lookup (defined by this project).
 use Rattle.std.specs.Prelude.{◌≡◌, List, ℕ, Bool, true, false, Some, Result, Ok, Err, ◌≢◌, All}
 use Rattle.fuse_tree.specs.Rows.{Rows, row_at}
 use Rattle.fuse_show.specs.declared.fault.ShowFault.{ShowFault}

@@ -1,4 +1,4 @@
--- A walk that goes on (own profile).
+-- A walk that goes on (defined by this project).
 use Rattle.std.specs.Prelude.{◌≡◌, Option, None, Result, OnOk}
 use Rattle.fuse_tree.specs.declared.look.LookFault.{LookFault}
 

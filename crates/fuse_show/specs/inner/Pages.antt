@@ -1,4 +1,4 @@
--- The lines of a directory's entries, page by page (own profile).
+-- The lines of a directory's entries, page by page (defined by this project).
 use Rattle.std.specs.Prelude.{◌≡◌, ◌++◌, ℕ, Bool, true, nat_lt, List, [], filter, Option, Some, None, Result, Ok, Err}
 use Rattle.std.specs.List.{flat_map, slice_get}
 use Rattle.std.specs.Option.{option_map}

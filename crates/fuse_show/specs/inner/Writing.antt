@@ -1,4 +1,4 @@
--- The texts that parts of the output write (own profile).
+-- The texts that parts of the output write (defined by this project).
 use Rattle.std.specs.Prelude.{List, ℕ, Option, Result, Ok, Err, ◌++◌}
 use Rattle.std.specs.Io.KnownBytes.{Appends}
 use Rattle.fuse_show.specs.declared.fault.ShowFault.{ShowFault}

@@ -1,4 +1,4 @@
--- Runs over files are lives of one mount, by the law of lives (own profile).
+-- Runs over files are lives of one mount, by the law of lives (defined by this project).
 use Rattle.std.proofs.Common.{◌≡◌, inl, ℕ, Bool, true, false, ◌==◌, if◌then◌else◌, List, [], ◌∷◌, ◌++◌, refl, sym, ap, subst, ◌∙◌}
 use Rattle.std.proofs.lemmas.List.{append-nil, map-append}
 use Rattle.fuse_request.specs.Opcodes.{OpcodeSet}

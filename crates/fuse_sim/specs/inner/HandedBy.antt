@@ -1,4 +1,4 @@
--- The ids that are handed on as the groups of events step (own profile).
+-- The ids that are handed on as the groups of events step (defined by this project).
 use Rattle.std.specs.Prelude.{◌≡◌, ℕ, zero, suc, List, [], ◌∷◌, ◌++◌}
 use Rattle.fuse_request.specs.Opcodes.{OpcodeSet}
 use Rattle.fuse_keeper.specs.History.{Entry}

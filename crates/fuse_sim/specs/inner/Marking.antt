@@ -1,4 +1,4 @@
--- The place of a pending request, and the bytes of its message as it is sent again (own profile).
+-- The place of a pending request, and the bytes of its message as it is sent again (defined by this project).
 use Rattle.std.specs.Prelude.{◌≡◌, ◌+◌, ℕ, true, List, ◌∷◌, ◌++◌, length, drop, take, Option, Some, None}
 use Rattle.fuse_wire.specs.Bytes.{le, number_of}
 use Rattle.fuse_wire.specs.Ids.{id_of}

@@ -1,4 +1,4 @@
--- The laws of the `impl` of `Keeper` (own profile). The proofs are here because an `impl` takes them from definitions alone.
+-- The laws of the `impl` of `Keeper` (defined by this project). The proofs are here because an `impl` takes them from definitions alone.
 use Rattle.std.proofs.Common.{◌≡◌, ℕ, Option, sym, ap, ◌∙◌}
 use Rattle.sqlite.specs.State.{State}
 use Rattle.fuse_tree.specs.Rows.{Rows, rowed}

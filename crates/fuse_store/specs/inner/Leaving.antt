@@ -1,4 +1,4 @@
--- What an open finds of what a crash left (own profile). The proofs are here because the crates above cite them.
+-- What an open finds of what a crash left (defined by this project). The proofs are here because the crates above cite them.
 use Rattle.std.proofs.Common.{◌≡◌, IsTrue, sym, subst}
 use Rattle.std.specs.List.{AllByRecursion}
 use Rattle.sqlite.specs.Tree.{Trees}

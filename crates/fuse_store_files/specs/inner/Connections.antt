@@ -1,4 +1,4 @@
--- The end of a connection over files (own profile).
+-- The end of a connection over files (defined by this project).
 use Rattle.std.specs.Prelude.{IsTrue}
 use Rattle.sqlite_disk.specs.declared.Disk.{Ghosts}
 use Rattle.sqlite_disk.specs.declared.Files.{Files}

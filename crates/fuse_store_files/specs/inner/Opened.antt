@@ -1,4 +1,4 @@
--- A store that is opened over any database, and files that are not opened (own profile).
+-- A store that is opened over any database, and files that are not opened (defined by this project).
 use Rattle.std.specs.Prelude.{◌≡◌, IsTrue}
 use Rattle.sqlite_disk.specs.declared.Disk.{Ghosts}
 use Rattle.sqlite_wal.specs.Recovery.{Image}

@@ -1,4 +1,4 @@
--- A test of what the tables hold, which only reads (own profile).
+-- A test of what the tables hold, which only reads (defined by this project).
 use Rattle.std.specs.Prelude.{◌≡◌, ◌≤◌, ◌==◌, ℕ, List, Result, IfErr, map, if◌then◌else◌}
 use Rattle.sqlite.specs.Order.{Row}
 use Rattle.sqlite.specs.State.{State, HasCleanDisk}

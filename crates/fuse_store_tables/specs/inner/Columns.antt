@@ -1,4 +1,4 @@
--- The values of columns, as they are read and written (own profile).
+-- The values of columns, as they are read and written (defined by this project).
 use Rattle.std.specs.Prelude.{ℕ, pos, [], ◌∷◌, if◌then◌else◌}
 use Rattle.sqlite.specs.declared.types.Value.TheVariants.{Int}
 use Rattle.sqlite.specs.Order.{Row, column}

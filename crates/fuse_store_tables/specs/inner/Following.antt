@@ -1,4 +1,4 @@
--- One call after another: both make what each makes (own profile). The proofs are here because the crates above cite them.
+-- One call after another: both make what each makes (defined by this project). The proofs are here because the crates above cite them.
 use Rattle.std.proofs.Common.{subst}
 use Rattle.std.specs.Prelude.{◌≤◌, Result, Ok, Err}
 use Rattle.std.proofs.Math.Arith.{le-zero}

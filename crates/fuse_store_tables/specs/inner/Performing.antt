@@ -1,4 +1,4 @@
--- A statement, and a whole transaction whose rollback is the caller's (own profile).
+-- A statement, and a whole transaction whose rollback is the caller's (defined by this project).
 use Rattle.std.specs.Prelude.{◌≡◌, ◌≢◌, Bool, true, ℕ, nat_lt, List, Result, Ok, Err, OnOk, OnErr, IfErr}
 use Rattle.sqlite.specs.Order.{Row}
 use Rattle.sqlite.specs.Effect.{Database}

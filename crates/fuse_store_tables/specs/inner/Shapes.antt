@@ -1,4 +1,4 @@
--- The parts of the layout, as an opening compares them (own profile).
+-- The parts of the layout, as an opening compares them (defined by this project).
 use Rattle.std.specs.Prelude.{[], ◌∷◌, true, false, codes, List, ℕ, Bool}
 use Rattle.sqlite_value.specs.Keys.{plain}
 use Rattle.sqlite_schema.specs.declared.schema.Column.{Column}

@@ -1,4 +1,4 @@
--- The content of the tables between the steps of a new store, of a migration and of the begin of a mount (own profile).
+-- The content of the tables between the steps of a new store, of a migration and of the begin of a mount (defined by this project).
 use Rattle.std.specs.Prelude.{ℕ, ◌-◌, List, [], ◌∷◌, ⊤, not, map, filter, fold, Result, OnOk}
 use Rattle.std.specs.List.{sum_by}
 use Rattle.sqlite.specs.Order.{Row}

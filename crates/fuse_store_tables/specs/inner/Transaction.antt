@@ -1,4 +1,5 @@
--- A whole transaction, of the steps between its begin and its end (own profile). The proofs are here because the crates above cite them.
+-- A whole transaction, of the steps between its begin and its end (defined by this project). The proofs are here because the crates
+-- above cite them.
 use Rattle.std.proofs.Common.{◌≡◌, sym, subst, ◌∙◌}
 use Rattle.std.specs.Prelude.{IsTrue, Result, Ok, Err}
 use Rattle.sqlite.specs.Tree.{Trees}

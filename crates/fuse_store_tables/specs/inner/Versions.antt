@@ -1,4 +1,4 @@
--- What a fault says of a database whose version is known (own profile). The proofs are here because the crates above cite them.
+-- What a fault says of a database whose version is known (defined by this project). The proofs are here because the crates above cite them.
 use Rattle.std.proofs.Common.{subst}
 use Rattle.std.specs.Prelude.{◌≡◌, ◌⊎◌, ℕ, List, [], ◌∷◌}
 use Rattle.std.proofs.Common.{inl, inr, refl, sym}

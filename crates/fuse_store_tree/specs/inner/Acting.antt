@@ -1,4 +1,4 @@
--- The action of a request within a transaction (own profile).
+-- The action of a request within a transaction (defined by this project).
 use Rattle.std.specs.Prelude.{◌≡◌, Option, Some, None}
 use Rattle.sqlite.specs.State.{State, HasCleanDisk}
 use Rattle.fuse_answer.specs.Said.{Said}

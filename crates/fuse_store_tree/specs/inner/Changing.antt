@@ -1,4 +1,4 @@
--- The effect of a step within a transaction on the content of the tables (own profile).
+-- The effect of a step within a transaction on the content of the tables (defined by this project).
 use Rattle.sqlite.specs.State.{State, HasCleanDisk}
 use Rattle.fuse_tree.specs.Rows.{IsRowed}
 use Rattle.fuse_store_tables.specs.Moves.{StaysIn, TurnsTo, InsideAs, IsReady}

@@ -1,4 +1,4 @@
--- What is known of the table `meta` on the way of a group (own profile).
+-- What is known of the table `meta` on the way of a group (defined by this project).
 use Rattle.std.specs.Prelude.{◌==◌, if◌then◌else◌, ℕ, List, Option, Some, None, Result, IfErr}
 use Rattle.sqlite.specs.Effect.{Database}
 use Rattle.sqlite.specs.State.{State, HasCleanDisk}

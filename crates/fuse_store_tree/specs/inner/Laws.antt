@@ -1,4 +1,4 @@
--- The laws of the `impl` of `Look` (own profile).
+-- The laws of the `impl` of `Look` (defined by this project).
 use Rattle.std.proofs.Common.{inl, refl, sym, subst, ◌∙◌}
 use Rattle.std.specs.Prelude.{Option, IfSome}
 use Rattle.std.proofs.Math.Nat.{le_refl}

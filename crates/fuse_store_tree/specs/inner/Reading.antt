@@ -1,4 +1,4 @@
--- How rows are read from the tables (own profile).
+-- How rows are read from the tables (defined by this project).
 use Rattle.std.specs.Prelude.{◌≡◌, ◌++◌, ◌==◌, if◌then◌else◌, ◌+◌, replicate, zero, suc, nat_lt, min, length, ◌-◌, ℕ, List, [], ◌∷◌, Option, Some, None, IfSome, slice_index_or}
 use Rattle.sqlite.specs.Order.{Row}
 use Rattle.fuse_init.specs.declared.settings.Settings.{Settings}

@@ -1,4 +1,4 @@
--- How rows are written into the tables (own profile).
+-- How rows are written into the tables (defined by this project).
 use Rattle.std.specs.Prelude.{◌==◌, if◌then◌else◌, ◌+◌, ◌++◌, ◌&&◌, take, drop, length, not, nat_lt, ◌-◌, min, max, ℕ, Bool, List, [], ◌∷◌, Option, Some, None}
 use Rattle.fuse_tree.specs.declared.rows.Room.{Room}
 use Rattle.fuse_tree.specs.declared.rows.Change.{Change}

@@ -1,4 +1,4 @@
--- The faults of plans over lists as faults of a store (own profile).
+-- The faults of plans over lists as faults of a store (defined by this project).
 use Rattle.std.specs.Prelude.{◌≡◌}
 use Rattle.fuse_tree.specs.declared.planning.fault.PlanFault.{PlanFault}
 use Rattle.fuse_tree.specs.declared.planning.fault.PlanFault.TheVariants as plans

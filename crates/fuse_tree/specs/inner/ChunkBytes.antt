@@ -1,4 +1,4 @@
--- A content in pieces (own profile): the bytes that they stand for, and where a place of the content lies among them.
+-- A content in pieces (defined by this project): the bytes that they stand for, and where a place of the content lies among them.
 use Rattle.std.specs.Prelude.{◌≡◌, ◌+◌, ◌-◌, ◌<◌, ◌≤◌, ℕ, List, length, take, drop, replicate, slice_index_or}
 use Rattle.std.specs.List.{flat_map}
 use Rattle.fuse_tree.specs.declared.plain.chunk.Chunk.{Chunk}

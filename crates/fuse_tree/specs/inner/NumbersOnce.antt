@@ -1,4 +1,4 @@
--- A list in which each node stands once (own profile).
+-- A list in which each node stands once (defined by this project).
 use Rattle.std.specs.Prelude.{◌==◌, ◌&&◌, Bool, true, not, List, [], ◌∷◌}
 use Rattle.std.specs.List.{list_any}
 use Rattle.fuse_tree.specs.declared.rows.Full.{Full}

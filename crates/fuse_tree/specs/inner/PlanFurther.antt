@@ -1,4 +1,4 @@
--- The plans of the opcodes of a profile beside those of the protocol's, over the rows (own profile).
+-- The plans of the opcodes of a profile beside those of the protocol's, over the rows (defined by this project).
 -- Not part of what is trusted: neither `done` nor the public clauses of `plan` speak of it.
 use Rattle.std.specs.Prelude.{ℕ, not, if◌then◌else◌, List, Option, Some, is_some}
 use Rattle.fuse_wire.specs.Errnos.{enosys, einval}

@@ -1,4 +1,4 @@
--- The plan of INIT (own profile): it reads nothing off the rows.
+-- The plan of INIT (defined by this project): it reads nothing off the rows.
 -- Not part of what is trusted: neither `done` nor the public clauses of `plan` speak of it.
 use Rattle.std.specs.Prelude.{[], ◌∷◌}
 use Rattle.fuse_answer.specs.Bodies.{init_bytes}

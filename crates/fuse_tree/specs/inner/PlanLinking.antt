@@ -1,4 +1,4 @@
--- The plan of READLINK over the rows (own profile).
+-- The plan of READLINK over the rows (defined by this project).
 -- Not part of what is trusted: neither `done` nor the public clauses of `plan` speak of it.
 use Rattle.std.specs.Prelude.{not, if◌then◌else◌}
 use Rattle.fuse_wire.specs.Errnos.{einval}

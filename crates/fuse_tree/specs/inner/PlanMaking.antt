@@ -1,4 +1,4 @@
--- The plans of MKNOD and MKDIR over the rows (own profile), in the order of their checks.
+-- The plans of MKNOD and MKDIR over the rows (defined by this project), in the order of their checks.
 -- Not part of what is trusted: neither `done` nor the public clauses of `plan` speak of it.
 use Rattle.std.specs.Prelude.{◌<◌, ◌+◌, ℕ, not, if◌then◌else◌, List, [], ◌∷◌, is_some}
 use Rattle.fuse_wire.specs.Errnos.{enoent, eexist, enotdir, einval, enospc}

@@ -1,4 +1,4 @@
--- The plan of READDIRPLUS over the rows (own profile), in the order of its checks.
+-- The plan of READDIRPLUS over the rows (defined by this project), in the order of its checks.
 -- Not part of what is trusted: neither `done` nor the public clauses of `plan` speak of it.
 use Rattle.std.specs.Prelude.{◌+◌, ◌/◌, ℕ, not, nat_lt, if◌then◌else◌, List, ◌++◌, map, None}
 use Rattle.std.specs.Option.{option_map}

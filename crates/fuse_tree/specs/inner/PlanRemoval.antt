@@ -1,4 +1,4 @@
--- The removal of a node in a plan over the rows (own profile).
+-- The removal of a node in a plan over the rows (defined by this project).
 -- Not part of what is trusted: neither `done` nor the public clauses of `plan` speak of it.
 use Rattle.std.specs.Prelude.{◌-◌, ◌==◌, ◌&&◌, ℕ, Bool, not, if◌then◌else◌, List, [], ◌∷◌, ◌++◌}
 use Rattle.std.specs.Option.{option_map}

@@ -1,4 +1,4 @@
--- The plans of RENAME and RENAME2 over the rows (own profile), in the order of their checks.
+-- The plans of RENAME and RENAME2 over the rows (defined by this project), in the order of their checks.
 -- Not part of what is trusted: neither `done` nor the public clauses of `plan` speak of it.
 use Rattle.std.specs.Prelude.{◌+◌, ◌-◌, ◌==◌, ◌&&◌, ◌||◌, ℕ, Bool, false, not, nat_eq, nat_le, nat_lt, if◌then◌else◌, List, [], ◌∷◌, ◌++◌, is_some, Option}
 use Rattle.std.specs.Prelude.{Some, None}

@@ -1,4 +1,4 @@
--- The plan of SETATTR over the row (own profile), in the order of its checks.
+-- The plan of SETATTR over the row (defined by this project), in the order of its checks.
 -- Not part of what is trusted: neither `done` nor the public clauses of `plan` speak of it.
 use Rattle.std.specs.Prelude.{◌&&◌, ℕ, not, if◌then◌else◌, List, [], ◌∷◌, Option, None}
 use Rattle.fuse_wire.specs.Errnos.{enospc}

@@ -1,4 +1,4 @@
--- The room of a store in a plan over the rows (own profile).
+-- The room of a store in a plan over the rows (defined by this project).
 -- Not part of what is trusted: neither `done` nor the public clauses of `plan` speak of it.
 use Rattle.std.specs.Prelude.{ℕ, List, [], ◌∷◌, Option, Some, None}
 use Rattle.std.specs.Option.{option_map}

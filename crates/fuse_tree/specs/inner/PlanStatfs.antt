@@ -1,4 +1,4 @@
--- The plan of STATFS over the rows (own profile).
+-- The plan of STATFS over the rows (defined by this project).
 -- Not part of what is trusted: neither `done` nor the public clauses of `plan` speak of it.
 use Rattle.std.specs.Option.{unwrap_or}
 use Rattle.fuse_answer.specs.FurtherAnswers.{statfs_bytes}

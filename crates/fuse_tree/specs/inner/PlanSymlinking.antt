@@ -1,4 +1,4 @@
--- The plan of SYMLINK over the rows (own profile), in the order of its checks.
+-- The plan of SYMLINK over the rows (defined by this project), in the order of its checks.
 -- Not part of what is trusted: neither `done` nor the public clauses of `plan` speak of it.
 use Rattle.std.specs.Prelude.{ℕ, not, if◌then◌else◌, List, [], ◌∷◌, length, is_some}
 use Rattle.fuse_wire.specs.Errnos.{enoent, eexist, enotdir, enospc}

@@ -1,4 +1,4 @@
--- The plans of WRITE and READ over the rows (own profile), in the order of their checks.
+-- The plans of WRITE and READ over the rows (defined by this project), in the order of their checks.
 -- Not part of what is trusted: neither `done` nor the public clauses of `plan` speak of it.
 use Rattle.std.specs.Prelude.{◌+◌, ◌==◌, ℕ, max, not, nat_lt, if◌then◌else◌, List, ◌∷◌, length, Option}
 use Rattle.fuse_wire.specs.Errnos.{ebadf, eisdir, einval, efbig, enospc}

@@ -1,4 +1,4 @@
--- `plan` over the rows (own profile), in the order of its checks.
+-- `plan` over the rows (defined by this project), in the order of its checks.
 -- Not part of what is trusted: neither `done` nor the public clauses of `plan` speak of it.
 use Rattle.std.specs.Prelude.{ℕ, Bool, true, false, not, if◌then◌else◌, List, [], Option, Some, None, is_some}
 use Rattle.fuse_wire.specs.Errnos.{enoent, enotdir, enosys, eproto, estale}

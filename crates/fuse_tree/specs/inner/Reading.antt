@@ -1,4 +1,4 @@
--- The parts of `plan` over the rows (own profile): shared by the plans of the operations.
+-- The parts of `plan` over the rows (defined by this project): shared by the plans of the operations.
 -- Not part of what is trusted: neither `done` nor the public clauses of `plan` speak of it.
 use Rattle.std.specs.Prelude.{◌≡◌, ◌≤◌, ◌+◌, ◌-◌, ◌/◌, ◌&&◌, ℕ, Bool, not, nat_le, if◌then◌else◌, List, [], Option, Some, None, Result, IfOk, IfErr, OnErr, ◌≢◌}
 use Rattle.fuse_wire.specs.declared.errno.Errno.{Errno}

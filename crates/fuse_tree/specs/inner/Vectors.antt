@@ -1,4 +1,4 @@
--- Worked examples (own profile): `done` of INIT, of the first run, and of a name that is missing.
+-- Worked examples (defined by this project): `done` of INIT, of the first run, and of a name that is missing.
 use Rattle.std.specs.Prelude.{◌≡◌, ◌+◌, ◌^◌, ℕ, List, [], Option, Some, None, replicate, codes}
 use Rattle.fuse_wire.specs.declared.moment.Moment.{Moment}
 use Rattle.fuse_wire.specs.declared.errno.Errno.{Errno}

@@ -1,4 +1,4 @@
--- The laws of a port that loses answers (own profile).
+-- The laws of a port that loses answers (defined by this project).
 use Rattle.std.specs.Prelude.{◌≡◌, ℕ, List, [], ◌∷◌, ◌++◌, refl}
 use Rattle.std.proofs.Common.{sym, ap, subst, ◌∙◌}
 use Rattle.std.proofs.lemmas.List.{append_assoc, append-nil}

@@ -1,4 +1,4 @@
--- One answer that is sent on a line, or none (own profile).
+-- One answer that is sent on a line, or none (defined by this project).
 use Rattle.std.specs.Prelude.{◌≡◌, ℕ, List, ◌++◌}
 use Rattle.lossy_port.specs.declared.line.Line.{Line}
 use Rattle.lossy_port.specs.Losing.{through_of, lost_then}

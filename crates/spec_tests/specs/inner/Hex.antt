@@ -1,4 +1,4 @@
--- Bytes as worked examples print them (own profile).
+-- Bytes as worked examples print them (defined by this project).
 use Rattle.std.specs.Prelude.{ℕ, List, [], ◌∷◌, ◌==◌, ◌+◌, ◌-◌, ◌*◌, nat_lt, if◌then◌else◌}
 
 -- the value of a digit in lower case

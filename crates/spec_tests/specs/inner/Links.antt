@@ -1,4 +1,4 @@
--- A file system of the tests that serves READLINK and STATFS (own profile).
+-- A file system of the tests that serves READLINK and STATFS (defined by this project).
 use Rattle.std.specs.Prelude.{◌==◌, ◌||◌, ℕ, if◌then◌else◌, List, [], ◌∷◌, None, codes}
 use Rattle.fuse_wire.specs.declared.errno.Errno.{Errno}
 use Rattle.fuse_wire.specs.Errnos.{einval, enosys}

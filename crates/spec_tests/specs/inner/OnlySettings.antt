@@ -1,4 +1,4 @@
--- The state of a keeper that gives settings alone (own profile).
+-- The state of a keeper that gives settings alone (defined by this project).
 use Rattle.std.specs.Prelude.{Bool}
 use Rattle.fuse_keeper.specs.KeeperState.{KeeperState}
 use Rattle.fuse_keeper.specs.Lots.{no_lots}

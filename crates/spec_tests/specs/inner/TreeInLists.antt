@@ -1,4 +1,4 @@
--- The state of a keeper of the tree over lists (own profile).
+-- The state of a keeper of the tree over lists (defined by this project).
 use Rattle.fuse_keeper.specs.declared.plain.PlainKeeper.{PlainKeeper}
 use Rattle.fuse_keeper.specs.KeeperState.{KeeperState}
 use Rattle.fuse_keeper.specs.PlainKeeper.{plain_told}

@@ -1,4 +1,4 @@
--- Worked cases (own profile): `committed`, `outcome_of` and `settled_by` of a short list of events, over the store of case
+-- Worked cases (defined by this project): `committed`, `outcome_of` and `settled_by` of a short list of events, over the store of case
 -- first-run.
 use Rattle.std.specs.Prelude.{◌≡◌, ◌+◌, ◌^◌, ℕ, List, [], ◌∷◌, map, codes, Some, None}
 use Rattle.spec_tests.specs.inner.Hex.{hex}
