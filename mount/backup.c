@@ -48,7 +48,7 @@ static bool is_same(const struct stat *one, const struct stat *other) {
   return one->st_dev == other->st_dev && one->st_ino == other->st_ino;
 }
 
-/* Whether nothing is lost where the copy gets its name. A log that lies there would be taken for the copy's. */
+/* Whether the copy may have its name. A file there would be lost, and a log there would be taken for the copy's. */
 static bool may_be_made(const struct supervisor *s, const char *store) {
   static struct answer answer;
   struct stat found, own;

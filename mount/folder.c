@@ -73,7 +73,7 @@ static int open_or_make(const struct supervisor *s, const char *name, int flags,
   return file;
 }
 
-/* Whether a store that is there may be used. The caller may use an own one, and root any. */
+/* Whether an existing store may be used: one of the caller's own, and by root any. */
 static bool is_safe(const char *store, const struct stat *found) {
   unsigned mode = found->st_mode & 0777U;
   if (!S_ISREG(found->st_mode)) return say("%s isn't a regular file", store), false;

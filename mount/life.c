@@ -27,13 +27,13 @@ bool was_locked_out(const struct supervisor *s, int status) {
   return !WIFSIGNALED(status) && asked_at(s) == 0 && length > ending_length && strcmp(line + length - ending_length, locked_out) == 0;
 }
 
-/* Whether a server has done what there was to do, as far as it came: it has answered, or it was killed while no request was there. */
+/* Whether a server has served: it has answered, or it was killed after it had asked for requests and before one came. */
 static bool has_served(const struct supervisor *s, int status) {
   const struct counts *counts = &s->report->counts;
   return counts->answers > 0 || (was_killed(status) && asked_at(s) != 0 && counts->requests == 0);
 }
 
-/* A server that ended by itself without an answer has failed. Killed ones, and those that the store was locked for, aren't counted. */
+/* A server that ended by itself without an answer has failed. Killed ones aren't counted, nor those to which the store was locked. */
 static void count_failures(struct supervisor *s, int status) {
   if (s->report->counts.answers > 0) s->failed_lives = 0;
   else if (!was_killed(status) && !was_locked_out(s, status)) s->failed_lives++;

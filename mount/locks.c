@@ -47,7 +47,7 @@ static bool lock_file(const struct supervisor *s) {
   return is_named(s, s->lock, LOCK_SUFFIX);
 }
 
-/* A mount would have the store locked. So another process that has the lock's file locked is none, and the file is made anew. */
+/* A mount would have locked the store too. So a process that has locked the lock's file alone is no mount, and the file is made anew. */
 bool take_lock(struct supervisor *s) {
   for (int left = FILE_TRIES; left > 0; left--) {
     s->lock = open_beside(s, LOCK_SUFFIX, O_RDWR | O_CREAT | O_APPEND, &s->made_lock);

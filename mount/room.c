@@ -114,7 +114,7 @@ static bool give_up_reserve(struct supervisor *s) {
   return true;
 }
 
-/* A request at which a server ended that got one at a time, and none that takes room, needs more than there is. */
+/* Servers now get one request at a time, and none that takes room. If one ends all the same, its request needs more room than there is. */
 static void keep_back_request(const struct supervisor *s) {
   struct report *report = s->report;
   size_t i = 0;
@@ -140,7 +140,7 @@ static bool has_removed(const struct supervisor *s) {
 }
 
 /* Whether calls that take room may be tried: the disk has room again, or files were removed, whose room the store has. The reserve is made
- * again first. Where the disk gives less room than it shows, that is done once in a while. */
+ * again first. If the disk gives less room than it shows, that is tried once in a while. */
 static bool may_go_on(struct supervisor *s) {
   long long size = share_of_disk(s, LARGEST_RESERVE);
   if (now() < s->next_try) return false;

@@ -60,7 +60,7 @@ static bool is_empty(int file) {
   return file >= 0 && fstat(file, &found) == 0 && found.st_size == 0;
 }
 
-/* Who doesn't hold the store leaves its files, which another mount may use. */
+/* If this process doesn't hold the store, its files stay: another mount may use them. */
 void leave_no_trace(const struct supervisor *s) {
   bool was_made = s->made_store && s->has_store && is_named(s, s->store_file, "");
   if (was_made) remove_beside(s, "");

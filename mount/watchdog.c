@@ -34,7 +34,7 @@ static bool goes_on(const struct supervisor *s) {
   return s->sight.requests != counts->requests || s->sight.answers != counts->answers || !has_work(s);
 }
 
-/* Ends a server that has done nothing since a moment, if that is too long. */
+/* Ends a server that has done nothing since a moment, if that is longer ago than the limit. */
 static void watch(struct supervisor *s, const char *what, long long since, long long limit) {
   limit <<= s->hangs < MOST_DOUBLED ? s->hangs : MOST_DOUBLED;
   if (now() - since < limit) return;

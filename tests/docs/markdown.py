@@ -30,6 +30,20 @@ def blocks_of(text, *kinds):
     return pattern.findall(text)
 
 
+def quotations_of(text):
+    """The quotations in a page's prose, each with the number of its first line, in one line and without asterisks."""
+    quotations, before = [], 0
+    for number, line in prose_of(text):
+        if line.startswith(">"):
+            words = line[1:].replace("*", "").split()
+            if number == before + 1 and quotations:
+                quotations[-1][1].extend(words)
+            else:
+                quotations.append((number, words))
+            before = number
+    return [(number, " ".join(words)) for number, words in quotations]
+
+
 def anchors_of(text):
     """The anchors of a page's headings, as the usual renderers make them."""
     anchors, seen = set(), {}

@@ -1,10 +1,13 @@
 """Checks of all pages: their links, their bytes, their code and their sizes."""
 import re
 
-from docs.markdown import anchors_of, blocks_of, prose_of, text_of
+from docs.markdown import anchors_of, blocks_of, prose_of, quotations_of, text_of
 from spec.read import bytes_of, read_all
 
 MOST_WORDS_OF_README = 1200
+
+# The pages that quote theorems of HEADLINE.md, and which: that of `drive`, and that on a mount.
+QUOTED = {"README.md": (0, 1), "crates/fuse_files/README.md": (1,)}
 
 LINK = re.compile(r"\]\(([^()\s]+)\)")
 
@@ -66,6 +69,20 @@ def check_code(tree):
         found = any(without_indent(block) in text for text in texts)
         tree.check(found, f"{tree.name_of(page)}: no example crate has the block that begins with {block.splitlines()[0].strip()}")
     tree.check(blocks, f"{tree.name_of(page)}: it has no block of code")
+
+
+def check_theorems(tree):
+    """The theorems are worded once, in HEADLINE.md. Each quotation of another page is one of them, word for word."""
+    theorems = [text for _, text in quotations_of(text_of(tree.top / "docs/HEADLINE.md"))]
+    for page in tree.pages():
+        name = tree.name_of(page)
+        quoted = quotations_of(text_of(page)) if name != "docs/HEADLINE.md" else []
+        for number, text in quoted:
+            tree.check(text in theorems, f"{name}, line {number}: the quotation is none of those of docs/HEADLINE.md")
+        for at in QUOTED.get(name, ()):
+            wanted = "".join(theorems[at:at + 1])
+            tree.check(wanted in [it for _, it in quoted], f"{name}: it doesn't quote: {wanted[:40]}")
+    tree.check(len(theorems) == 2, f"docs/HEADLINE.md has {len(theorems)} theorems (`>`); it should have 2")
 
 
 def check_sizes(tree):
