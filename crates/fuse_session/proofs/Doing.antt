@@ -1,13 +1,17 @@
 -- What a session did, step after step.
-use Rattle.std.proofs.Common.{◌≡◌, inl, inr, ℕ, List, [], ◌∷◌, ◌++◌, refl, sym, ap, ◌∙◌}
+use Rattle.std.proofs.Common.{◌≡◌, inl, inr, ℕ, Bool, true, false, List, [], ◌∷◌, ◌++◌, refl, sym, ap, ◌∙◌}
 use Rattle.std.proofs.lemmas.List.{append-nil}
 use Rattle.fuse_wire.specs.declared.moment.Moment.{Moment}
+use Rattle.fuse_request.specs.Act.{Asked}
+use Rattle.fuse_request.specs.Opcodes.{OpcodeSet}
+use Rattle.fuse_request.specs.Stream.{cut}
 use Rattle.fuse_keeper.specs.Performance.{Performance, IsPerformanceLog}
 use Rattle.fuse_session.specs.declared.port.Received.{Received as Receipt}
 use Rattle.fuse_session.specs.Clock.{IsLog}
 use Rattle.fuse_session.specs.Transcript.{PortEvent, Received, received_in, sends_of, Gave, IsTranscript}
 use Rattle.fuse_session.specs.Deeds.{Deeds, Did, Hears}
-use Rattle.fuse_session.specs.inner.Turn.{Mute, OneTurn}
+use Rattle.fuse_session.specs.Grouping.{groups_of}
+use Rattle.fuse_session.specs.inner.Turn.{Mute, Grouped, OneTurn}
 use Rattle.fuse_session.proofs.Transcripts.{received_more, sends_more, received_sends}
 
 abbrev pub no_deeds : Deeds
@@ -61,12 +65,17 @@ one_heard result bytes = record { moments = []; asked = []; events = Received re
 
 -- a receive, and the sends after it
 pub turn_of : {P : Type 0} (gave : List Moment → Type 0) (performed : List Performance → Type 0) (became : P → P → List PortEvent → Type 0) → IsTranscript became
-    → (p q r : P) (result : Receipt) (bytes : List ℕ) (b : Deeds) → became p q (Received result bytes ∷ []) → Gave (Received result bytes)
-    → Mute (Did gave performed (became q r)) b → OneTurn (Did gave performed (became p r)) (then_did (one_heard result bytes) b)
-turn_of gave performed became path p q r result bytes b one came two = record {
+    → (p q r : P) (result : Receipt) (bytes : List ℕ) (b : Deeds) (V : OpcodeSet) (held : List ℕ) (messages : List (List ℕ)) (later : List (List Asked)) (all : Bool)
+    → messages ≡ (cut (held ++ bytes)).0 → (all ≡ true → later ≡ []) → became p q (Received result bytes ∷ []) → Gave (Received result bytes)
+    → Mute (Did gave (Grouped V messages later performed) (became q r)) b
+    → OneTurn V held all (Did gave performed (became p r)) (then_did (one_heard result bytes) b)
+turn_of gave performed became path p q r result bytes b V held messages later all same none one came two = record {
+  later = later;
+  groups = ap (groups_of V) (sym same) ∙ two.done.asked.1;
+  none_later = none;
   done = record {
     moments = two.done.moments;
-    asked = two.done.asked;
+    asked = two.done.asked.0;
     events = path.onward p q r (Received result bytes ∷ []) b.events one two.done.events;
   };
   result = result;
@@ -80,19 +89,28 @@ pub heard_by : (result : Receipt) (bytes : List ℕ) → received_in (one_heard 
 heard_by result bytes = append-nil bytes
 
 pub turn_none : {P : Type 0} (gave : List Moment → Type 0) (performed : List Performance → Type 0) (became : P → P → List PortEvent → Type 0)
-    → (p q : P) (result : Receipt) (bytes : List ℕ) → gave [] → performed [] → became p q (Received result bytes ∷ [])
-    → Hears (OneTurn (Did gave performed (became p q))) bytes (one_heard result bytes)
-turn_none gave performed became p q result bytes none unasked one = (
-  record { done = record { moments = none; asked = unasked; events = one }; result = result; bytes = bytes; slices = []; events = refl; gave = inr refl },
-  heard_by result bytes,
-)
+    → (p q : P) (result : Receipt) (bytes : List ℕ) (V : OpcodeSet) (held : List ℕ) → gave [] → performed [] → became p q (Received result bytes ∷ [])
+    → OneTurn V held false (Did gave performed (became p q)) (one_heard result bytes)
+turn_none gave performed became p q result bytes V held none unasked one = record {
+  done = record { moments = none; asked = unasked; events = one };
+  result = result;
+  bytes = bytes;
+  slices = [];
+  events = refl;
+  gave = inr refl;
+  later = groups_of V (cut (held ++ bytes)).0;
+  groups = refl;
+  none_later = λ isnt. absurd (cc isnt);
+}
 
 -- a receive and the sends after it, and what came
 pub turn_hears : {P : Type 0} (gave : List Moment → Type 0) (performed : List Performance → Type 0) (became : P → P → List PortEvent → Type 0)
-    → IsTranscript became → (p q r : P) (result : Receipt) (bytes : List ℕ) (b : Deeds) → became p q (Received result bytes ∷ [])
-    → Gave (Received result bytes) → Mute (Did gave performed (became q r)) b → Hears (OneTurn (Did gave performed (became p r))) bytes (then_did (one_heard result bytes) b)
-turn_hears gave performed became path p q r result bytes b one came two = (
-  turn_of gave performed became path p q r result bytes b one came two,
+    → IsTranscript became → (p q r : P) (result : Receipt) (bytes : List ℕ) (b : Deeds) (V : OpcodeSet) (held : List ℕ) (messages : List (List ℕ))
+    (later : List (List Asked)) (all : Bool) → messages ≡ (cut (held ++ bytes)).0 → (all ≡ true → later ≡ []) → became p q (Received result bytes ∷ [])
+    → Gave (Received result bytes) → Mute (Did gave (Grouped V messages later performed) (became q r)) b
+    → Hears (OneTurn V held all (Did gave performed (became p r))) bytes (then_did (one_heard result bytes) b)
+turn_hears gave performed became path p q r result bytes b V held messages later all same none one came two = (
+  turn_of gave performed became path p q r result bytes b V held messages later all same none one came two,
   ap (λ (l : List PortEvent). bytes ++ received_in l) two.events ∙ ap (λ (l : List ℕ). bytes ++ l) (received_sends two.slices) ∙ append-nil bytes,
 )
 

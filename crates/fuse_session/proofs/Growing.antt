@@ -194,7 +194,7 @@ heard_turned M grows holds new honest did did' p q r ids ids' prefix going count
     quiet t honest (λ b x. subst (λ d. Hears did' bytes (then_did d b)) (sym quiet.work.done) (onward b x)))
 
 -- the messages that wait are those of the bytes that came
-heard_messages : (comes : List ℕ → Type 0) (before after : Held) (messages slice : List (List ℕ)) (fault : Option FrameFault)
+pub heard_messages : (comes : List ℕ → Type 0) (before after : Held) (messages slice : List (List ℕ)) (fault : Option FrameFault)
     → (h : Heard comes before after messages fault) → slice ≡ messages → slice ≡ (cut (before.bytes ++ h.received)).0
 heard_messages comes before after messages slice fault h same = same ∙ sym (ap (λ (x : List (List ℕ) × List ℕ). x.0) h.took.cut_is)
 

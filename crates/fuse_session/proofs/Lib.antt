@@ -4,6 +4,7 @@ pub mod Notices
 pub mod Devices
 pub mod Streams
 pub mod Sharing
+pub mod Grouping
 pub mod Rooms
 pub mod Standing
 pub mod Pieces

@@ -1,7 +1,8 @@
 -- What came was answered, turn after turn.
-use Rattle.std.proofs.Common.{◌≡◌, ◌⊎◌, inl, inr, ℕ, Bool, true, List, [], ◌∷◌, ◌++◌, length, None, refl, sym, ap, subst, arith, ◌∙◌}
+use Rattle.std.proofs.Common.{◌≡◌, ◌⊎◌, inl, inr, ℕ, Bool, List, [], ◌∷◌, ◌++◌, length, None, refl, sym, ap, subst, arith, ◌∙◌}
 use Rattle.std.specs.List.{AllByRecursion}
 use Rattle.fuse_request.specs.Framing.{bad_length}
+use Rattle.fuse_request.specs.Opcodes.{OpcodeSet}
 use Rattle.fuse_request.specs.Stream.{cut, joined}
 use Rattle.fuse_keeper.specs.Model.{Model}
 use Rattle.fuse_keeper.specs.KeeperState.{KeeperState}
@@ -15,13 +16,15 @@ use Rattle.fuse_session.specs.Processed.{bytes_of}
 use Rattle.fuse_session.specs.Passage.{passage}
 use Rattle.fuse_session.specs.Serving.{Waiting, nothing_waits, Whole}
 use Rattle.fuse_session.specs.Prompt.{CaughtUp, AnswersFirst, StopsThere}
+use Rattle.fuse_session.specs.Grouping.{groups_in, groups_asked}
 use Rattle.fuse_session.specs.inner.Turn.{OneTurn}
 
--- this was done, and all that came was answered before each receive
+-- this was done, all that came was answered before each receive, and the keeper was asked for all groups of it
 pub record Answering {M : Model} (k new : KeeperState M) (did : Deeds → Type 0) (confirms : Bool) (deeds : Deeds) : Type 0 where
   pub done : did deeds
   pub first : AnswersFirst k new confirms deeds.events
   pub stops : StopsThere deeds.events
+  pub groups : groups_in M.serves deeds.events ≡ groups_asked deeds.asked
 
 -- all messages that came were processed, and nothing ended the session
 pub caught_whole : (M : Model) → (k new : KeeperState M) (did : Deeds → Type 0) (p q : PortState) (after : Waiting)
@@ -88,9 +91,9 @@ pub first_none : (M : Model) → (k new : KeeperState M) (confirms : Bool) → A
 first_none M k new confirms before after result bytes is = absurd (no_receive [] before after result bytes is)
 
 -- a turn more
-pub first_more : (M : Model) → (k mid new : KeeperState M) (did : Deeds → Type 0) (confirms : Bool) (a b : Deeds) → (new.is_honest → mid.is_honest)
-    → CaughtUp k mid confirms a.events → AnswersFirst k mid confirms a.events → OneTurn did b → AnswersFirst k new confirms (a.events ++ b.events)
-first_more M k mid new did confirms a b honest_too up first turn before after result bytes is =
+pub first_more : (M : Model) → (k mid new : KeeperState M) (did : Deeds → Type 0) (held : List ℕ) (all : Bool) (confirms : Bool) (a b : Deeds) → (new.is_honest → mid.is_honest)
+    → CaughtUp k mid confirms a.events → AnswersFirst k mid confirms a.events → OneTurn M.serves held all did b → AnswersFirst k new confirms (a.events ++ b.events)
+first_more M k mid new did held all confirms a b honest_too up first turn before after result bytes is =
     elim (which a.events turn.result turn.bytes turn.slices before after result bytes
     (ap (λ (l : List PortEvent). a.events ++ l) (sym turn.events) ∙ is)) [
       | inl earlier ↦ caught_later M k mid new confirms before honest_too (first before earlier.0 result bytes earlier.1)
@@ -105,8 +108,8 @@ pub stops_none : StopsThere []
 stops_none before after result bytes is = absurd (no_receive [] before after result bytes is)
 
 -- where each receive of the turns before gave bytes
-pub stops_more : (did : Deeds → Type 0) (a b : Deeds) → AllByRecursion Gave a.events → OneTurn did b → StopsThere (a.events ++ b.events)
-stops_more did a b gave turn before after result bytes is =
+pub stops_more : (V : OpcodeSet) (did : Deeds → Type 0) (held : List ℕ) (all : Bool) (a b : Deeds) → AllByRecursion Gave a.events → OneTurn V held all did b → StopsThere (a.events ++ b.events)
+stops_more V did held all a b gave turn before after result bytes is =
     elim (which a.events turn.result turn.bytes turn.slices before after result bytes
     (ap (λ (l : List PortEvent). a.events ++ l) (sym turn.events) ∙ is)) [
       | inl earlier ↦ inl (gave_there before earlier.0 (Received result bytes) (subst (AllByRecursion Gave) earlier.1 gave))

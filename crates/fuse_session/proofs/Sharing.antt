@@ -14,7 +14,7 @@ use Rattle.fuse_session.specs.Done.{broken_did}
 use Rattle.fuse_session.specs.Passage.{passage}
 use Rattle.fuse_session.specs.Serving.{Turned, ProcessedAll, Waiting, Whole, Broken}
 use Rattle.fuse_session.specs.Transcript.{PortEvent, Received}
-use Rattle.fuse_session.specs.inner.Receiving.{Comes, SaidEnd, FailedOnce, NotHeard}
+use Rattle.fuse_session.specs.inner.Receiving.{SaidEnd, NotHeard}
 use Rattle.fuse_session.proofs.Sessions.{ByOne, came_by}
 
 pub turned_done : (M : Model) → (k new : KeeperState M) (did did' : Deeds → Type 0) (p q : PortState) (ids ids' : List ℕ) (prefix : List (List ℕ)) (going : Bool)

@@ -1,5 +1,5 @@
 -- What is said of the very deeds of a session, said of what is known of them (defined by this project).
-use Rattle.std.specs.Prelude.{◌≡◌, ℕ, List}
+use Rattle.std.specs.Prelude.{ℕ, List}
 use Rattle.std.proofs.Common.{sym, subst}
 use Rattle.fuse_keeper.specs.Model.{Model}
 use Rattle.fuse_session.specs.declared.ended.Ended.{Ended}

@@ -11,10 +11,11 @@ use Rattle.fuse_session.specs.Starts.{AddsFew}
 use Rattle.fuse_session.specs.Serving.{nothing_waits, Run, KeepsFirm}
 use Rattle.fuse_session.specs.Prompt.{Prompt}
 use Rattle.fuse_session.specs.Ends.{SessionEnds}
+use Rattle.fuse_session.specs.Grouping.{AsksGroups}
 
 -- a session that received at most so often, and how it was served: the clauses of `serve`
 pub record Session {M : Model} (p : Passage M) (turns : ℕ) (served : Served) : Type 0 where
-  -- what it did: the next three clauses speak of this, and so of the same bytes that came
+  -- what it did: `ends`, `life`, `prompt` and `groups` speak of this, and so of the same bytes that came
   pub deeds : Deeds
   pub done : p.did deeds
   -- the messages that were processed and answered at each of the ends, and their counts; what the keeper was asked to perform, batch
@@ -27,6 +28,9 @@ pub record Session {M : Model} (p : Passage M) (turns : ℕ) (served : Served) :
   pub life : Run (doing p deeds) nothing_waits served.ended
   -- before more is received, all that came is answered, and nothing ended the session; where nothing more comes, it stops
   pub prompt : Prompt p deeds
+  -- the keeper was asked to perform the groups of what came: of the messages that are whole after a receive, 16 kept ones at once, fewer
+  -- only where a DESTROY ends them, a zero one follows, or no more are whole
+  pub groups : AsksGroups M.serves deeds
   -- on a port that confirms, the records are some of those of before and at most 16 more, which are under one lot
   pub lots : p.port.confirms ≡ true → IsIntact p.keeper' served.ended
       → AddsFew p.keeper p.keeper'

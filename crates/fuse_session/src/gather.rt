@@ -1,11 +1,12 @@
 // A group, read off the messages that wait.
-ghost use Rattle.std.specs.Prelude.{◌≡◌, ◌≤◌, ◌==◌, List, length, take, All, IfOk};
+ghost use Rattle.std.specs.Prelude.{◌≡◌, ◌≤◌, ◌==◌, ◌++◌, List, length, take, drop, All, IfOk};
 ghost use Rattle.fuse_wire.specs.declared.moment.Moment.{Moment as MomentValue};
 ghost use Rattle.fuse_request.specs.Stream.{IsMessage};
 ghost use Rattle.fuse_request.specs.Classes.{class_for};
 ghost use Rattle.fuse_request.specs.Header.{raw_of};
 ghost use Rattle.fuse_keeper.specs.Group.{entries_of, HasId, IsKept};
 ghost use Rattle.fuse_keeper.specs.declared.keeper.TheConstants.{MAX_GROUP as max_group};
+ghost use Rattle.fuse_session.specs.Grouping.{one_group, groups_of, asked_in};
 ghost use Rattle.fuse_session.specs.Processed.{entry_if, message_entry, moment_if};
 ghost use Rattle.fuse_session.specs.inner.Group.{Gathers, IsStuck, listed, classes_in};
 
@@ -77,6 +78,9 @@ pub(crate) fn gather<'a, K: Keeper, C: Clock>(
     ensures named { IfOk result (λ r. All HasId (entries_of r.taken.items)) }
     ensures kept { IfOk result (λ r. All (IsKept K.model) (entries_of r.taken.items)) }
     ensures stuck { IfOk result (λ r. length r.classes.items ≡ 0 → IsStuck messages.now) }
+    ensures groups { IfOk result (λ r. groups_of K.model.serves messages.now
+        ≡ one_group (asked_in (entries_of r.taken.items))
+        ++ groups_of K.model.serves (drop (length r.classes.items) messages.now)) }
     ensures logged { (given : List MomentValue) × C.gave clock.old clock.new given }
 {
     let mut classes = Vec::new(alloc);

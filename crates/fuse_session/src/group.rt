@@ -17,7 +17,8 @@ ghost use Rattle.fuse_session.specs.inner.Finishing.{ended_at, ended_port};
 ghost use Rattle.fuse_session.specs.inner.Group.{answers_in, last_zero, rest_by};
 ghost use Rattle.fuse_session.specs.inner.Loans.{SameLoans};
 ghost use Rattle.fuse_session.specs.inner.Moves.{FailedBy, HandsOn};
-ghost use Rattle.fuse_session.specs.inner.Turn.{muted};
+ghost use Rattle.fuse_session.specs.Grouping.{groups_of};
+ghost use Rattle.fuse_session.specs.inner.Turn.{muted, Grouped, GroupedSome};
 
 use crate::answers::send_answers;
 use crate::clock::Clock;
@@ -101,7 +102,9 @@ impl<K: Keeper, P: Port, C: Clock> Session<'_, '_, '_, '_, K, P, C> {
         ensures ok { IfOk result (λ progress. Turned (muted (passage (K.told self.old.keeper.now)
             (K.told self.new.keeper.now) (P.told self.old.port.now) (P.told self.new.port.now)
             (Did (C.gave self.old.clock.now self.new.clock.now)
-            (K.performed self.old.keeper.now self.new.keeper.now)
+            (Grouped K.model.serves messages.now
+            (groups_of K.model.serves (drop progress.count messages.now))
+            (K.performed self.old.keeper.now self.new.keeper.now))
             (P.became self.old.port.now self.new.port.now))))
             (ids_of self.old.pending.now.items) (ids_of self.new.pending.now.items)
             (take progress.count messages.now) (lasts progress.next) progress.counts) }
@@ -121,7 +124,8 @@ impl<K: Keeper, P: Port, C: Clock> Session<'_, '_, '_, '_, K, P, C> {
         ensures err { IfErr result (λ fault. Broken (muted (passage (K.told self.old.keeper.now)
             (K.told self.new.keeper.now) (P.told self.old.port.now) (P.told self.new.port.now)
             (Did (C.gave self.old.clock.now self.new.clock.now)
-            (K.performed self.old.keeper.now self.new.keeper.now)
+            (GroupedSome K.model.serves messages.now
+            (K.performed self.old.keeper.now self.new.keeper.now))
             (P.became self.old.port.now self.new.port.now))))
             (ids_of self.old.pending.now.items) messages.now (ended_at fault)) }
         ensures may { AnswersNoMore (K.told self.old.keeper.now) (K.told self.new.keeper.now) }

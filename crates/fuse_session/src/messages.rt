@@ -1,5 +1,5 @@
 // The messages that wait, group by group.
-ghost use Rattle.std.specs.Prelude.{◌≡◌, ◌≤◌, ◌<◌, ◌^◌, true, false, not, length};
+ghost use Rattle.std.specs.Prelude.{◌≡◌, ◌≤◌, ◌<◌, ◌^◌, true, false, not, length, drop};
 ghost use Rattle.std.specs.Prelude.{All, IfOk, IfErr, OnOk};
 ghost use Rattle.fuse_request.specs.Stream.{IsMessage, joined};
 ghost use Rattle.fuse_keeper.specs.KeeperState.{AnswersNoMore};
@@ -15,7 +15,8 @@ ghost use Rattle.fuse_session.specs.inner.Counting.{IsBelow};
 ghost use Rattle.fuse_session.specs.inner.Finishing.{ended_at, ended_port};
 ghost use Rattle.fuse_session.specs.inner.Loans.{SameLoans};
 ghost use Rattle.fuse_session.specs.inner.Moves.{FailedBy, HandsOn};
-ghost use Rattle.fuse_session.specs.inner.Turn.{muted};
+ghost use Rattle.fuse_session.specs.Grouping.{groups_of};
+ghost use Rattle.fuse_session.specs.inner.Turn.{muted, Grouped, GroupedSome};
 
 use crate::clock::Clock;
 use crate::counts::{SessionCounts, sum_of};
@@ -61,7 +62,9 @@ impl<K: Keeper, P: Port, C: Clock> Session<'_, '_, '_, '_, K, P, C> {
         ensures ok { IfOk result (λ progress. ProcessedAll (muted (passage (K.told self.old.keeper.now)
             (K.told self.new.keeper.now) (P.told self.old.port.now) (P.told self.new.port.now)
             (Did (C.gave self.old.clock.now self.new.clock.now)
-            (K.performed self.old.keeper.now self.new.keeper.now)
+            (Grouped K.model.serves messages.now
+            (groups_of K.model.serves (drop progress.count messages.now))
+            (K.performed self.old.keeper.now self.new.keeper.now))
             (P.became self.old.port.now self.new.port.now))))
             (ids_of self.old.pending.now.items) (ids_of self.new.pending.now.items) messages.now
             progress) }
@@ -81,7 +84,8 @@ impl<K: Keeper, P: Port, C: Clock> Session<'_, '_, '_, '_, K, P, C> {
         ensures err { IfErr result (λ fault. Broken (muted (passage (K.told self.old.keeper.now)
             (K.told self.new.keeper.now) (P.told self.old.port.now) (P.told self.new.port.now)
             (Did (C.gave self.old.clock.now self.new.clock.now)
-            (K.performed self.old.keeper.now self.new.keeper.now)
+            (GroupedSome K.model.serves messages.now
+            (K.performed self.old.keeper.now self.new.keeper.now))
             (P.became self.old.port.now self.new.port.now))))
             (ids_of self.old.pending.now.items) messages.now (ended_at fault)) }
         ensures may { AnswersNoMore (K.told self.old.keeper.now) (K.told self.new.keeper.now) }

@@ -1,6 +1,10 @@
 -- One turn of a session (defined by this project).
-use Rattle.std.specs.Prelude.{◌≡◌, ◌⊎◌, ◌^◌, ℕ, true, false, List, [], ◌∷◌}
+use Rattle.std.specs.Prelude.{◌≡◌, ◌⊎◌, ◌^◌, ℕ, Bool, true, false, List, [], ◌∷◌, ◌++◌}
+use Rattle.fuse_request.specs.Act.{Asked}
 use Rattle.fuse_request.specs.Framing.{Held}
+use Rattle.fuse_request.specs.Opcodes.{OpcodeSet}
+use Rattle.fuse_request.specs.Stream.{cut}
+use Rattle.fuse_keeper.specs.Performance.{Performance}
 use Rattle.fuse_keeper.specs.Model.{Model}
 use Rattle.fuse_session.specs.declared.counts.SessionCounts.{SessionCounts}
 use Rattle.fuse_session.specs.declared.ended.Ended.TheVariants.{Turns}
@@ -9,6 +13,7 @@ use Rattle.fuse_session.specs.declared.port.Received.{Received as ReceiveResult}
 use Rattle.fuse_session.specs.declared.port.Sent.{Sent}
 use Rattle.fuse_session.specs.Transcript.{Received, sends_of, Gave}
 use Rattle.fuse_session.specs.Deeds.{Deeds}
+use Rattle.fuse_session.specs.Grouping.{groups_of, groups_asked}
 use Rattle.fuse_session.specs.Starts.{Kept, HoldsUnder}
 use Rattle.fuse_session.specs.Passage.{Passage, doing}
 use Rattle.fuse_session.specs.Ended.{ended_store, IsIntact}
@@ -24,20 +29,31 @@ pub record Mute (did : Deeds → Type 0) (deeds : Deeds) : Type 0 where
   pub slices : List (List ℕ × Sent)
   pub events : deeds.events ≡ sends_of slices
 
+-- it was asked to perform groups of these messages, and these are left of them
+abbrev pub Grouped : OpcodeSet → List (List ℕ) → List (List Asked) → (List Performance → Type 0) → List Performance → Type 0
+Grouped V messages later performed list = performed list × (groups_of V messages ≡ groups_asked list ++ later)
+
+abbrev pub GroupedSome : OpcodeSet → List (List ℕ) → (List Performance → Type 0) → List Performance → Type 0
+GroupedSome V messages performed list = (later : List (List Asked)) × Grouped V messages later performed list
+
 abbrev pub muted : {M : Model} → Passage M → Passage M
 muted p = record p { did = Mute p.did }
 
--- it received once, and then handed over slices, but none where that reported an end or a failure
-pub record OneTurn (did : Deeds → Type 0) (deeds : Deeds) : Type 0 where
+-- it received once, and then handed over slices, but none where that reported an end or a failure; and it asked for the groups of what
+-- came, or the first of them, where these bytes waited
+pub record OneTurn (V : OpcodeSet) (held : List ℕ) (all : Bool) (did : Deeds → Type 0) (deeds : Deeds) : Type 0 where
   pub done : did deeds
   pub result : ReceiveResult
   pub bytes : List ℕ
   pub slices : List (List ℕ × Sent)
   pub events : deeds.events ≡ Received result bytes ∷ sends_of slices
   pub gave : Gave (Received result bytes) ⊎ (slices ≡ [])
+  pub later : List (List Asked)
+  pub groups : groups_of V (cut (held ++ bytes)).0 ≡ groups_asked deeds.asked ++ later
+  pub none_later : all ≡ true → later ≡ []
 
-abbrev pub in_one_turn : {M : Model} → Passage M → Passage M
-in_one_turn p = record p { did = OneTurn p.did }
+abbrev pub in_one_turn : {M : Model} → Passage M → List ℕ → Passage M
+in_one_turn {M} p held = record p { did = OneTurn M.serves held true p.did }
 
 -- what waits between two turns
 abbrev pub waits : List ℕ → Held → Waiting
@@ -45,7 +61,7 @@ waits pending held = record { pending = pending; bytes = held.bytes; at = held.a
 
 -- all messages that came are processed and answered, and the session goes on
 pub record TurnPassed {M : Model} (p : Passage M) (before after : Waiting) (counts : SessionCounts) : Type 0 where
-  pub whole : Whole (in_one_turn p) before after counts
+  pub whole : Whole (in_one_turn p before.bytes) before after counts
   pub below : IsBelow counts (2 ^ 20)
   pub going : p.keeper'.has_failed ≡ false
   pub firm : KeepsFirm p.keeper p.keeper'
@@ -58,7 +74,7 @@ pub record TurnPassed {M : Model} (p : Passage M) (before after : Waiting) (coun
 -- the session ended
 pub record TurnEnded {M : Model} (p : Passage M) (before : Waiting) (served : Served) : Type 0 where
   pub deeds : Deeds
-  pub done : OneTurn p.did deeds
+  pub done : OneTurn M.serves before.bytes false p.did deeds
   pub life : Run (doing p deeds) before served.ended
   pub counts : SessionCounts
   pub below : IsBelow counts (2 ^ 20)

@@ -1,10 +1,13 @@
-use Rattle.std.proofs.Common.{◌≡◌, sym, subst, ap, arith, ◌∙◌, ◌+◌, All, length, length-append, take, false, ◌∷◌, []}
+use Rattle.std.proofs.Common.{◌≡◌, sym, subst, ap, arith, ◌∙◌, ◌+◌, ◌++◌, All, length, length-append, take, drop, false, ◌∷◌, []}
+use Rattle.fuse_session.specs.Grouping.{asked_in, groups_of, one_group}
+use Rattle.fuse_session.proofs.Grouping.{groups_next, groups_some, groups_none, groups_destroy, groups_full, groups_zero, groups_end, full_stuck, zero_stuck}
 use Rattle.std.proofs.lemmas.List.Elements.{All-nil}
 use Rattle.fuse_keeper.specs.Group.{HasId, IsKept, entries_of}
 use Rattle.fuse_session.specs.inner.Group.{Gathers, classes_in}
 use Rattle.fuse_session.proofs.Gathering.{none_yet_gathered, gathers_none, gathers_some, named_some, kept_some, classes_more}
 use Rattle.fuse_session.proofs.gather.gather.Goals as goal
 use Rattle.fuse_session.proofs.gather.gather.Goals.{in-Some+in_ok-push-2+else-ends, in_default}
+use Rattle.fuse_session.proofs.gather.gather.Goals.{then-len-ge-MAX_GROUP-via-then-len-ge-MAX_GROUP, then-len-ge-MAX_GROUP-via-else-len-ge-MAX_GROUP+then-has_zero_unique}
 
 pub loop-message-init : goal.loop-message-init
 loop-message-init g c = record {
@@ -15,6 +18,7 @@ loop-message-init g c = record {
   few = omega (arith, ap length c.new-taken.ensures.items);
   named = subst (All HasId) (sym (ap entries_of c.new-taken.ensures.items)) (All-nil HasId);
   kept = subst (All (IsKept g.K.Keeper.model)) (sym (ap entries_of c.new-taken.ensures.items)) (All-nil (IsKept g.K.Keeper.model));
+  groups = ap (λ l. groups_next g.K.Keeper.model.serves (asked_in (entries_of l)) c.args.messages.now) (sym c.new-taken.ensures.items);
 }
 
 pub returns-then-ends-clause-gathers : goal.returns-then-ends-clause-gathers
@@ -80,6 +84,10 @@ loop-message-preserved g c = elim c.match-read_one.branch [
         named = named_some g.K.Keeper.model.serves c.as_slice-bytes.result.now c.loop-message.taken.items c.match-read_one.taken.items w.in-Some.one some.0
             c.loop-message.invariant.named (sym c.if-has_zero_unique.ensures) some.1 pushed;
         kept = kept_some g.K.Keeper.model c.loop-message.taken.items c.match-read_one.taken.items w.in-Some.one c.loop-message.invariant.kept w.in-Some.ensures.kept pushed;
+        groups = groups_some g.K.Keeper.model.serves c.args.messages.now c.loop-message.message-index c.message-item.result c.as_slice-bytes.result.now
+            c.loop-message.taken.items c.match-read_one.taken.items w.in-Some.one some.0 c.loop-message-test.true c.message-item.is c.as_slice-bytes.ensures
+            (omega (arith, c.len.ensures, c.loop-message.taken.ok.0, c.if-len-ge-MAX_GROUP.false)) (sym c.if-has_zero_unique.ensures) some.1 pushed
+            (sym w.if-ends.ensures) c.loop-message.invariant.groups;
       }
   | in_default w ↦
       let none = w.in_default.ensures.entry in
@@ -105,6 +113,12 @@ loop-message-preserved g c = elim c.match-read_one.branch [
         few = omega (arith, ap length same, c.loop-message.invariant.few);
         named = subst (λ xs. All HasId (entries_of xs)) (sym same) c.loop-message.invariant.named;
         kept = subst (λ xs. All (IsKept g.K.Keeper.model) (entries_of xs)) (sym same) c.loop-message.invariant.kept;
+        groups = subst (λ xs. groups_of g.K.Keeper.model.serves c.args.messages.now ≡ groups_next g.K.Keeper.model.serves (asked_in (entries_of xs))
+            (drop (c.loop-message.message-index + 1) c.args.messages.now)) (sym same)
+            (groups_none g.K.Keeper.model.serves c.args.messages.now c.loop-message.message-index c.message-item.result c.as_slice-bytes.result.now
+            c.loop-message.taken.items none.0 c.loop-message-test.true c.message-item.is c.as_slice-bytes.ensures
+            (omega (arith, c.len.ensures, c.loop-message.taken.ok.0, c.if-len-ge-MAX_GROUP.false)) (sym c.if-has_zero_unique.ensures) none.1
+            c.loop-message.invariant.groups);
       }
 ]
 
@@ -139,3 +153,51 @@ returns-then-ends-clause-classes g c =
     c.push.new.self.items
     c.classify-class.result c.loop-message-test.true c.message-item.is c.as_slice-bytes.ensures c.loop-message.invariant.classes c.classify-class.ensures
     c.in_ok-push.ensures.items)
+
+pub returns-then-len-ge-MAX_GROUP-clause-stuck : goal.returns-then-len-ge-MAX_GROUP-clause-stuck
+returns-then-len-ge-MAX_GROUP-clause-stuck g c = λ none.
+    let first = sym c.loop-message.invariant.count ∙ none in
+    elim c.then-len-ge-MAX_GROUP.branch [
+      | then-len-ge-MAX_GROUP-via-then-len-ge-MAX_GROUP w ↦ absurd (full_stuck g.K.Keeper.model.serves
+          (g.C.Clock.gave c.args.clock.now c.loop-message.clock) c.args.messages.now c.loop-message.message-index c.loop-message.taken.items first
+          c.loop-message.invariant.gathers (omega (arith, c.len.ensures, c.loop-message.taken.ok.0, w.if-len-ge-MAX_GROUP.true)))
+      | then-len-ge-MAX_GROUP-via-else-len-ge-MAX_GROUP+then-has_zero_unique w ↦ zero_stuck c.args.messages.now c.loop-message.message-index
+          c.message-item.result c.as_slice-bytes.result.now c.message-item.is c.as_slice-bytes.ensures (sym w.if-has_zero_unique.ensures) first
+    ]
+
+pub returns-then-len-ge-MAX_GROUP-clause-groups : goal.returns-then-len-ge-MAX_GROUP-clause-groups
+returns-then-len-ge-MAX_GROUP-clause-groups g c =
+    subst (λ n. groups_of g.K.Keeper.model.serves c.args.messages.now ≡ one_group (asked_in (entries_of c.loop-message.taken.items))
+    ++ groups_of g.K.Keeper.model.serves (drop n c.args.messages.now)) (sym c.loop-message.invariant.count)
+    (elim c.then-len-ge-MAX_GROUP.branch [
+      | then-len-ge-MAX_GROUP-via-then-len-ge-MAX_GROUP w ↦ groups_full g.K.Keeper.model.serves c.args.messages.now c.loop-message.message-index
+          c.loop-message.taken.items (omega (arith, c.len.ensures, c.loop-message.taken.ok.0, w.if-len-ge-MAX_GROUP.true)) c.loop-message.invariant.groups
+      | then-len-ge-MAX_GROUP-via-else-len-ge-MAX_GROUP+then-has_zero_unique w ↦ groups_zero g.K.Keeper.model.serves c.args.messages.now
+          c.loop-message.message-index c.message-item.result c.as_slice-bytes.result.now c.loop-message.taken.items c.loop-message-test.true
+          c.message-item.is c.as_slice-bytes.ensures (omega (arith, c.len.ensures, c.loop-message.taken.ok.0, w.if-len-ge-MAX_GROUP.false))
+          (sym w.if-has_zero_unique.ensures) c.loop-message.invariant.groups
+    ])
+
+pub returns-then-ends-clause-groups : goal.returns-then-ends-clause-groups
+returns-then-ends-clause-groups g c =
+    let some = c.in-Some.ensures.entry in
+    subst (λ n. groups_of g.K.Keeper.model.serves c.args.messages.now ≡ one_group (asked_in (entries_of c.push-in-Some.new.self.items))
+    ++ groups_of g.K.Keeper.model.serves (drop n c.args.messages.now))
+    (omega (
+      arith,
+      ap length c.in_ok-push.ensures.items,
+      length-append c.loop-message.classes.items
+          (c.classify-class.result ∷ []),
+      c.loop-message.invariant.count,
+    ))
+    (groups_destroy g.K.Keeper.model.serves c.args.messages.now c.loop-message.message-index c.message-item.result c.as_slice-bytes.result.now
+    c.loop-message.taken.items c.push-in-Some.new.self.items c.in-Some.one some.0 c.loop-message-test.true c.message-item.is c.as_slice-bytes.ensures
+    (omega (arith, c.len.ensures, c.loop-message.taken.ok.0, c.if-len-ge-MAX_GROUP.false)) (sym c.if-has_zero_unique.ensures) some.1
+    c.in_ok-push-2.ensures.items (sym c.if-ends.ensures) c.loop-message.invariant.groups)
+
+pub returns-clause-groups : goal.returns-clause-groups
+returns-clause-groups g c =
+    subst (λ n. groups_of g.K.Keeper.model.serves c.args.messages.now ≡ one_group (asked_in (entries_of c.loop-message.taken.items))
+    ++ groups_of g.K.Keeper.model.serves (drop n c.args.messages.now)) (sym c.loop-message.invariant.count)
+    (groups_end g.K.Keeper.model.serves c.args.messages.now c.loop-message.message-index c.loop-message.taken.items
+    (omega (arith, c.loop-message-test.false)) c.loop-message.invariant.groups)

@@ -1,4 +1,6 @@
-use Rattle.std.proofs.Common.{◌≡◌, ◌≤◌, length, take, All, false}
+use Rattle.std.proofs.Common.{◌≡◌, ◌≤◌, length, take, drop, All, false}
+use Rattle.fuse_session.specs.Grouping.{asked_in, groups_of}
+use Rattle.fuse_session.proofs.Grouping.{groups_next}
 use Rattle.fuse_keeper.specs.Group.{HasId, IsKept, entries_of}
 use Rattle.fuse_session.specs.inner.Group.{Gathers, classes_in}
 use Rattle.fuse_session.proofs.gather.gather.Given as goal
@@ -11,4 +13,5 @@ invariant-loop-message g l = record {
   few : length l.taken.items ≤ 16;
   named : All HasId (entries_of l.taken.items);
   kept : All (IsKept g.K.Keeper.model) (entries_of l.taken.items);
+  groups : groups_of g.K.Keeper.model.serves l.messages ≡ groups_next g.K.Keeper.model.serves (asked_in (entries_of l.taken.items)) (drop l.message-index l.messages);
 }

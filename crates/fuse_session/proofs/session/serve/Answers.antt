@@ -1,4 +1,4 @@
-use Rattle.std.proofs.Common.{◌∙◌, ◌≡◌, ◌+◌, ◌-◌, ◌*◌, ◌^◌, [], ap, arith, length, refl, sym, subst}
+use Rattle.std.proofs.Common.{◌∙◌, ◌≡◌, List, ◌++◌, ◌+◌, ◌-◌, ◌*◌, ◌^◌, [], ap, arith, length, refl, sym, subst}
 use Rattle.fuse_keeper.specs.Stands.{Records}
 use Rattle.fuse_keeper.specs.Group.{ids_of}
 use Rattle.fuse_request.specs.Framing.{fed_of}
@@ -17,6 +17,10 @@ use Rattle.fuse_session.proofs.Growing.{whole_life, life_more}
 use Rattle.fuse_session.proofs.Sessions.{whole_start, whole_step, ends_more, life_none, failed_both, counts_more, counts_below, failed_since}
 use Rattle.fuse_session.proofs.Prompting.{first_none, first_more, stops_none, stops_more, caught_whole}
 use Rattle.fuse_session.proofs.Sharing.{whole_just}
+use Rattle.std.proofs.lemmas.List.{append-nil}
+use Rattle.fuse_request.specs.Act.{Asked}
+use Rattle.fuse_session.specs.Grouping.{groups_asked}
+use Rattle.fuse_session.proofs.Grouping.{groups_more}
 use Rattle.fuse_session.proofs.Transcripts.{each_gave}
 use Rattle.fuse_session.proofs.Doing.{no_deeds, then_did, did_none, did_more}
 use Rattle.fuse_session.proofs.session.serve.Goals as goal
@@ -33,6 +37,7 @@ returns-in_default-clause-session g c =
       ends = record { counts = none_counted; ends = tt; told_are = refl };
       life = life_none M k (λ d. d ≡ no_deeds) (g.P.Port.told c.args.port.now) nothing_waits Memory refl refl;
       prompt = record { first = first_none M _ _ _; stops = stops_none };
+      groups = ([], refl);
       lots = λ _ _ rows (records : Records) held rowed.
           holds_under M (record { records = records; lots = k.lots }) k [] (hands_start M k [] rows records held rowed);
       receives = omega arith;
@@ -53,6 +58,7 @@ loop-turn-init g c = record {
             c.args.clock.now c.args.keeper.now c.args.port.now);
         first = first_none g.K.Keeper.model _ _ _;
         stops = stops_none;
+        groups = refl;
       })
       (ap ids_of c.new-pending.ensures.items) c.new-framer.ensures;
   ready = ready_new c.new-framer.result c.new-framer.ensures;
@@ -91,9 +97,13 @@ loop-turn-preserved g c =
             done = did_more g.C.Clock.gave g.K.Keeper.performed g.P.Port.became g.met.C.Clock.logged g.met.K.Keeper.log g.met.P.Port.path
                 c.args.clock.now c.loop-turn.clock c.one_turn.new.clock c.args.keeper.now c.loop-turn.keeper c.one_turn.new.keeper
                 c.args.port.now c.loop-turn.port c.one_turn.new.port inv.whole.turned.work.deeds b inv.whole.turned.work.done.0.done two.done;
-            first = first_more g.K.Keeper.model (g.K.Keeper.told c.args.keeper.now) (g.K.Keeper.told c.loop-turn.keeper) (g.K.Keeper.told c.one_turn.new.keeper) _ _
+            first = first_more g.K.Keeper.model (g.K.Keeper.told c.args.keeper.now) (g.K.Keeper.told c.loop-turn.keeper) (g.K.Keeper.told c.one_turn.new.keeper) _ _ _ _
                 inv.whole.turned.work.deeds b e.honest (caught_whole g.K.Keeper.model _ _ _ _ _ _ _ inv.whole inv.ready.good gave) inv.whole.turned.work.done.0.first two;
-            stops = stops_more _ inv.whole.turned.work.deeds b gave two;
+            stops = stops_more g.K.Keeper.model.serves _ _ _ inv.whole.turned.work.deeds b gave two;
+            groups = groups_more c.cut_joins.ensures g.K.Keeper.model.serves inv.whole.turned.work.deeds b _ _ _ _ inv.whole.turned.work.done.1 inv.whole.rest_is
+                inv.whole.turned.work.done.0.groups two
+                ∙ ap (λ (l : List (List Asked)). groups_asked (inv.whole.turned.work.deeds.asked ++ b.asked) ++ l) (two.none_later refl)
+                ∙ append-nil (groups_asked (inv.whole.turned.work.deeds.asked ++ b.asked));
           });
       ready = e.opened;
       below = subst (λ x. IsBelow x ((c.loop-turn.turn + 1) * 2 ^ 20)) (sym c.sum_of-counts.ensures)
@@ -156,10 +166,14 @@ returns-in-Err-clause-session g c =
       life = life_more M c.histories_grow.ensures c.cut_joins.ensures k m k' _ _ _ _ _ _ nothing_waits _ c.loop-turn.counts ended inv.whole t.life
           inv.may e.honest inv.firm onward;
       prompt = record {
-        first = first_more M k m k' _ _ before t.deeds e.honest (caught_whole M _ _ _ _ _ _ _ inv.whole inv.ready.good gave)
+        first = first_more M k m k' _ _ _ _ before t.deeds e.honest (caught_whole M _ _ _ _ _ _ _ inv.whole inv.ready.good gave)
             inv.whole.turned.work.done.0.first t.done;
-        stops = stops_more _ before t.deeds gave t.done;
+        stops = stops_more M.serves _ _ _ before t.deeds gave t.done;
       };
+      groups = (
+        t.done.later,
+        groups_more c.cut_joins.ensures M.serves before t.deeds _ _ _ _ inv.whole.turned.work.done.1 inv.whole.rest_is inv.whole.turned.work.done.0.groups t.done,
+      );
       lots = λ confirms intact rows (records : Records) held rowed.
           let before : Kept = record { records = records; lots = k.lots } in
           t.at_most (inv.confirms ∙ confirms) intact before
@@ -195,6 +209,7 @@ returns-clause-session g c =
       };
       life = whole_life M k k' _ _ _ nothing_waits _ c.loop-turn.counts Turns refl whole inv.firm;
       prompt = record { first = work.done.0.first; stops = work.done.0.stops };
+      groups = ([], work.done.0.groups ∙ sym (append-nil (groups_asked work.deeds.asked)));
       lots = λ confirms intact rows (records : Records) held rowed.
           let before : Kept = record { records = records; lots = k.lots } in
           holds_under M before k' (ids_of c.loop-turn.pending.items) (inv.more confirms intact.honest before (hands_start M k [] rows records held rowed));

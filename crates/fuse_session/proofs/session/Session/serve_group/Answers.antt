@@ -1,4 +1,7 @@
-use Rattle.std.proofs.Common.{◌≡◌, ◌++◌, inl, sym, ap, refl, ◌∙◌, take, length, arith, [], subst}
+use Rattle.std.proofs.Common.{◌≡◌, ◌++◌, inl, sym, ap, refl, ◌∙◌, take, drop, length, arith, [], subst}
+use Rattle.fuse_session.specs.Grouping.{groups_of}
+use Rattle.fuse_session.specs.inner.Turn.{Grouped, GroupedSome}
+use Rattle.fuse_session.proofs.Grouping.{grouped_one}
 use Rattle.std.proofs.lemmas.List.{length-map}
 use Rattle.fuse_wire.specs.declared.id.Id.{Id}
 use Rattle.fuse_keeper.specs.History.{ids_in}
@@ -20,7 +23,11 @@ returns-in_default-clause-err g c =
     broken_none g.K.Keeper.model (g.K.Keeper.told k) (g.K.Keeper.told k) _ p p (ids_of c.args.self.now.pending.now.items) c.args.messages.now _ refl
     (record { moments = given.0; asked = []; events = [] })
     (record {
-      done = record { moments = given.1; asked = (g.met.K.Keeper.log).none k; events = (g.met.P.Port.path).none port };
+      done = record {
+        moments = given.1;
+        asked = (groups_of g.K.Keeper.model.serves c.args.messages.now, ((g.met.K.Keeper.log).none k, refl));
+        events = (g.met.P.Port.path).none port;
+      };
       slices = [];
       events = refl;
     }) refl refl (replied_none p)
@@ -45,11 +52,19 @@ returns-in-Err-clause-err g c =
     let gave = g.C.Clock.gave c.args.self.now.clock.now c.gather.new.clock in
     let len : c.len-count.result ≡ length group.classes.items = omega (arith, c.len-count.ensures, group.classes.ok) in
     let pending = ids_of c.args.self.now.pending.now.items in
-    broken_store g.K.Keeper.model k k' gave (g.K.Keeper.performed c.args.self.now.keeper.now c.perform_group.new.keeper) _
+    broken_store g.K.Keeper.model k k' gave (GroupedSome g.K.Keeper.model.serves c.args.messages.now
+    (g.K.Keeper.performed c.args.self.now.keeper.now c.perform_group.new.keeper)) _
     (g.P.Port.told c.args.self.now.port.now) pending c.args.messages.now c.len-count.result group.taken.items group.ends
     c.as_slice-group.result.now _
     (gathers_to g.K.Keeper.model.serves gave c.args.messages.now (length group.classes.items) c.len-count.result group.taken.items group.ends len c.in-Ok.ensures.gathers)
-    c.as_slice-group.ensures.value c.perform_group.ensures.asked ((g.met.P.Port.path).none c.args.self.now.port.now)
+    c.as_slice-group.ensures.value (
+      groups_of g.K.Keeper.model.serves (drop c.len-count.result c.args.messages.now),
+      (
+        c.perform_group.ensures.asked,
+        grouped_one g.K.Keeper.model.serves c.args.messages.now (length group.classes.items) c.len-count.result group.taken.items c.as_slice-group.result.now
+            pending len c.as_slice-group.ensures.value c.in-Ok.ensures.groups,
+      ),
+    ) ((g.met.P.Port.path).none c.args.self.now.port.now)
     c.in-Err.ensures.called.err c.in-Err.ensures.called.fault
     (leaves_all g.K.Keeper.model k k' pending (entries_of c.as_slice-group.result.now) c.perform_group.ensures.crash)
 
@@ -93,12 +108,17 @@ returns-in-Ok-send_answers-clause-ok g c =
     let done = c.in-Ok-perform_group.ensures in
     let few = left_few pending left es done.pending (omega (arith, length-map c.args.self.now.pending.now.items (λ (x : Id). x.0), c.requires.few))
     (omega (arith, length-map c.as_slice-group.result.now entry_of, ap length c.as_slice-group.ensures.value, c.in-Ok.ensures.few)) in
-    turned M c.histories_grow.ensures c.kept_groups_grow.ensures k k' gave (g.K.Keeper.performed c.args.self.now.keeper.now c.perform_group.new.keeper)
+    turned M c.histories_grow.ensures c.kept_groups_grow.ensures k k' gave (Grouped g.K.Keeper.model.serves c.args.messages.now
+    (groups_of g.K.Keeper.model.serves (drop c.len-count.result c.args.messages.now)) (g.K.Keeper.performed c.args.self.now.keeper.now c.perform_group.new.keeper))
     (g.P.Port.became c.args.self.now.port.now c.send_answers.new.port) (g.P.Port.told c.args.self.now.port.now) _ pending left _ c.args.messages.now
     c.len-count.result group.taken.items group.ends c.as_slice-group.result.now (take c.len-count.result c.args.messages.now)
     c.in-Ok-perform_group.dones.items c.as_slice-answered.result.now c.is_stuck.result c.next_of.result c.count_all.result
     (gathers_to g.K.Keeper.model.serves gave c.args.messages.now (length group.classes.items) c.len-count.result group.taken.items group.ends len c.in-Ok.ensures.gathers)
-    c.as_slice-group.ensures.value c.perform_group.ensures.asked done.pending refl (performs_all M k k' pending es c.in-Ok-perform_group.dones.items done.ok)
+    c.as_slice-group.ensures.value (
+      c.perform_group.ensures.asked,
+      grouped_one g.K.Keeper.model.serves c.args.messages.now (length group.classes.items) c.len-count.result group.taken.items c.as_slice-group.result.now
+          pending len c.as_slice-group.ensures.value c.in-Ok.ensures.groups,
+    ) done.pending refl (performs_all M k k' pending es c.in-Ok-perform_group.dones.items done.ok)
     (λ honest u un have. few_left M k k' u pending left es done.pending (omega (arith, few)) (done.others honest) un have)
     (omega (
       arith,
@@ -148,12 +168,20 @@ returns-clause-err g c =
     let done = c.in-Ok-perform_group.ensures in
     let few = left_few pending left es done.pending (omega (arith, length-map c.args.self.now.pending.now.items (λ (x : Id). x.0), c.requires.few))
     (omega (arith, length-map c.as_slice-group.result.now entry_of, ap length c.as_slice-group.ensures.value, c.in-Ok.ensures.few)) in
-    broken_sent M c.histories_grow.ensures c.kept_groups_grow.ensures k k' gave (g.K.Keeper.performed c.args.self.now.keeper.now c.perform_group.new.keeper)
+    broken_sent M c.histories_grow.ensures c.kept_groups_grow.ensures k k' gave (GroupedSome g.K.Keeper.model.serves c.args.messages.now
+    (g.K.Keeper.performed c.args.self.now.keeper.now c.perform_group.new.keeper))
     (g.P.Port.became c.args.self.now.port.now c.send_answers.new.port) (g.P.Port.told c.args.self.now.port.now) _ pending left c.args.messages.now
     c.len-count.result group.taken.items group.ends c.as_slice-group.result.now (take c.len-count.result c.args.messages.now)
     c.in-Ok-perform_group.dones.items c.as_slice-answered.result.now _
     (gathers_to g.K.Keeper.model.serves gave c.args.messages.now (length group.classes.items) c.len-count.result group.taken.items group.ends len c.in-Ok.ensures.gathers)
-    c.as_slice-group.ensures.value c.perform_group.ensures.asked refl
+    c.as_slice-group.ensures.value (
+      groups_of g.K.Keeper.model.serves (drop c.len-count.result c.args.messages.now),
+      (
+        c.perform_group.ensures.asked,
+        grouped_one g.K.Keeper.model.serves c.args.messages.now (length group.classes.items) c.len-count.result group.taken.items c.as_slice-group.result.now
+            pending len c.as_slice-group.ensures.value c.in-Ok.ensures.groups,
+      ),
+    ) refl
     (performs_all M k k' pending es c.in-Ok-perform_group.dones.items done.ok) (λ honest firm. done.firm honest (inl firm))
     (λ honest u un have. few_left M k k' u pending left es done.pending (omega (arith, few)) (done.others honest) un have)
     few done.acts c.as_slice-answered.ensures.value c.in-Err-send_answers.ensures.err

@@ -2,8 +2,10 @@ use Rattle.std.proofs.Common.{◌∙◌, ◌+◌, ◌-◌, ◌^◌, take, drop, 
 use Rattle.fuse_keeper.specs.Group.{ids_of}
 use Rattle.fuse_session.specs.Starts.{Kept}
 use Rattle.fuse_session.specs.Deeds.{Did}
-use Rattle.fuse_session.specs.inner.Turn.{Mute}
-use Rattle.fuse_session.proofs.Doing.{did_none, mute_none, mute_more}
+use Rattle.fuse_session.specs.Grouping.{groups_of}
+use Rattle.fuse_session.specs.inner.Turn.{Mute, Grouped}
+use Rattle.fuse_session.proofs.Doing.{mute_none}
+use Rattle.fuse_session.proofs.Grouping.{mute_grouped, mute_some, left_is}
 use Rattle.fuse_session.specs.inner.Counting.{IsBelow}
 use Rattle.fuse_session.specs.Passage.{passage}
 use Rattle.fuse_session.specs.Serving.{Turned, goes_on, lasts}
@@ -15,8 +17,11 @@ use Rattle.fuse_session.proofs.session.Session.serve_messages.Goals as goal
 pub loop-at-init : goal.loop-at-init
 loop-at-init g c = record {
   within = omega arith;
-  turned = turned_none g.K.Keeper.model _ _ (g.P.Port.told c.args.self.now.port.now) (ids_of c.args.self.now.pending.now.items) (mute_none _ (did_none g.C.Clock.gave g.K.Keeper.performed g.P.Port.became g.met.C.Clock.logged g.met.K.Keeper.log g.met.P.Port.path
-      c.args.self.now.clock.now c.args.self.now.keeper.now c.args.self.now.port.now));
+  turned = turned_none g.K.Keeper.model _ _ (g.P.Port.told c.args.self.now.port.now) (ids_of c.args.self.now.pending.now.items) (mute_none _ (record {
+    moments = (g.met.C.Clock.logged).none c.args.self.now.clock.now;
+    asked = ((g.met.K.Keeper.log).none c.args.self.now.keeper.now, refl);
+    events = (g.met.P.Port.path).none c.args.self.now.port.now;
+  }));
   loans = (refl, refl, refl, refl);
   below = record { messages = omega arith; kept = omega arith; repeated = omega arith; bare = omega arith; silent = omega arith; interrupts = omega arith };
   few = c.requires.few;
@@ -38,10 +43,11 @@ returns-in-Err-clause-err g c =
     (g.K.Keeper.told c.serve_group.new.self.keeper.now) _ _
     _ _ _ _ _ _ c.args.messages.now _ c.loop-at.at _ _
     refl inv.turned c.in-Err.ensures.err inv.may c.in-Err.ensures.honest inv.firm
-    (λ b two. mute_more g.C.Clock.gave g.K.Keeper.performed g.P.Port.became g.met.C.Clock.logged g.met.K.Keeper.log g.met.P.Port.path
+    (λ b two. mute_some g.C.Clock.gave g.K.Keeper.performed g.P.Port.became g.met.C.Clock.logged g.met.K.Keeper.log g.met.P.Port.path
     c.args.self.now.clock.now c.loop-at.self.clock.now c.serve_group.new.self.clock.now
     c.args.self.now.keeper.now c.loop-at.self.keeper.now c.serve_group.new.self.keeper.now
-    c.args.self.now.port.now c.loop-at.self.port.now c.serve_group.new.self.port.now inv.turned.work.deeds b inv.turned.work.done two)
+    c.args.self.now.port.now c.loop-at.self.port.now c.serve_group.new.self.port.now inv.turned.work.deeds b
+    g.K.Keeper.model.serves c.args.messages.now c.loop-at.at inv.turned.work.done two)
 
 pub sum_of-sum-requires-clause-a : goal.sum_of-sum-requires-clause-a
 sum_of-sum-requires-clause-a g c = below_more c.loop-at.counts c.loop-at.at (2 ^ 63 - 1) (omega (arith, c.loop-at.invariant.within, c.requires.short))
@@ -67,10 +73,11 @@ returns-then-over-clause-ok g c =
     _ _ _ _ _ _ _ ms (take (length ms - i) (drop i ms)) i n
     (lasts c.in-Ok.progress.next) c.loop-at.counts c.in-Ok.progress.counts c.sum_of-sum.result
     refl c.sum_of-sum.ensures inv.turned c.in-Ok.ensures.ok c.in-Ok.ensures.honest
-    (λ b two. mute_more g.C.Clock.gave g.K.Keeper.performed g.P.Port.became g.met.C.Clock.logged g.met.K.Keeper.log g.met.P.Port.path
+    (λ b two. mute_grouped g.C.Clock.gave g.K.Keeper.performed g.P.Port.became g.met.C.Clock.logged g.met.K.Keeper.log g.met.P.Port.path
     c.args.self.now.clock.now c.loop-at.self.clock.now c.serve_group.new.self.clock.now
     c.args.self.now.keeper.now c.loop-at.self.keeper.now c.serve_group.new.self.keeper.now
-    c.args.self.now.port.now c.loop-at.self.port.now c.serve_group.new.self.port.now inv.turned.work.deeds b inv.turned.work.done two))
+    c.args.self.now.port.now c.loop-at.self.port.now c.serve_group.new.self.port.now inv.turned.work.deeds b
+    g.K.Keeper.model.serves ms i _ (groups_of g.K.Keeper.model.serves (drop (i + n) ms)) (left_is g.K.Keeper.model.serves ms i n) inv.turned.work.done two))
 
 pub loop-at-preserved : goal.loop-at-preserved
 loop-at-preserved g c =
@@ -85,17 +92,19 @@ loop-at-preserved g c =
       turned = subst (λ b. Turned (passage (g.K.Keeper.told c.args.self.now.keeper.now) (g.K.Keeper.told k')
           (g.P.Port.told c.args.self.now.port.now) (g.P.Port.told c.serve_group.new.self.port.now)
           (Mute (Did (g.C.Clock.gave c.args.self.now.clock.now c.serve_group.new.self.clock.now)
-          (g.K.Keeper.performed c.args.self.now.keeper.now k') (g.P.Port.became c.args.self.now.port.now c.serve_group.new.self.port.now))))
+          (Grouped g.K.Keeper.model.serves ms (groups_of g.K.Keeper.model.serves (drop (i + n) ms)) (g.K.Keeper.performed c.args.self.now.keeper.now k'))
+          (g.P.Port.became c.args.self.now.port.now c.serve_group.new.self.port.now))))
           (ids_of c.args.self.now.pending.now.items) (ids_of c.serve_group.new.self.pending.now.items) (take (i + n) ms) b c.sum_of-sum.result) (lasts_on c.in-Ok.progress.next on)
           (group_more g.K.Keeper.model c.histories_grow.ensures (g.K.Keeper.told c.args.self.now.keeper.now) (g.K.Keeper.told c.loop-at.self.keeper.now) (g.K.Keeper.told k')
           _ _
           _ _ _ _ _ _ _ ms (take (length ms - i) (drop i ms)) i n
           (lasts c.in-Ok.progress.next) c.loop-at.counts c.in-Ok.progress.counts c.sum_of-sum.result
           refl c.sum_of-sum.ensures inv.turned c.in-Ok.ensures.ok c.in-Ok.ensures.honest
-          (λ b two. mute_more g.C.Clock.gave g.K.Keeper.performed g.P.Port.became g.met.C.Clock.logged g.met.K.Keeper.log g.met.P.Port.path
+          (λ b two. mute_grouped g.C.Clock.gave g.K.Keeper.performed g.P.Port.became g.met.C.Clock.logged g.met.K.Keeper.log g.met.P.Port.path
           c.args.self.now.clock.now c.loop-at.self.clock.now c.serve_group.new.self.clock.now
           c.args.self.now.keeper.now c.loop-at.self.keeper.now c.serve_group.new.self.keeper.now
-          c.args.self.now.port.now c.loop-at.self.port.now c.serve_group.new.self.port.now inv.turned.work.deeds b inv.turned.work.done two));
+          c.args.self.now.port.now c.loop-at.self.port.now c.serve_group.new.self.port.now inv.turned.work.deeds b
+          g.K.Keeper.model.serves ms i _ (groups_of g.K.Keeper.model.serves (drop (i + n) ms)) (left_is g.K.Keeper.model.serves ms i n) inv.turned.work.done two));
       loans = (c.in-Ok.ensures.loans.0 ∙ inv.loans.0, c.in-Ok.ensures.loans.1 ∙ inv.loans.1, c.in-Ok.ensures.loans.2 ∙ inv.loans.2, c.in-Ok.ensures.loans.3 ∙ inv.loans.3);
       below = subst (λ x. IsBelow x (i + n)) (sym c.sum_of-sum.ensures) (plus_below c.loop-at.counts c.in-Ok.progress.counts i n inv.below c.in-Ok.ensures.below);
       few = c.in-Ok.ensures.few;

@@ -1,7 +1,8 @@
-use Rattle.std.proofs.Common.{◌≡◌, ◌≤◌, ◌-◌, length, take, true, false}
+use Rattle.std.proofs.Common.{◌≡◌, ◌≤◌, ◌-◌, length, take, drop, true, false}
 use Rattle.fuse_session.specs.Starts.{Kept}
 use Rattle.fuse_session.specs.Deeds.{Did}
-use Rattle.fuse_session.specs.inner.Turn.{Mute}
+use Rattle.fuse_session.specs.Grouping.{groups_of}
+use Rattle.fuse_session.specs.inner.Turn.{Mute, Grouped}
 use Rattle.fuse_keeper.specs.KeeperState.{IsFirm, AnswersNoMore}
 use Rattle.fuse_keeper.specs.Group.{ids_of}
 use Rattle.fuse_session.specs.inner.Loans.{SameLoans}
@@ -18,7 +19,8 @@ invariant-loop-at g l = record {
   loans : SameLoans l.fn.self l.self;
   turned : Turned (passage (g.K.Keeper.told l.fn.self.keeper.now) (g.K.Keeper.told l.self.keeper.now)
       (g.P.Port.told l.fn.self.port.now) (g.P.Port.told l.self.port.now) (Mute (Did (g.C.Clock.gave l.fn.self.clock.now l.self.clock.now)
-      (g.K.Keeper.performed l.fn.self.keeper.now l.self.keeper.now) (g.P.Port.became l.fn.self.port.now l.self.port.now))))
+      (Grouped g.K.Keeper.model.serves l.messages (groups_of g.K.Keeper.model.serves (drop l.at l.messages)) (g.K.Keeper.performed l.fn.self.keeper.now l.self.keeper.now))
+      (g.P.Port.became l.fn.self.port.now l.self.port.now))))
       (ids_of l.fn.self.pending.now.items) (ids_of l.self.pending.now.items) (take l.at l.messages) true l.counts;
   below : IsBelow l.counts l.at;
   few : length l.self.pending.now.items ≤ 16;

@@ -1,10 +1,10 @@
-use Rattle.std.proofs.Common.{◌∙◌, ℕ, List, [], ◌∷◌, ◌^◌, ap, arith, length, sym, subst, All}
+use Rattle.std.proofs.Common.{◌∙◌, ℕ, true, false, List, [], ◌∷◌, ◌^◌, ap, arith, length, sym, subst, All}
 use Rattle.fuse_request.specs.Stream.{IsMessage, joined}
 use Rattle.fuse_session.specs.Starts.{Kept}
 use Rattle.fuse_session.specs.declared.port.Received.{Received as Receipt}
 use Rattle.fuse_session.specs.Transcript.{Received}
 use Rattle.fuse_session.specs.Deeds.{Did}
-use Rattle.fuse_session.specs.inner.Turn.{OneTurn, muted, waits}
+use Rattle.fuse_session.specs.inner.Turn.{OneTurn, GroupedSome, muted, waits}
 use Rattle.fuse_session.proofs.Doing.{turn_none, turn_hears, one_heard, then_did, just_heard, just_more}
 use Rattle.fuse_session.proofs.Sharing.{processed_just, broken_just, by_just, unheard_just}
 use Rattle.fuse_keeper.specs.Group.{ids_of}
@@ -13,11 +13,12 @@ use Rattle.fuse_session.specs.Counting.{none_counted}
 use Rattle.fuse_session.specs.inner.Moves.{FailedBy}
 use Rattle.fuse_session.specs.Ended.{ended_store, IsIntact}
 use Rattle.fuse_session.specs.Passage.{passage}
-use Rattle.fuse_session.specs.Serving.{Whole, Broken}
+use Rattle.fuse_session.specs.Serving.{Whole, Broken, goes_on}
+use Rattle.fuse_session.specs.Grouping.{groups_of}
 use Rattle.fuse_session.specs.inner.Finishing.{ended_at, ended_port}
 use Rattle.fuse_session.proofs.Counted.{below_more}
 use Rattle.fuse_session.proofs.Handing.{holds_under}
-use Rattle.fuse_session.proofs.Growing.{life_heard, whole_heard}
+use Rattle.fuse_session.proofs.Growing.{life_heard, whole_heard, heard_messages}
 use Rattle.fuse_session.proofs.Sessions.{came_by, life_unheard, ends_unheard, unheard_store, fault_ends, fault_not_turns, fault_counts, life_worked, ends_finished}
 use Rattle.fuse_session.proofs.Sessions.{finished_store, finished_counts, unheard_counts, none_below}
 use Rattle.fuse_session.proofs.session.Session.serve_turn.Goals as goal
@@ -38,8 +39,8 @@ returns-in-Err-clause-err g c =
     let by = unheard_store e became _ _ c.args.framer.now c.in-Err.ensures.err in
     record {
       deeds = deeds;
-      done = (turn_none (g.C.Clock.gave clock clock) (g.K.Keeper.performed keeper keeper) g.P.Port.became c.args.self.now.port.now c.receive_messages.new.port
-          one.result one.received ((g.met.C.Clock.logged).none clock) ((g.met.K.Keeper.log).none keeper) one.once).0;
+      done = turn_none (g.C.Clock.gave clock clock) (g.K.Keeper.performed keeper keeper) g.P.Port.became c.args.self.now.port.now c.receive_messages.new.port
+          one.result one.received g.K.Keeper.model.serves c.args.framer.now.bytes ((g.met.C.Clock.logged).none clock) ((g.met.K.Keeper.log).none keeper) one.once;
       life = life_unheard g.K.Keeper.model k _ (by_just one) _ _ (ids_of c.args.self.now.pending.now.items) c.args.framer.now e by.0 alone just
           c.in-Err.ensures.hearing;
       counts = none_counted;
@@ -85,14 +86,22 @@ returns-in-Err-serve_messages-clause-err g c =
     let r = g.P.Port.told c.serve_messages.new.self.port.now in
     let e = c.ended_of.ensures.is in
     let pass = passage k k' q r (Did (g.C.Clock.gave c.args.self.now.clock.now c.serve_messages.new.self.clock.now)
-    (g.K.Keeper.performed c.args.self.now.keeper.now c.serve_messages.new.self.keeper.now)
+    (GroupedSome g.K.Keeper.model.serves c.as_slice-slice.result.now (g.K.Keeper.performed c.args.self.now.keeper.now c.serve_messages.new.self.keeper.now))
     (g.P.Port.became c.receive_messages.new.port c.serve_messages.new.self.port.now)) in
     let broken = subst (λ x. Broken (muted pass) (ids_of c.args.self.now.pending.now.items) c.as_slice-slice.result.now x) (sym e) s.err in
-    let came = c.in-Ok.ensures.ok.came in
+    let heard = c.in-Ok.ensures.ok in
+    let came = heard.came in
+    let asked = broken.work.done.done.asked in
     let turn = turn_hears (g.C.Clock.gave c.args.self.now.clock.now c.serve_messages.new.self.clock.now)
     (g.K.Keeper.performed c.args.self.now.keeper.now c.serve_messages.new.self.keeper.now) g.P.Port.became g.met.P.Port.path c.args.self.now.port.now
-    c.receive_messages.new.port c.serve_messages.new.self.port.now came.result c.in-Ok.ensures.ok.received broken.work.deeds came.once came.gave
-    broken.work.done in
+    c.receive_messages.new.port c.serve_messages.new.self.port.now came.result heard.received broken.work.deeds
+    g.K.Keeper.model.serves c.args.framer.now.bytes c.as_slice-slice.result.now asked.0 false
+    (heard_messages _ c.args.framer.now c.receive_messages.new.framer _ _ _ heard c.as_slice-slice.ensures.value) (λ isnt. absurd (cc isnt)) came.once came.gave
+    (record {
+      done = record { moments = broken.work.done.done.moments; asked = asked.1; events = broken.work.done.done.events };
+      slices = broken.work.done.slices;
+      events = broken.work.done.events;
+    }) in
     record {
       deeds = then_did (one_heard came.result c.in-Ok.ensures.ok.received) broken.work.deeds;
       done = turn.0;
@@ -131,7 +140,7 @@ returns-in-Ok-finish-clause-ok g c =
     let room = c.requires.room in
     record {
       whole = subst (Whole (passage k k' (g.P.Port.told c.args.self.now.port.now) (g.P.Port.told c.serve_messages.new.self.port.now)
-          (OneTurn (Did (g.C.Clock.gave c.args.self.now.clock.now c.serve_messages.new.self.clock.now)
+          (OneTurn g.K.Keeper.model.serves c.args.framer.now.bytes true (Did (g.C.Clock.gave c.args.self.now.clock.now c.serve_messages.new.self.clock.now)
           (g.K.Keeper.performed c.args.self.now.keeper.now c.serve_messages.new.self.keeper.now)
           (g.P.Port.became c.args.self.now.port.now c.serve_messages.new.self.port.now))))
           (waits (ids_of c.args.self.now.pending.now.items) c.args.framer.now)
@@ -141,7 +150,10 @@ returns-in-Ok-finish-clause-ok g c =
           c.in-Ok.waiting.messages.items c.as_slice-slice.result.now c.in-Ok.waiting.fault
           progress heard (λ b two. turn_hears (g.C.Clock.gave c.args.self.now.clock.now c.serve_messages.new.self.clock.now)
           (g.K.Keeper.performed c.args.self.now.keeper.now c.serve_messages.new.self.keeper.now) g.P.Port.became g.met.P.Port.path c.args.self.now.port.now
-          c.receive_messages.new.port c.serve_messages.new.self.port.now c.in-Ok.ensures.ok.came.result c.in-Ok.ensures.ok.received b c.in-Ok.ensures.ok.came.once c.in-Ok.ensures.ok.came.gave two)
+          c.receive_messages.new.port c.serve_messages.new.self.port.now heard.came.result heard.received b
+          g.K.Keeper.model.serves c.args.framer.now.bytes c.as_slice-slice.result.now _ true
+          (heard_messages _ c.args.framer.now c.receive_messages.new.framer _ _ _ heard c.as_slice-slice.ensures.value)
+          (λ _. ap (groups_of g.K.Keeper.model.serves) (s.ok.all (ap goes_on fin.1))) heard.came.once heard.came.gave two)
           c.in-Ok.ensures.hearing c.as_slice-slice.ensures.value fin.1 s.ok s.quiet);
       below = subst (λ x. IsBelow x (2 ^ 20)) (sym fin.0) (below_more progress.counts (length c.as_slice-slice.result.now) (2 ^ 20)
           (omega (arith, ap length c.as_slice-slice.ensures.value, took.few, took.at, c.in-Ok.ensures.fed, short, room)) s.below);
@@ -174,7 +186,10 @@ returns-clause-err g c =
     let work = s.ok.turned.work in
     let turn = turn_hears (g.C.Clock.gave c.args.self.now.clock.now c.serve_messages.new.self.clock.now)
     (g.K.Keeper.performed c.args.self.now.keeper.now c.serve_messages.new.self.keeper.now) g.P.Port.became g.met.P.Port.path c.args.self.now.port.now
-    c.receive_messages.new.port c.serve_messages.new.self.port.now heard.came.result heard.received work.deeds heard.came.once heard.came.gave work.done in
+    c.receive_messages.new.port c.serve_messages.new.self.port.now heard.came.result heard.received work.deeds
+    g.K.Keeper.model.serves c.args.framer.now.bytes c.as_slice-slice.result.now _ false
+    (heard_messages _ c.args.framer.now c.receive_messages.new.framer _ _ _ heard c.as_slice-slice.ensures.value) (λ isnt. absurd (cc isnt))
+    heard.came.once heard.came.gave work.done in
     let just = processed_just g.K.Keeper.model _ _ _ _ _ _ _ _ _ s.ok in
     record {
       deeds = then_did (one_heard heard.came.result heard.received) work.deeds;
