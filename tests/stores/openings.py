@@ -347,6 +347,29 @@ def try_everyday(tally, room):
         tally.compare("everyday: what `store` prints", wanted, found)
 
 
+# A column, a value that it may not have although SQLite takes it, and the request that reads it.
+VALUES = (
+    ("nodes", "mode", 1 << 32, (m.GETATTR, 3, bytes(16))), ("nodes", "uid", -1, (m.GETATTR, 3, bytes(16))),
+    ("nodes", "gid", (1 << 63) - 1, (m.LOOKUP, 1, b"f\0")), ("nodes", "rdev", -(1 << 63), (m.GETATTR, 3, bytes(16))),
+    ("nodes", "atimensec", 1 << 32, (m.GETATTR, 3, bytes(16))), ("nodes", "subdirs", 1 << 40, (m.GETATTR, 3, bytes(16))),
+    ("nodes", "size", -1, (m.GETATTR, 3, bytes(16))), ("handles", "access", 3, (m.READ, 3, m.read_body(1, 0, 10))),
+    ("handles", "access", 1 << 32, (m.READ, 3, m.read_body(1, 0, 10))), ("handles", "access", -1, (m.READ, 3, m.read_body(1, 0, 10))))
+
+
+def try_values(tally, room):
+    """A store whose row has a number out of range opens, and is damaged for the request that reads the row; the store stays as it was."""
+    for number, (table, column, value, asked) in enumerate(VALUES):
+        where = "" if table == "handles" else " WHERE node = 3"
+        path = store_with(room, f"value-{number}", f"UPDATE {table} SET {column} = {value}{where}")
+        before = content_of(path)
+        tally.compare(f"{column} of {table} is {value}", [3, "store: Damaged"], answers(path, asked)[0])
+        tally.compare(f"{column} of {table} is {value}: its content", before, content_of(path))
+    path = store_with(room, "value-errno", "UPDATE kept SET errno = 4294967296 WHERE id = 4")
+    given = m.resent(m.message(m.MKDIR, 4, 1, m.mkdir_body(b"a")))
+    ended = run(path, ["replay", "--db", "STORE", "--at", "1000", "-"], given)[1]
+    tally.compare("errno of kept is 4294967296", [3, "store: Damaged"], ended)
+
+
 # A block of the letter y, and the bytes that a file of x or y has.
 OF_Y = "UPDATE blocks SET bytes = CAST(replace(hex(zeroblob(2048)), '0', 'y') AS BLOB)"
 
@@ -367,6 +390,34 @@ def try_past_size(tally, room):
             tally.compare(f"{what}: after", b"y" * size + tail, found[2][1])
 
 
+# What each request leaves of the blocks of a file that has blocks 0 and 1, by the requests before it: an absent block stands for zeros.
+BLOCKS = (
+    ("a WRITE after a hole", (m.WRITE, 3, m.write_body(1, 5 * BLOCK + 10, b"zz")), [0, 1, 5]),
+    ("a READ of the hole", (m.READ, 3, m.read_body(1, 2 * BLOCK, 2 * BLOCK)), [0, 1, 5]),
+    ("a READ across its end", (m.READ, 3, m.read_body(1, 4 * BLOCK, 9000)), [0, 1, 5]),
+    ("a GETATTR", (m.GETATTR, 3, bytes(16)), [0, 1, 5]),
+    ("a LOOKUP", (m.LOOKUP, 1, b"f\0"), [0, 1, 5]),
+    ("a SETATTR that ends it in the hole", (m.SETATTR, 3, m.setattr_body(8, size=3 * BLOCK + 7)), [0, 1]),
+    ("a SETATTR that makes it longer", (m.SETATTR, 3, m.setattr_body(8, size=10 * BLOCK + 1)), [0, 1]),
+    ("a SETATTR that ends it in a block", (m.SETATTR, 3, m.setattr_body(8, size=BLOCK + 5)), [0, 1]),
+    ("a READ of its end", (m.READ, 3, m.read_body(1, BLOCK, 9000)), [0, 1]),
+    ("a SETATTR that ends it before its last block", (m.SETATTR, 3, m.setattr_body(8, size=BLOCK)), [0]),
+    ("a SETATTR of its mode", (m.SETATTR, 3, m.setattr_body(1)), [0]),
+    ("a SETATTR that makes it longer again", (m.SETATTR, 3, m.setattr_body(8, size=3 * BLOCK)), [0]),
+    ("a SETATTR that empties it", (m.SETATTR, 3, m.setattr_body(8, size=0)), []))
+
+
+def try_blocks(tally, room):
+    """A request that only reads adds no block, and a SETATTR none; it drops those after the end."""
+    for number, (name, _, wanted) in enumerate(BLOCKS):
+        path = store_with(room, f"blocks-{number}")
+        ended, found = answers(path, *(asked for _, asked, _ in BLOCKS[: number + 1]))
+        tally.compare(f"blocks after {name}: how it ends", [0], ended)
+        tally.compare(f"blocks after {name}: its error", 0, found[-1][0])
+        rows = content_of(path)[1]["blocks"]
+        tally.compare(f"blocks after {name}", [(3, block) for block in wanted], sorted(row[:2] for row in rows))
+
+
 def main():
     tally = Tally()
     with tempfile.TemporaryDirectory(dir=quick_folder()) as folder:
@@ -379,6 +430,8 @@ def main():
         try_copies(tally, f"{folder}/opened")
         try_index(tally, f"{folder}/opened")
         try_counted(tally, f"{folder}/opened")
+        try_values(tally, f"{folder}/opened")
+        try_blocks(tally, f"{folder}/opened")
         try_everyday(tally, f"{folder}/opened")
     return print_counts("stores openings", tally.passed, tally.failed)
 

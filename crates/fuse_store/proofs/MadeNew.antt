@@ -17,7 +17,8 @@ use Rattle.fuse_tree.specs.State.{root_node, new_store as new_tree, capacity_for
 use Rattle.fuse_tree.specs.Rows.{rowed, full_of, content_of}
 use Rattle.fuse_tree.specs.Plan.{NewStoreIsTree}
 use Rattle.fuse_store_tables.specs.Layout.{no_schema}
-use Rattle.fuse_store_tables.specs.Making.{IsBare, IsNew, new_store}
+use Rattle.fuse_store_tables.specs.Content.{HasWidths}
+use Rattle.fuse_store_tables.specs.Making.{IsBare, IsNew, new_store, root}
 use Rattle.fuse_store_tables.specs.Moves.{RestsAs, ServesAs, LeavesAlone}
 use Rattle.fuse_store_tables.specs.Refusing.{HasMetaTable, IsNameTaken}
 use Rattle.fuse_store_tree.specs.Store.{byte_at}
@@ -30,7 +31,7 @@ no_bytes : (f : Full) (i j : ℕ) → f.content ≡ [] → (b : Bool) → byte_a
 no_bytes f i j none true = rw none refl
 no_bytes f i j none false = refl
 
-new_told : (p : Profile) (capacity : ℕ) (from : Origin) → from.made.secs < 2 ^ 64
+new_told : (p : Profile) (capacity : ℕ) (from : Origin) → HasWidths (root from)
     → Describes (store_of (new_holding p capacity from)) (new_store (capacity_for p capacity) from)
 unfolding rowed
 new_told Plain capacity from low = record {
@@ -45,7 +46,7 @@ new_told Plain capacity from low = record {
   within = tt;
   settings = record { minor = omega arith; readahead = omega arith; flags = omega arith };
   fits = record {
-    nodes = (record { node = omega arith; seconds = record { atime = low; mtime = low; ctime = low } }, tt);
+    nodes = (record { node = omega arith; widths = low }, tt);
     entries = tt;
     handles = tt;
     blocks = tt;
@@ -64,7 +65,7 @@ new_told Everyday capacity from low = record {
   within = tt;
   settings = record { minor = omega arith; readahead = omega arith; flags = omega arith };
   fits = record {
-    nodes = (record { node = omega arith; seconds = record { atime = low; mtime = low; ctime = low } }, tt);
+    nodes = (record { node = omega arith; widths = low }, tt);
     entries = tt;
     handles = tt;
     blocks = tt;
@@ -72,7 +73,7 @@ new_told Everyday capacity from low = record {
   };
 }
 
-pub made_new : NewStoreIsTree → (p : Profile) (capacity : ℕ) (from : Origin) → capacity < 2 ^ 51 → from.made.secs < 2 ^ 64 → (z : ⊤) (d : Database) → IsBare no_schema z d
+pub made_new : NewStoreIsTree → (p : Profile) (capacity : ℕ) (from : Origin) → capacity < 2 ^ 51 → HasWidths (root from) → (z : ⊤) (d : Database) → IsBare no_schema z d
     → Retold (IsBare no_schema) (IsNew (capacity_for p capacity) from) (IsBare no_schema) (λ _. HeldFor (new_holding p capacity from)) z d
 made_new is_tree p capacity from fits low z d at = record {
   content = z;

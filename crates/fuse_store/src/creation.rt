@@ -3,9 +3,10 @@ ghost use Rattle.std.specs.Prelude.{◌≡◌, ◌<◌, ◌^◌, ◌↔◌, true
 ghost use Rattle.sqlite.specs.State.{HasCleanDisk, Survives};
 ghost use Rattle.sqlite.specs.Held.{state};
 ghost use Rattle.fuse_tree.specs.State.{capacity_for};
+ghost use Rattle.fuse_store_tables.specs.Content.{HasWidths};
 ghost use Rattle.fuse_store_tables.specs.Faults.{IsOutside};
 ghost use Rattle.fuse_store_tables.specs.Layout.{no_schema};
-ghost use Rattle.fuse_store_tables.specs.Making.{IsBare};
+ghost use Rattle.fuse_store_tables.specs.Making.{IsBare, root};
 ghost use Rattle.fuse_store_tables.specs.Moves.{RestsAs, ServesAs, LeavesAlone};
 ghost use Rattle.fuse_store_tables.specs.Refusing.{HasMetaTable};
 ghost use Rattle.fuse_store_tree.specs.Holding.{HeldFor};
@@ -41,6 +42,23 @@ fn wide(number: u64)
     ensures { number < 2 ^ 64 }
 {
     let _ = number;
+}
+
+// A number of 32 bits.
+fn narrow(number: u32)
+    ensures { number < 2 ^ 32 }
+{
+    let _ = number;
+}
+
+// The columns of the root are of their widths.
+fn law_of_root(from: Origin)
+    ensures { HasWidths (root from) }
+{
+    narrow(from.owner.uid);
+    narrow(from.owner.gid);
+    wide(from.made.secs);
+    narrow(from.made.nanos);
 }
 
 // The fault of a new store in a database that has tables: the error of the statement that SQLite
@@ -94,7 +112,7 @@ pub(crate) fn make_for<S: Alter>(
         → HasMetaTable (state S.Store conn.old).now.schema → IsErrAnd result IsTakenFault }
 {
     new_store_is_tree();
-    wide(from.made.secs);
+    law_of_root(from);
     if !conn.is_autocommit() {
         return Err(StoreFault::Sql(Error::InvalidQuery));
     }

@@ -218,6 +218,9 @@ impl<P: Profiled, S: Alter> TableKeeper<P, S> {
             (λ rows records. room ≡ rows.counters.room)) }
         ensures fault { FaultsOutside S.Store self.old self.new result }
         ensures plain { IfErr result IsPlain }
+        // Whatever the database is, nothing is changed.
+        ensures reads { OnlyReads (state S.Store (conn_of S.Store self.old))
+            (state S.Store (conn_of S.Store self.new)) result }
     {
         one_holding();
         lots_are_read();
@@ -251,7 +254,7 @@ impl<P: Profiled, S: Alter + Drop> Keeper for TableKeeper<P, S> {
     ghost use Rattle.fuse_keeper.specs.Group.{entries_of, ids_of};
     ghost use Rattle.fuse_keeper.specs.Stands.{Records, CountsRecords};
     ghost use Rattle.fuse_store_tables.specs.Faults.{IsPlain};
-    ghost use Rattle.fuse_store_tables.specs.Moves.{LeavesAlone, RollsBack};
+    ghost use Rattle.fuse_store_tables.specs.Moves.{LeavesAlone, OnlyReads, RollsBack};
     ghost use Rattle.fuse_store_tree.specs.Committing.{CommitsOnce};
     ghost use Rattle.fuse_store_tables.specs.Saying.{IsRefusal};
     ghost use Rattle.fuse_store.specs.TableKeeper.{keeper_told, conn_of};
@@ -380,6 +383,9 @@ impl<P: Profiled, S: Alter + Drop> Keeper for TableKeeper<P, S> {
             → (keeper_told P.PROFILE S.Store self.old).holds rows records → answer ≡ records id.0) }
         ensures fault { FaultsOutside S.Store self.old self.new result }
         ensures plain { IfErr result IsPlain }
+        // Whatever the database is, nothing is changed.
+        ensures reads { OnlyReads (state S.Store (conn_of S.Store self.old))
+            (state S.Store (conn_of S.Store self.new)) result }
     {
         one_holding();
         lots_are_read();
@@ -399,6 +405,9 @@ impl<P: Profiled, S: Alter + Drop> Keeper for TableKeeper<P, S> {
             (keeper_told P.PROFILE S.Store self.new) (λ rows records. settings ≡ (tree_of P.PROFILE).settings rows)) }
         ensures fault { FaultsOutside S.Store self.old self.new result }
         ensures plain { IfErr result IsPlain }
+        // Whatever the database is, nothing is changed.
+        ensures reads { OnlyReads (state S.Store (conn_of S.Store self.old))
+            (state S.Store (conn_of S.Store self.new)) result }
     {
         one_holding();
         lots_are_read();
@@ -427,6 +436,9 @@ impl<P: Profiled, S: Alter + Drop> Keeper for TableKeeper<P, S> {
             (λ rows records. counts.lots ≡ length (keeper_told P.PROFILE S.Store self.old).lots.numbers)) }
         ensures fault { FaultsOutside S.Store self.old self.new result }
         ensures plain { IfErr result IsPlain }
+        // Whatever the database is, nothing is changed.
+        ensures reads { OnlyReads (state S.Store (conn_of S.Store self.old))
+            (state S.Store (conn_of S.Store self.new)) result }
     {
         one_holding();
         lots_are_read();

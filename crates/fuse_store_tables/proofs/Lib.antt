@@ -56,3 +56,4 @@ pub mod Telling
 pub mod Checks
 pub mod NumberRows
 pub mod Renewed
+pub mod SelectTexts

@@ -66,7 +66,7 @@ module _ (r : Result ℕ StoreFault) (rows : List Row) (IsThere : Content → Ty
 
 -- ---- records
 
-abbrev kept_text : List ℕ
+abbrev pub kept_text : List ℕ
 kept_text = codes "SELECT count(*) FROM kept"
 
 kept_is : counts_of kept_text 10
@@ -96,7 +96,7 @@ kept_count_finds = count_finds kept_row (λ c. c.kept) 10 kept_text kept_is kept
 
 -- ---- lots
 
-abbrev lots_text : List ℕ
+abbrev pub lots_text : List ℕ
 lots_text = codes "SELECT count(*) FROM lots"
 
 lots_is : counts_of lots_text 9

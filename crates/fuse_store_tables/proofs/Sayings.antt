@@ -12,7 +12,7 @@ use Rattle.sqlite.specs.State.{State, HasCleanDisk, Shown}
 use Rattle.fuse_keeper.specs.declared.fault.StoreFault.{StoreFault}
 use Rattle.fuse_keeper.specs.declared.fault.StoreFault.TheVariants.{Memory, Sql, Damaged}
 use Rattle.fuse_keeper.specs.Faults.{fault_of, is_memory}
-use Rattle.fuse_store_tables.specs.Faults.{IsPlain}
+use Rattle.fuse_store_tables.specs.Faults.{IsPlain, IsMisread}
 use Rattle.fuse_store_tables.specs.inner.Columns.{misread_as}
 use Rattle.fuse_store_tables.specs.Saying.{version_text, ShowsVersion, IsOwn, Says}
 use Rattle.fuse_store_tables.specs.inner.Versions.{plain_says}
@@ -29,6 +29,13 @@ pub plain_misread : (e : Error) → IsPlain (misread_as e)
 plain_misread e = told (is_memory e)
   where
     told : (b : Bool) → IsPlain (cond b Memory Damaged)
+    told true = tt
+    told false = tt
+
+pub misread_so : (e : Error) → IsMisread (misread_as e)
+misread_so e = told (is_memory e)
+  where
+    told : (b : Bool) → IsMisread (cond b Memory Damaged)
     told true = tt
     told false = tt
 

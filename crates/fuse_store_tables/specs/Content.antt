@@ -12,6 +12,7 @@ use Rattle.sqlite_trees.specs.Tree.{IsTable, with_tree, no_trees}
 use Rattle.sqlite.specs.Effect.{Database, IsDatabase}
 use Rattle.sqlite.specs.Schema.{Schema}
 use Rattle.sqlite.specs.Table.{Table}
+use Rattle.fuse_wire.specs.declared.moment.Moment.{Moment}
 use Rattle.fuse_wire.specs.declared.access_mode.AccessMode.{AccessMode}
 use Rattle.fuse_wire.specs.declared.access_mode.AccessMode.TheVariants.{ReadOnly, WriteOnly, ReadWrite}
 use Rattle.fuse_answer.specs.Said.{Said}
@@ -62,11 +63,21 @@ node_columns n =
 abbrev pub node_row : NodeRow → Row
 node_row n = Int (pos n.node) ∷ Null ∷ node_columns n
 
--- the seconds of its times are of 64 bits
-pub record HasSeconds (n : NodeRow) : Type 0 where
-  pub atime : n.atime.secs < 2 ^ 64
-  pub mtime : n.mtime.secs < 2 ^ 64
-  pub ctime : n.ctime.secs < 2 ^ 64
+-- a time whose seconds are of 64 bits, and its nanoseconds of 32
+pub record IsTime (t : Moment) : Type 0 where
+  pub secs : t.secs < 2 ^ 64
+  pub nanos : t.nanos < 2 ^ 32
+
+-- its other columns are of 32 bits, but for the size and the directory above
+pub record HasWidths (n : NodeRow) : Type 0 where
+  pub mode : n.mode < 2 ^ 32
+  pub uid : n.uid < 2 ^ 32
+  pub gid : n.gid < 2 ^ 32
+  pub rdev : n.rdev < 2 ^ 32
+  pub atime : IsTime n.atime
+  pub mtime : IsTime n.mtime
+  pub ctime : IsTime n.ctime
+  pub subdirs : n.subdirs < 2 ^ 32
 
 abbrev pub entry_row : EntryRow → Row
 entry_row e = Int (pos e.cookie) ∷ Null ∷ Int (pos e.dir) ∷ Blob e.name ∷ Int (pos e.child) ∷ []

@@ -1,16 +1,16 @@
 // Typed values of the columns of a row.
-ghost use Rattle.std.specs.Prelude.{◌≡◌, ◌<◌, ◌^◌, ◌+◌, ◌++◌, ℕ, List, [], ◌∷◌, pos, length};
-ghost use Rattle.std.specs.Prelude.{Option, IfSome, IfOk, IfErr};
+ghost use Rattle.std.specs.Prelude.{◌≡◌, ◌≢◌, ◌<◌, ◌^◌, ◌+◌, ◌++◌, ℕ, ℤ, List, [], ◌∷◌, pos, length};
+ghost use Rattle.std.specs.Prelude.{Option, IfSome, IfOk, IfErr, MatchOption};
 ghost use Rattle.sqlite.specs.declared.types.Value.{Value};
 ghost use Rattle.std.specs.Int.{w64, cast_signed};
-ghost use Rattle.sqlite.specs.declared.types.Value.TheVariants.{Int, Blob};
+ghost use Rattle.sqlite.specs.declared.types.Value.TheVariants.{Null, Int, Blob};
 ghost use Rattle.sqlite.specs.Order.{column};
 ghost use Rattle.fuse_wire.specs.declared.moment.Moment.{Moment as Time};
 ghost use Rattle.fuse_tree.specs.declared.rows.NodeRow.{NodeRow as Node};
 ghost use Rattle.fuse_keeper.specs.Faults.{is_memory};
-ghost use Rattle.fuse_store_tables.specs.Faults.{IsOutside, IsPlain};
+ghost use Rattle.fuse_store_tables.specs.Faults.{IsOutside, IsPlain, IsMisread};
 ghost use Rattle.fuse_store_tables.specs.inner.Columns.{misread_as, shown_number};
-ghost use Rattle.fuse_store_tables.specs.Content.{node_columns, columns_of, HasSeconds};
+ghost use Rattle.fuse_store_tables.specs.Content.{node_columns, columns_of, HasWidths};
 ghost use Rattle.fuse_store_tables.specs.Clearing.{reached};
 
 use fuse_keeper::StoreFault;
@@ -26,9 +26,10 @@ fn is_memory(e: &Error) -> bool
 }
 
 /// The fault of a column of the wrong type.
-#[tactic(auto, using(crate::proofs::Sayings::plain_misread))]
+#[tactic(auto, using(crate::proofs::Sayings::plain_misread, crate::proofs::Sayings::misread_so))]
 pub(crate) fn misread(e: Error) -> StoreFault
     ensures value { result ≡ misread_as e }
+    ensures misread { IsMisread result }
     ensures plain { IsPlain result }
 {
     if is_memory(&e) {
@@ -42,6 +43,7 @@ pub(crate) fn misread(e: Error) -> StoreFault
 pub fn number_at(row: &Row, at: usize) -> Result<u64, StoreFault>
     ensures value { IfOk result (λ n. column row.now at ≡ Int (pos n)) }
     ensures small { IfOk result (λ n. n < 2 ^ 63) }
+    ensures misread { IfErr result IsMisread }
     ensures fault { IfErr result (λ f. (n : ℕ) → at < length row.now
         → column row.now at ≡ Int (pos n) → IsOutside f) }
     ensures plain { IfErr result IsPlain }
@@ -89,33 +91,47 @@ pub(crate) fn the_count(rows: &[Row]) -> Result<u64, StoreFault>
 
 /// A number of 32 bits.
 pub fn small_at(row: &Row, at: usize) -> Result<u32, StoreFault>
-    ensures value { IfOk result (λ n. (m : ℕ) → column row.now at ≡ Int (pos m) → n ≡ m) }
-    ensures fault { IfErr result IsOutside }
+    ensures value { IfOk result (λ n. column row.now at ≡ Int (pos n)) }
+    // A value of another type or range is damage.
+    ensures misread { IfErr result IsMisread }
+    ensures fault { IfErr result (λ f. (n : ℕ) → n < 2 ^ 32 → at < length row.now
+        → column row.now at ≡ Int (pos n) → IsOutside f) }
     ensures plain { IfErr result IsPlain }
 {
-    let value: u32 = row.get(at)?;
-    Ok(value)
+    match row.get::<u32>(at) {
+        Ok(value) => Ok(value),
+        Err(e) => Err(misread(e)),
+    }
 }
 
 /// A number of 64 bits, stored as the signed number with the same bits.
 pub(crate) fn bits_at(row: &Row, at: usize) -> Result<u64, StoreFault>
+    ensures bits { IfOk result (λ n. column row.now at ≡ Int (cast_signed w64 n)) }
     ensures value { IfOk result (λ n. (m : ℕ) → m < 2 ^ 64
         → column row.now at ≡ Int (cast_signed w64 m) → n ≡ m) }
-    ensures fault { IfErr result IsOutside }
+    ensures misread { IfErr result IsMisread }
+    ensures fault { IfErr result (λ f. (n : ℤ) → at < length row.now
+        → column row.now at ≡ Int n → IsOutside f) }
     ensures plain { IfErr result IsPlain }
 {
-    let value: i64 = row.get(at)?;
-    Ok(value.cast_unsigned())
+    match row.get::<i64>(at) {
+        Ok(value) => Ok(value.cast_unsigned()),
+        Err(e) => Err(misread(e)),
+    }
 }
 
 /// Bytes.
 pub fn bytes_at(row: &Row, at: usize) -> Result<Vec<u8>, StoreFault>
-    ensures value { IfOk result (λ v. (l : List ℕ) → column row.now at ≡ Blob l → v.items ≡ l) }
-    ensures fault { IfErr result IsOutside }
+    ensures value { IfOk result (λ v. column row.now at ≡ Blob v.items) }
+    ensures misread { IfErr result IsMisread }
+    ensures fault { IfErr result (λ f. (l : List ℕ) → at < length row.now
+        → column row.now at ≡ Blob l → IsOutside f) }
     ensures plain { IfErr result IsPlain }
 {
-    let value: Vec<u8> = row.get(at)?;
-    Ok(value)
+    match row.get::<Vec<u8>>(at) {
+        Ok(value) => Ok(value),
+        Err(e) => Err(misread(e)),
+    }
 }
 
 // A time, in two columns.
@@ -124,7 +140,10 @@ fn moment_at(row: &Row, at: usize) -> Result<Moment, StoreFault>
     ensures value { IfOk result (λ t. (m : Time) → m.secs < 2 ^ 64
         → column row.now at ≡ Int (cast_signed w64 m.secs)
         → column row.now (at + 1) ≡ Int (pos m.nanos) → t ≡ m) }
-    ensures fault { IfErr result IsOutside }
+    ensures misread { IfErr result IsMisread }
+    ensures fault { IfErr result (λ f. (m : Time) → m.nanos < 2 ^ 32 → at + 1 < length row.now
+        → column row.now at ≡ Int (cast_signed w64 m.secs)
+        → column row.now (at + 1) ≡ Int (pos m.nanos) → IsOutside f) }
     ensures plain { IfErr result IsPlain }
 {
     let secs = bits_at(row, at)?;
@@ -134,9 +153,10 @@ fn moment_at(row: &Row, at: usize) -> Result<Moment, StoreFault>
 
 /// The row of a node, without its number, in the first columns.
 pub fn node_at(row: &Row, node: u64) -> Result<NodeRow, StoreFault>
-    ensures value { IfOk result (λ r. (n : Node) (more : List Value) → HasSeconds n
+    ensures value { IfOk result (λ r. (n : Node) (more : List Value) → HasWidths n
         → n.node ≡ node → row.now ≡ node_columns n ++ more → r ≡ n) }
-    ensures fault { IfErr result (λ f. (n : Node) (more : List Value)
+    ensures misread { IfErr result IsMisread }
+    ensures fault { IfErr result (λ f. (n : Node) (more : List Value) → HasWidths n
         → row.now ≡ node_columns n ++ more → IsOutside f) }
     ensures plain { IfErr result IsPlain }
 {
@@ -165,16 +185,33 @@ pub fn node_at(row: &Row, node: u64) -> Result<NodeRow, StoreFault>
     })
 }
 
+// The mode of a node, none where its columns are NULL.
+fn mode_at(row: &Row) -> Result<Option<u32>, StoreFault>
+    ensures ok { IfOk result (λ o. (0 < length row.now) × MatchOption o (column row.now 0 ≡ Null)
+        (λ n. (column row.now 0 ≢ Null) × (column row.now 0 ≡ Int (pos n)))) }
+    ensures misread { IfErr result IsMisread }
+    ensures none { IfErr result (λ f. 0 < length row.now → column row.now 0 ≡ Null → IsOutside f) }
+    ensures some { IfErr result (λ f. (n : ℕ) → n < 2 ^ 32 → 0 < length row.now
+        → column row.now 0 ≡ Int (pos n) → IsOutside f) }
+    ensures plain { IfErr result IsPlain }
+{
+    match row.get::<Option<u32>>(0) {
+        Ok(mode) => Ok(mode),
+        Err(e) => Err(misread(e)),
+    }
+}
+
 /// The same, and none where these columns are NULL.
 pub fn node_if_any(row: &Row, node: u64) -> Result<Option<NodeRow>, StoreFault>
     ensures value { IfOk result (λ r. (o : Option Node) (more : List Value)
-        → IfSome o (λ n. HasSeconds n × (n.node ≡ node)) → row.now ≡ columns_of o ++ more
+        → IfSome o (λ n. HasWidths n × (n.node ≡ node)) → row.now ≡ columns_of o ++ more
         → r ≡ o) }
+    ensures misread { IfErr result IsMisread }
     ensures fault { IfErr result (λ f. (o : Option Node) (more : List Value)
-        → row.now ≡ columns_of o ++ more → IsOutside f) }
+        → IfSome o HasWidths → row.now ≡ columns_of o ++ more → IsOutside f) }
     ensures plain { IfErr result IsPlain }
 {
-    let mode: Option<u32> = row.get(0)?;
+    let mode = mode_at(row)?;
     match mode {
         None => Ok(None),
         Some(_) => match node_at(row, node) {

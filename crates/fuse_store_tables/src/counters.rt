@@ -4,7 +4,7 @@ ghost use Rattle.std.specs.Option.{option_to_list};
 ghost use Rattle.sqlite.specs.State.{HasCleanDisk};
 ghost use Rattle.sqlite.specs.Held.{state};
 ghost use Rattle.fuse_store_tables.specs.Moves.{Inside, Rests, Makes, Looked, Stays, Serves};
-ghost use Rattle.fuse_store_tables.specs.Moves.{StaysOpen};
+ghost use Rattle.fuse_store_tables.specs.Moves.{StaysOpen, OnlyReads};
 ghost use Rattle.fuse_store_tables.specs.Content.{Content, with_counter, set_counter, shown_counter};
 ghost use Rattle.fuse_store_tables.specs.Content.{counter_key, at_by};
 ghost use Rattle.fuse_store_tables.specs.inner.Performing.{StaysWithin};
@@ -134,6 +134,8 @@ pub fn select_counters<S: Alter>(conn: &mut Connection<S>) -> Result<Vec<Row>, E
         → Inside c (state S.Store conn.old) → rows.items ≡ map shown_counter c.counters) }
     ensures rests { Serves (λ c. c) (state S.Store conn.old) (state S.Store conn.new) result }
     ensures open { StaysOpen (state S.Store conn.old) (state S.Store conn.new) result }
+    // Whatever the database is, nothing is changed.
+    ensures reads { OnlyReads (state S.Store conn.old) (state S.Store conn.new) result }
     ensures found_at_rest { HasCleanDisk (state S.Store conn.new) → IfOk result (λ rows.
         (c : Content) → Rests c (state S.Store conn.old)
         → rows.items ≡ map shown_counter c.counters) }

@@ -7,7 +7,7 @@ ghost use Rattle.sqlite.specs.State.{HasCleanDisk};
 ghost use Rattle.sqlite.specs.Held.{state};
 ghost use Rattle.sqlite.specs.Values.{bound};
 ghost use Rattle.fuse_store_tables.specs.Moves.{Inside, Rests, Makes, Looked, Stays, Serves, IsSafe};
-ghost use Rattle.fuse_store_tables.specs.Moves.{StaysOpen};
+ghost use Rattle.fuse_store_tables.specs.Moves.{StaysOpen, OnlyReads};
 ghost use Rattle.fuse_store_tables.specs.Clearing.{counted_to};
 ghost use Rattle.fuse_store_tables.specs.inner.Columns.{shown_number};
 ghost use Rattle.fuse_store_tables.specs.Content.{Content, Holds, kept_key, at_by, with_kept};
@@ -171,6 +171,8 @@ pub fn select_kept<S: Alter>(conn: &mut Connection<S>, id: u64) -> Result<Vec<Ro
         → rows.items ≡ map shown_kept (option_to_list (at_by kept_key id c.kept))) }
     ensures rests { Serves (λ c. c) (state S.Store conn.old) (state S.Store conn.new) result }
     ensures open { StaysOpen (state S.Store conn.old) (state S.Store conn.new) result }
+    // Whatever the database is, nothing is changed.
+    ensures reads { OnlyReads (state S.Store conn.old) (state S.Store conn.new) result }
     ensures found_at_rest { HasCleanDisk (state S.Store conn.new) → IfOk result (λ rows.
         (c : Content) → Rests c (state S.Store conn.old)
         → rows.items ≡ map shown_kept (option_to_list (at_by kept_key id c.kept))) }
@@ -183,6 +185,7 @@ pub fn select_kept<S: Alter>(conn: &mut Connection<S>, id: u64) -> Result<Vec<Ro
 fn select_count<S: Alter>(conn: &mut Connection<S>) -> Result<Vec<Row>, Error>
     ensures rests { Serves (λ c. c) (state S.Store conn.old) (state S.Store conn.new) result }
     ensures open { StaysOpen (state S.Store conn.old) (state S.Store conn.new) result }
+    ensures reads { OnlyReads (state S.Store conn.old) (state S.Store conn.new) result }
     ensures found { HasCleanDisk (state S.Store conn.new) → IfOk result (λ rows. (c : Content)
         → Rests c (state S.Store conn.old) → rows.items ≡ shown_number (counted_to c.kept) ∷ []) }
 {
@@ -193,6 +196,7 @@ fn select_count<S: Alter>(conn: &mut Connection<S>) -> Result<Vec<Row>, Error>
 fn select_lot_count<S: Alter>(conn: &mut Connection<S>) -> Result<Vec<Row>, Error>
     ensures rests { Serves (λ c. c) (state S.Store conn.old) (state S.Store conn.new) result }
     ensures open { StaysOpen (state S.Store conn.old) (state S.Store conn.new) result }
+    ensures reads { OnlyReads (state S.Store conn.old) (state S.Store conn.new) result }
     ensures found { HasCleanDisk (state S.Store conn.new) → IfOk result (λ rows. (c : Content)
         → Rests c (state S.Store conn.old) → rows.items ≡ shown_number (counted_to c.lots) ∷ []) }
 {
@@ -203,6 +207,8 @@ fn select_lot_count<S: Alter>(conn: &mut Connection<S>) -> Result<Vec<Row>, Erro
 pub fn count_kept<S: Alter>(conn: &mut Connection<S>) -> Result<u64, StoreFault>
     ensures rests { Serves (λ c. c) (state S.Store conn.old) (state S.Store conn.new) result }
     ensures open { StaysOpen (state S.Store conn.old) (state S.Store conn.new) result }
+    // Whatever the database is, nothing is changed.
+    ensures reads { OnlyReads (state S.Store conn.old) (state S.Store conn.new) result }
     ensures value { HasCleanDisk (state S.Store conn.new) → IfOk result (λ n. (c : Content)
         → Rests c (state S.Store conn.old) → n ≡ length c.kept) }
     ensures fault { IsSafe Holds (state S.Store conn.old) (state S.Store conn.new) result }
@@ -216,6 +222,8 @@ pub fn count_kept<S: Alter>(conn: &mut Connection<S>) -> Result<u64, StoreFault>
 pub fn count_lots<S: Alter>(conn: &mut Connection<S>) -> Result<u64, StoreFault>
     ensures rests { Serves (λ c. c) (state S.Store conn.old) (state S.Store conn.new) result }
     ensures open { StaysOpen (state S.Store conn.old) (state S.Store conn.new) result }
+    // Whatever the database is, nothing is changed.
+    ensures reads { OnlyReads (state S.Store conn.old) (state S.Store conn.new) result }
     ensures value { HasCleanDisk (state S.Store conn.new) → IfOk result (λ n. (c : Content)
         → Rests c (state S.Store conn.old) → n ≡ length c.lots) }
     ensures fault { IsSafe Holds (state S.Store conn.old) (state S.Store conn.new) result }

@@ -67,10 +67,10 @@ node_back n keeps =
       atime = record { secs = s; nanos = n.atime.nanos };
       mtime = record { secs = bits (node_row n) 9; nanos = n.mtime.nanos };
       ctime = record { secs = bits (node_row n) 11; nanos = n.ctime.nanos };
-    }) (bits_back n.atime.secs keeps.seconds.atime)
+    }) (bits_back n.atime.secs keeps.widths.atime.secs)
     ∙ ap (λ s. record n { mtime = record { secs = s; nanos = n.mtime.nanos }; ctime = record { secs = bits (node_row n) 11; nanos = n.ctime.nanos } })
-    (bits_back n.mtime.secs keeps.seconds.mtime)
-    ∙ ap (λ s. record n { ctime = record { secs = s; nanos = n.ctime.nanos } }) (bits_back n.ctime.secs keeps.seconds.ctime)
+    (bits_back n.mtime.secs keeps.widths.mtime.secs)
+    ∙ ap (λ s. record n { ctime = record { secs = s; nanos = n.ctime.nanos } }) (bits_back n.ctime.secs keeps.widths.ctime.secs)
 
 -- ---- lists
 

@@ -34,3 +34,5 @@ pub mod Decoding
 pub mod LotsRead
 pub mod Once
 pub mod Rests
+pub mod Access
+pub mod OnlyReading

@@ -6,12 +6,12 @@ use Rattle.fuse_tree.specs.Bounds.{block_bytes}
 use Rattle.fuse_tree.specs.Columns.{FitsEntry, FitsHandle}
 use Rattle.fuse_tree.specs.declared.rows.NodeRow.{NodeRow}
 use Rattle.fuse_store_tables.specs.Blocks.{Block}
-use Rattle.fuse_store_tables.specs.Content.{Content, Kept, HasSeconds}
+use Rattle.fuse_store_tables.specs.Content.{Content, Kept, HasWidths}
 
 -- a node's row that is read back as it was written
 pub record KeepsNode (n : NodeRow) : Type 0 where
   pub node : n.node < 2 ^ 63
-  pub seconds : HasSeconds n
+  pub widths : HasWidths n
 
 pub record KeepsRecord (k : Kept) : Type 0 where
   pub id : k.id < 2 ^ 63

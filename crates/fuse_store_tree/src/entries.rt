@@ -108,7 +108,8 @@ pub(crate) fn find_after<S: Alter>(
 fn child_at(row: &Row, dir: u64) -> Result<Child, StoreFault>
     ensures value { IfOk result (λ r. (x : Beside) → x.entry.dir ≡ dir → IfSome x.row (λ n.
         KeepsNode n × (n.node ≡ x.entry.child)) → row.now ≡ shown_beside x → r ≡ x) }
-    ensures fault { IfErr result (λ f. (x : Beside) → row.now ≡ shown_beside x → IsOutside f) }
+    ensures fault { IfErr result (λ f. (x : Beside) → x.entry.dir ≡ dir → IfSome x.row (λ n.
+        KeepsNode n × (n.node ≡ x.entry.child)) → row.now ≡ shown_beside x → IsOutside f) }
     ensures plain { IfErr result IsPlain }
 {
     let cookie = number_at(row, 13)?;
@@ -129,8 +130,8 @@ fn child_at(row: &Row, dir: u64) -> Result<Child, StoreFault>
 fn read_children(alloc: Global, rows: &[Row], dir: u64) -> Result<Vec<Child>, StoreFault>
     ensures value { IfOk result (λ v. (xs : List Beside) → AllByRecursion (IsReadBack dir) xs
         → rows.now ≡ map shown_beside xs → v.items ≡ xs) }
-    ensures fault { IfErr result (λ f. (xs : List Beside) → rows.now ≡ map shown_beside xs
-        → IsOutside f) }
+    ensures fault { IfErr result (λ f. (xs : List Beside) → AllByRecursion (IsReadBack dir) xs
+        → rows.now ≡ map shown_beside xs → IsOutside f) }
     ensures plain { IfErr result IsPlain }
 {
     let mut children = Vec::new(alloc);
@@ -158,7 +159,7 @@ pub(crate) fn find_children<S: Alter>(
         → Inside c (state S.Store conn.old) → Fits c
         → v.items ≡ map (child_in c) (take limit (filter (stands_after dir cookie) c.entries))) }
     ensures fault { HasCleanDisk (state S.Store conn.new) → IfErr result (λ f. (c : Content)
-        → Inside c (state S.Store conn.old) → length c.entries < MOST → IsOutside f) }
+        → Inside c (state S.Store conn.old) → Fits c → length c.entries < MOST → IsOutside f) }
     ensures plain { IfErr result IsPlain }
 {
     if dir >= END {

@@ -28,6 +28,8 @@ pub fn answer_at_rest<S: Alter>(
     ensures serves { ServesAs HeldFor HeldFor (state S.Store conn.old) (state S.Store conn.new)
         result }
     ensures open { StaysOpen (state S.Store conn.old) (state S.Store conn.new) result }
+    // Whatever the database is, nothing is changed.
+    ensures reads { OnlyReads (state S.Store conn.old) (state S.Store conn.new) result }
     ensures value { IfOk result (λ r. ReportsAfter (state S.Store conn.old)
         (state S.Store conn.new) (λ y. r ≡ records_of y.kept id)) }
     ensures fault { IsSafe HeldFor (state S.Store conn.old) (state S.Store conn.new) result }
@@ -46,6 +48,8 @@ pub fn settings_at_rest<S: Alter>(conn: &mut Connection<S>) -> Result<Option<Set
     ensures serves { ServesAs HeldFor HeldFor (state S.Store conn.old) (state S.Store conn.new)
         result }
     ensures open { StaysOpen (state S.Store conn.old) (state S.Store conn.new) result }
+    // Whatever the database is, nothing is changed.
+    ensures reads { OnlyReads (state S.Store conn.old) (state S.Store conn.new) result }
     ensures value { IfOk result (λ r. ReportsAfter (state S.Store conn.old)
         (state S.Store conn.new) (λ y. r ≡ (rowed y.tree).settings)) }
     ensures fault { IsSafe HeldFor (state S.Store conn.old) (state S.Store conn.new) result }
@@ -60,6 +64,7 @@ fn counters_at_rest<S: Alter>(conn: &mut Connection<S>) -> Result<Counters, Stor
     ensures serves { ServesAs HeldFor HeldFor (state S.Store conn.old) (state S.Store conn.new)
         result }
     ensures open { StaysOpen (state S.Store conn.old) (state S.Store conn.new) result }
+    ensures reads { OnlyReads (state S.Store conn.old) (state S.Store conn.new) result }
     ensures value { IfOk result (λ r. ReportsAfter (state S.Store conn.old)
         (state S.Store conn.new) (λ y. r ≡ (rowed y.tree).counters)) }
     ensures fault { IsSafe HeldFor (state S.Store conn.old) (state S.Store conn.new) result }
@@ -74,6 +79,8 @@ pub fn room_at_rest<S: Alter>(conn: &mut Connection<S>) -> Result<Option<Room>, 
     ensures serves { ServesAs HeldFor HeldFor (state S.Store conn.old) (state S.Store conn.new)
         result }
     ensures open { StaysOpen (state S.Store conn.old) (state S.Store conn.new) result }
+    // Whatever the database is, nothing is changed.
+    ensures reads { OnlyReads (state S.Store conn.old) (state S.Store conn.new) result }
     ensures value { IfOk result (λ r. ReportsAfter (state S.Store conn.old)
         (state S.Store conn.new) (λ y. r ≡ room_of y.tree)) }
     ensures fault { IsSafe HeldFor (state S.Store conn.old) (state S.Store conn.new) result }
@@ -88,6 +95,7 @@ fn records_at_rest<S: Alter>(conn: &mut Connection<S>) -> Result<u64, StoreFault
     ensures serves { ServesAs HeldFor HeldFor (state S.Store conn.old) (state S.Store conn.new)
         result }
     ensures open { StaysOpen (state S.Store conn.old) (state S.Store conn.new) result }
+    ensures reads { OnlyReads (state S.Store conn.old) (state S.Store conn.new) result }
     ensures value { IfOk result (λ n. ReportsAfter (state S.Store conn.old)
         (state S.Store conn.new) (λ y. n ≡ length y.kept)) }
     ensures fault { IsSafe HeldFor (state S.Store conn.old) (state S.Store conn.new) result }
@@ -101,6 +109,7 @@ fn lots_at_rest<S: Alter>(conn: &mut Connection<S>) -> Result<u64, StoreFault>
     ensures serves { ServesAs HeldFor HeldFor (state S.Store conn.old) (state S.Store conn.new)
         result }
     ensures open { StaysOpen (state S.Store conn.old) (state S.Store conn.new) result }
+    ensures reads { OnlyReads (state S.Store conn.old) (state S.Store conn.new) result }
     ensures value { IfOk result (λ n. ReportsAfter (state S.Store conn.old)
         (state S.Store conn.new) (λ y. n ≡ length y.lots)) }
     ensures fault { IsSafe HeldFor (state S.Store conn.old) (state S.Store conn.new) result }
@@ -114,6 +123,8 @@ pub fn counts_at_rest<S: Alter>(conn: &mut Connection<S>) -> Result<StoreCounts,
     ensures serves { ServesAs HeldFor HeldFor (state S.Store conn.old) (state S.Store conn.new)
         result }
     ensures open { StaysOpen (state S.Store conn.old) (state S.Store conn.new) result }
+    // Whatever the database is, nothing is changed.
+    ensures reads { OnlyReads (state S.Store conn.old) (state S.Store conn.new) result }
     ensures nodes { IfOk result (λ counts. ReportsAfter (state S.Store conn.old)
         (state S.Store conn.new) (λ y. counts.nodes ≡ (rowed y.tree).counters.nodes)) }
     ensures handles { IfOk result (λ counts. ReportsAfter (state S.Store conn.old)

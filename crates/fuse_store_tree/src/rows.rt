@@ -1,5 +1,5 @@
 // Reads of single rows, as typed values.
-ghost use Rattle.std.specs.Prelude.{◌≡◌, ◌<◌, ◌^◌, pos, map};
+ghost use Rattle.std.specs.Prelude.{◌≡◌, ◌<◌, ◌^◌, pos, map, length};
 ghost use Rattle.std.specs.Prelude.{find, Option, Some, None, IfSome, IfOk, IfErr, OnOk, OnErr};
 ghost use Rattle.std.specs.Prelude.{option_map};
 ghost use Rattle.std.specs.Option.{option_to_list};
@@ -33,7 +33,7 @@ use std::alloc::Global;
 fn read_node(rows: &[Row], number: u64) -> Result<Option<NodeRow>, StoreFault>
     ensures value { IfOk result (λ r. (o : Option Node) → IfSome o (λ n. KeepsNode n
         × (n.node ≡ number)) → rows.now ≡ map node_columns (option_to_list o) → r ≡ o) }
-    ensures fault { IfErr result (λ f. (o : Option Node)
+    ensures fault { IfErr result (λ f. (o : Option Node) → IfSome o KeepsNode
         → rows.now ≡ map node_columns (option_to_list o) → IsOutside f) }
     ensures plain { IfErr result IsPlain }
 {
@@ -47,10 +47,11 @@ fn read_node(rows: &[Row], number: u64) -> Result<Option<NodeRow>, StoreFault>
 }
 
 // The access mode of a number.
+#[tactic(auto, using(crate::proofs::Access::access_small))]
 pub(crate) fn access_at(row: &Row, at: usize) -> Result<AccessMode, StoreFault>
     ensures value { IfOk result (λ r. (h : Handle)
         → column row.now at ≡ Int (pos (access_code h.access)) → r ≡ h.access) }
-    ensures fault { IfErr result (λ f. (h : Handle)
+    ensures fault { IfErr result (λ f. (h : Handle) → at < length row.now
         → column row.now at ≡ Int (pos (access_code h.access)) → IsOutside f) }
     ensures plain { IfErr result IsPlain }
 {
@@ -165,7 +166,7 @@ pub(crate) fn find_node<S: Alter>(
     ensures value { HasCleanDisk (state S.Store conn.new) → IfOk result (λ r. (c : Content)
         → Inside c (state S.Store conn.old) → Fits c → r ≡ at_by node_key number c.nodes) }
     ensures fault { HasCleanDisk (state S.Store conn.new) → IfErr result (λ f. (c : Content)
-        → Inside c (state S.Store conn.old) → IsOutside f) }
+        → Inside c (state S.Store conn.old) → Fits c → IsOutside f) }
     ensures plain { IfErr result IsPlain }
 {
     if number >= END {

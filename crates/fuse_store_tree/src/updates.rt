@@ -6,7 +6,7 @@ ghost use Rattle.sqlite.specs.Held.{state};
 ghost use Rattle.fuse_tree.specs.declared.rows.Change.TheVariants as changes;
 ghost use Rattle.fuse_store_tables.specs.Faults.{IsOutside, IsPlain};
 ghost use Rattle.fuse_store_tree.specs.inner.Changing.{Changed};
-ghost use Rattle.fuse_store_tables.specs.Content.{Content, HasSeconds, set_counter};
+ghost use Rattle.fuse_store_tables.specs.Content.{Content, IsTime, HasWidths, set_counter};
 ghost use Rattle.fuse_tree.specs.Columns.{FitsNode, FitsEntry, FitsHandle, FitsCounters};
 ghost use Rattle.fuse_tree.specs.Columns.{FitsRoom};
 ghost use Rattle.fuse_store_tables.specs.Moves.{Inside, Makes, Stays};
@@ -22,6 +22,7 @@ use fuse_store_tables::{
     update_counter,
 };
 use fuse_tree::{Counters, EntryRow, HandleRow, NodeRow, Room};
+use fuse_wire::Moment;
 use sqlite::{Alter, Connection, Error};
 
 /// Adds an entry with a new cookie.
@@ -257,13 +258,26 @@ pub(crate) fn narrow(number: u32)
     let _ = number;
 }
 
-// The seconds of the times are of 64 bits.
-fn law_of_seconds(row: &NodeRow)
-    ensures { HasSeconds row.now }
+// The seconds of a time are of 64 bits, and its nanoseconds of 32.
+fn law_of_time(time: Moment)
+    ensures { IsTime time }
 {
-    wide(row.atime.secs);
-    wide(row.mtime.secs);
-    wide(row.ctime.secs);
+    wide(time.secs);
+    narrow(time.nanos);
+}
+
+// The columns are of 32 bits, but for the size and the directory above.
+fn law_of_widths(row: &NodeRow)
+    ensures { HasWidths row.now }
+{
+    narrow(row.mode);
+    narrow(row.uid);
+    narrow(row.gid);
+    narrow(row.rdev);
+    law_of_time(row.atime);
+    law_of_time(row.mtime);
+    law_of_time(row.ctime);
+    narrow(row.subdirs);
 }
 
 /// Changes the row of a node, or adds it where there is none with its number.
@@ -275,7 +289,7 @@ pub(crate) fn put_node<S: Alter>(conn: &mut Connection<S>, row: &NodeRow) -> Res
     ensures fault { IfErr result (λ f. IsOutside f) }
     ensures plain { IfErr result IsPlain }
 {
-    law_of_seconds(row);
+    law_of_widths(row);
     match fuse_store_tables::put_node(conn, row) {
         Ok(()) => Ok(()),
         Err(error) => Err(StoreFault::from(error)),

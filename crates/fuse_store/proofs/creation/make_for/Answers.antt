@@ -14,7 +14,7 @@ use Rattle.fuse_store.proofs.creation.make_for.Goals as goal
 pub returns-clause-serves : goal.returns-clause-serves
 returns-clause-serves g c =
     served_so (IsBare no_schema) (IsNew (capacity_for c.args.profile c.args.capacity) c.args.from) (IsBare no_schema) (λ _. HeldFor (new_holding c.args.profile c.args.capacity c.args.from))
-    (made_new c.new_store_is_tree.ensures c.args.profile c.args.capacity c.args.from c.requires c.wide.ensures) (state g.S.Store c.args.conn.now) (state g.S.Store c.make_store.new.conn)
+    (made_new c.new_store_is_tree.ensures c.args.profile c.args.capacity c.args.from c.requires c.law_of_root.ensures) (state g.S.Store c.args.conn.now) (state g.S.Store c.make_store.new.conn)
     c.make_store.result
     (subst (λ room. ServesAs (IsBare no_schema) (IsNew room c.args.from) (state g.S.Store c.args.conn.now) (state g.S.Store c.make_store.new.conn)
     c.make_store.result) c.room_for.ensures.is c.make_store.ensures.serves)

@@ -1,7 +1,10 @@
+use Rattle.std.proofs.Common.{[]}
 use Rattle.sqlite.specs.Held.{state}
 use Rattle.fuse_store_tables.proofs.Looks.{looked, failed}
 use Rattle.fuse_store_tables.proofs.CounterRows.{look_makes, look_finds, peek_serves, peek_finds}
 use Rattle.fuse_store_tables.proofs.Resting.{peeks_open}
+use Rattle.fuse_store_tables.proofs.SelectTexts.{counters_select}
+use Rattle.fuse_store_tables.proofs.Selects.{only_reads}
 use Rattle.fuse_store_tables.proofs.counters.select_counters.Goals as goal
 
 pub returns-clause-looks : goal.returns-clause-looks
@@ -31,3 +34,9 @@ pub returns-clause-open : goal.returns-clause-open
 returns-clause-open g c =
     peeks_open _ _ (λ rows. rows.items) (state g.S.Store c.args.conn.now) (state g.S.Store c.query_all.new.self) c.query_all.result c.query_all.ensures.ok
     c.query_all.ensures.err
+
+pub returns-clause-reads : goal.returns-clause-reads
+returns-clause-reads g c =
+    only_reads _ [] counters_select (λ rows. rows.items) (state g.S.Store c.args.conn.now) (state g.S.Store c.query_all.new.self) c.query_all.result
+    c.query_all.ensures.ok
+    c.query_all.ensures.err c.query_all.ensures.survives

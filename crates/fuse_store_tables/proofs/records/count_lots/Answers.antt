@@ -6,6 +6,7 @@ use Rattle.fuse_store_tables.specs.inner.Following.{rests_told, rests_failed}
 use Rattle.fuse_store_tables.proofs.Joining.{on_err}
 use Rattle.fuse_store_tables.proofs.RecordCounts.{told_value, told_fault}
 use Rattle.fuse_store_tables.specs.inner.Following.{open_told, open_fails}
+use Rattle.fuse_store_tables.proofs.Alone.{reads_told, reads_failed}
 use Rattle.fuse_store_tables.proofs.records.count_lots.Goals as goal
 
 pub returns-in_err-rows-clause-rests : goal.returns-in_err-rows-clause-rests
@@ -33,3 +34,12 @@ returns-in_err-rows-clause-open g c =
 pub returns-clause-open : goal.returns-clause-open
 returns-clause-open g c =
     open_told (state g.S.Store c.args.conn.now) (state g.S.Store c.select_lot_count.new.conn) c.in_ok-rows.rows c.the_count.result c.in_ok-rows.ensures.open
+
+pub returns-in_err-rows-clause-reads : goal.returns-in_err-rows-clause-reads
+returns-in_err-rows-clause-reads g c =
+    reads_failed (state g.S.Store c.args.conn.now) (state g.S.Store c.select_lot_count.new.conn) _ c.from_residual.result c.from_residual.ensures.0
+    c.in_err-rows.ensures.reads
+
+pub returns-clause-reads : goal.returns-clause-reads
+returns-clause-reads g c =
+    reads_told (state g.S.Store c.args.conn.now) (state g.S.Store c.select_lot_count.new.conn) c.in_ok-rows.rows c.the_count.result c.in_ok-rows.ensures.reads

@@ -2,6 +2,8 @@ use Rattle.sqlite.specs.Held.{state}
 use Rattle.fuse_store_tables.proofs.Looks.{looked, failed}
 use Rattle.fuse_store_tables.proofs.KeptRows.{look_makes, look_finds, peek_serves, peek_finds}
 use Rattle.fuse_store_tables.proofs.Resting.{peeks_open}
+use Rattle.fuse_store_tables.proofs.SelectTexts.{record_select}
+use Rattle.fuse_store_tables.proofs.Selects.{only_reads}
 use Rattle.fuse_store_tables.proofs.records.select_kept.Goals as goal
 
 pub returns-clause-looks : goal.returns-clause-looks
@@ -34,3 +36,9 @@ pub returns-clause-open : goal.returns-clause-open
 returns-clause-open g c =
     peeks_open _ _ (λ rows. rows.items) (state g.S.Store c.args.conn.now) (state g.S.Store c.query_all.new.self) c.query_all.result c.query_all.ensures.ok
     c.query_all.ensures.err
+
+pub returns-clause-reads : goal.returns-clause-reads
+returns-clause-reads g c =
+    only_reads _ _ record_select (λ rows. rows.items) (state g.S.Store c.args.conn.now) (state g.S.Store c.query_all.new.self) c.query_all.result
+    c.query_all.ensures.ok
+    c.query_all.ensures.err c.query_all.ensures.survives

@@ -1,6 +1,9 @@
+use Rattle.std.proofs.Common.{[]}
 use Rattle.sqlite.specs.Held.{state}
 use Rattle.fuse_store_tables.proofs.RecordCounts.{lot_count_serves, lot_count_finds}
 use Rattle.fuse_store_tables.proofs.Resting.{peeks_open}
+use Rattle.fuse_store_tables.proofs.SelectTexts.{lot_count_select}
+use Rattle.fuse_store_tables.proofs.Selects.{only_reads}
 use Rattle.fuse_store_tables.proofs.records.select_lot_count.Goals as goal
 
 pub returns-clause-rests : goal.returns-clause-rests
@@ -16,3 +19,9 @@ pub returns-clause-open : goal.returns-clause-open
 returns-clause-open g c =
     peeks_open _ _ (λ rows. rows.items) (state g.S.Store c.args.conn.now) (state g.S.Store c.query_all.new.self) c.query_all.result c.query_all.ensures.ok
     c.query_all.ensures.err
+
+pub returns-clause-reads : goal.returns-clause-reads
+returns-clause-reads g c =
+    only_reads _ [] lot_count_select (λ rows. rows.items) (state g.S.Store c.args.conn.now) (state g.S.Store c.query_all.new.self) c.query_all.result
+    c.query_all.ensures.ok
+    c.query_all.ensures.err c.query_all.ensures.survives

@@ -26,8 +26,8 @@ returns-clause-value g c clean = map_ok c.read_children.result _ _ (λ v told k 
     c.read_children.ensures.value
 
 pub returns-clause-fault : goal.returns-clause-fault
-returns-clause-fault g c clean = map_err c.read_children.result _ _ (λ f told k at few.
+returns-clause-fault g c clean = map_err c.read_children.result _ _ (λ f told k at fits few.
     let es = filter (stands_after c.args.dir c.args.cookie) k.entries in
     let most = c.most_of-most.result in
-    told (map (child_in k) (take most es)) (c.as_slice.ensures.value ∙ c.in_ok-rows.ensures.found clean k at ∙ take_map (shown_child k) most es
+    told (map (child_in k) (take most es)) (all_read_back c.args.dir k (take most es) fits (taken_in_dir c.args.dir c.args.cookie most k.entries)) (c.as_slice.ensures.value ∙ c.in_ok-rows.ensures.found clean k at ∙ take_map (shown_child k) most es
     ∙ shown_all k (take most es))) c.read_children.ensures.fault

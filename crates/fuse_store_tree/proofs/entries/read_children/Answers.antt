@@ -5,9 +5,11 @@ use Rattle.fuse_store_tree.proofs.Children.{child_none}
 use Rattle.fuse_store_tree.proofs.entries.read_children.Goals as goal
 
 pub returns-in-Err-clause-fault : goal.returns-in-Err-clause-fault
-returns-in-Err-clause-fault c xs is =
+returns-in-Err-clause-fault c xs all is =
     let i = c.loop-row.row-index in
-    c.in-Err.ensures.fault (slice_index_or xs i child_none)
+    let low : i < length xs = omega (arith, c.loop-row-test.true, shown_length shown_beside c.args.rows.now xs is) in
+    let back = each_at child_none (IsReadBack c.args.dir) xs i low all in
+    c.in-Err.ensures.fault (slice_index_or xs i child_none) back.0 back.1
     (row_at_is shown_beside child_none c.args.rows.now xs i c.row-item.result is (c.row-item.is ∙ any_default c.args.rows.now i c.row-item.result
     (shown_beside child_none) c.loop-row-test.true))
 

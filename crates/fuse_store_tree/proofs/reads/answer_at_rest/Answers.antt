@@ -1,4 +1,4 @@
-use Rattle.std.proofs.Common.{ap, arith, ◌∙◌}
+use Rattle.std.proofs.Common.{ap, arith, Ok, None, ◌∙◌}
 use Rattle.sqlite.specs.Held.{state}
 use Rattle.fuse_store_tables.specs.Content.{kept_key, at_by}
 use Rattle.fuse_store_tree.specs.Fits.{KeepsRecord}
@@ -6,6 +6,7 @@ use Rattle.fuse_store_tree.specs.Store.{records_of}
 use Rattle.fuse_store_tree.proofs.Looks.{found_is, map_ok, map_err, drop_second}
 use Rattle.fuse_store_tree.proofs.Rests.{content_at, failed_for, read_for, none_kept}
 use Rattle.fuse_store_tables.specs.inner.Following.{open_told, open_fails}
+use Rattle.fuse_store_tree.proofs.OnlyReading.{reads_told, reads_failed, reads_none}
 use Rattle.fuse_store_tree.proofs.reads.answer_at_rest.Goals as goal
 
 pub returns-then-id-ge-END-clause-value : goal.returns-then-id-ge-END-clause-value
@@ -44,3 +45,17 @@ returns-in_err-rows-clause-open g c =
 pub returns-clause-open : goal.returns-clause-open
 returns-clause-open g c =
     open_told (state g.S.Store c.args.conn.now) (state g.S.Store c.select_kept.new.conn) c.in_ok-rows.rows c.read_answer.result c.in_ok-rows.ensures.open
+
+-- ---- of any database
+
+pub returns-then-id-ge-END-clause-reads : goal.returns-then-id-ge-END-clause-reads
+returns-then-id-ge-END-clause-reads g c = reads_none (state g.S.Store c.args.conn.now) (Ok None)
+
+pub returns-in_err-rows-clause-reads : goal.returns-in_err-rows-clause-reads
+returns-in_err-rows-clause-reads g c =
+    reads_failed (state g.S.Store c.args.conn.now) (state g.S.Store c.select_kept.new.conn) _ c.from_residual.result c.from_residual.ensures.0
+    c.in_err-rows.ensures.reads
+
+pub returns-clause-reads : goal.returns-clause-reads
+returns-clause-reads g c =
+    reads_told (state g.S.Store c.args.conn.now) (state g.S.Store c.select_kept.new.conn) c.in_ok-rows.rows c.read_answer.result c.in_ok-rows.ensures.reads

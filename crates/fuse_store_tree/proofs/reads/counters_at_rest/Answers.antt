@@ -5,6 +5,7 @@ use Rattle.fuse_tree.specs.Rows.{rowed}
 use Rattle.fuse_store_tree.proofs.Once.{counted_back}
 use Rattle.fuse_store_tree.proofs.Rests.{counters_held, counters_shown, failed_for, read_for}
 use Rattle.fuse_store_tables.specs.inner.Following.{open_told, open_fails}
+use Rattle.fuse_store_tree.proofs.OnlyReading.{reads_told, reads_failed}
 use Rattle.fuse_store_tree.proofs.reads.counters_at_rest.Goals as goal
 
 pub returns-in_err-rows-clause-serves : goal.returns-in_err-rows-clause-serves
@@ -35,3 +36,14 @@ returns-in_err-rows-clause-open g c =
 pub returns-clause-open : goal.returns-clause-open
 returns-clause-open g c =
     open_told (state g.S.Store c.args.conn.now) (state g.S.Store c.select_counters.new.conn) c.in_ok-rows.rows c.read_counters.result c.in_ok-rows.ensures.open
+
+-- ---- of any database
+
+pub returns-in_err-rows-clause-reads : goal.returns-in_err-rows-clause-reads
+returns-in_err-rows-clause-reads g c =
+    reads_failed (state g.S.Store c.args.conn.now) (state g.S.Store c.select_counters.new.conn) _ c.from_residual.result c.from_residual.ensures.0
+    c.in_err-rows.ensures.reads
+
+pub returns-clause-reads : goal.returns-clause-reads
+returns-clause-reads g c =
+    reads_told (state g.S.Store c.args.conn.now) (state g.S.Store c.select_counters.new.conn) c.in_ok-rows.rows c.read_counters.result c.in_ok-rows.ensures.reads

@@ -4,6 +4,7 @@ use Rattle.fuse_store_tables.specs.inner.Following.{rests_told, rests_then}
 use Rattle.fuse_store_tree.specs.Holding.{HeldFor}
 use Rattle.fuse_store_tree.proofs.Rests.{fails_for}
 use Rattle.fuse_store_tables.specs.inner.Following.{open_told, open_fails, open_then}
+use Rattle.fuse_store_tree.proofs.OnlyReading.{reads_told, reads_failed, reads_then}
 use Rattle.fuse_store_tree.proofs.reads.counts_at_rest.Goals as goal
 
 pub returns-in_err-records-clause-serves : goal.returns-in_err-records-clause-serves
@@ -68,3 +69,37 @@ returns-clause-open g c =
     c.in_ok-records.ensures.open in
     open_told a e c.in_ok-lots.lots (Ok _)
     (open_then a d e c.in_ok-records.records (Ok c.in_ok-lots.lots) two c.in_ok-lots.ensures.serves.survives c.in_ok-lots.ensures.open)
+
+-- ---- of any database
+
+pub returns-in_err-counters-clause-reads : goal.returns-in_err-counters-clause-reads
+returns-in_err-counters-clause-reads g c =
+    reads_failed (state g.S.Store c.args.conn.now) (state g.S.Store c.counters_at_rest.new.conn) _ c.from_residual.result c.from_residual.ensures.0
+    c.in_err-counters.ensures.reads
+
+pub returns-in_err-records-clause-reads : goal.returns-in_err-records-clause-reads
+returns-in_err-records-clause-reads g c =
+    let a = state g.S.Store c.args.conn.now in
+    let b = state g.S.Store c.counters_at_rest.new.conn in
+    let d = state g.S.Store c.records_at_rest.new.conn in
+    reads_failed a d c.in_err-records.field-0.0 c.from_residual-in_err-records.result c.from_residual-in_err-records.ensures.0
+    (reads_then a b d c.in_ok-counters.counters (Err c.in_err-records.field-0.0) c.in_ok-counters.ensures.reads c.in_err-records.ensures.reads)
+
+pub returns-in_err-lots-clause-reads : goal.returns-in_err-lots-clause-reads
+returns-in_err-lots-clause-reads g c =
+    let a = state g.S.Store c.args.conn.now in
+    let b = state g.S.Store c.counters_at_rest.new.conn in
+    let d = state g.S.Store c.records_at_rest.new.conn in
+    let e = state g.S.Store c.lots_at_rest.new.conn in
+    let two = reads_then a b d c.in_ok-counters.counters (Ok c.in_ok-records.records) c.in_ok-counters.ensures.reads c.in_ok-records.ensures.reads in
+    reads_failed a e c.in_err-lots.field-0.0 c.from_residual-in_err-lots.result c.from_residual-in_err-lots.ensures.0
+    (reads_then a d e c.in_ok-records.records (Err c.in_err-lots.field-0.0) two c.in_err-lots.ensures.reads)
+
+pub returns-clause-reads : goal.returns-clause-reads
+returns-clause-reads g c =
+    let a = state g.S.Store c.args.conn.now in
+    let b = state g.S.Store c.counters_at_rest.new.conn in
+    let d = state g.S.Store c.records_at_rest.new.conn in
+    let e = state g.S.Store c.lots_at_rest.new.conn in
+    let two = reads_then a b d c.in_ok-counters.counters (Ok c.in_ok-records.records) c.in_ok-counters.ensures.reads c.in_ok-records.ensures.reads in
+    reads_told a e c.in_ok-lots.lots (Ok _) (reads_then a d e c.in_ok-records.records (Ok c.in_ok-lots.lots) two c.in_ok-lots.ensures.reads)

@@ -17,3 +17,6 @@ returns-clause-fault g c = safe_for (state g.S.Store c.args.conn.now) (state g.S
 
 pub returns-clause-open : goal.returns-clause-open
 returns-clause-open g c = c.count_lots.ensures.open
+
+pub returns-clause-reads : goal.returns-clause-reads
+returns-clause-reads g c = c.count_lots.ensures.reads

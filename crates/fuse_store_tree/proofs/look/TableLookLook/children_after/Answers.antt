@@ -23,4 +23,4 @@ returns-in-Err-clause-fails g c =
     rw c.fail.ensures.conn
     (failed_so a (state g.S.Store c.find_children.new.conn) c.args.self.now.fault c.fail.new.self.fault c.in-Err.fault c.fail.ensures.kept
     c.in-Err.ensures.fails c.in-Err.ensures.plain
-    (λ clean y at. c.in-Err.ensures.fault clean at.holds.held.0 (content_in y a at) (few_entries y a.now at.holds)))
+    (λ clean y at. c.in-Err.ensures.fault clean at.holds.held.0 (content_in y a at) at.holds.held.2.fits (few_entries y a.now at.holds)))

@@ -2,6 +2,8 @@ use Rattle.std.proofs.Common.{refl, sym, ap, subst, ◌∙◌}
 use Rattle.sqlite.specs.Held.{state}
 use Rattle.fuse_tree.specs.Rows.{Rows, IsRowed, row_at}
 use Rattle.fuse_store_tree.proofs.Described.{inside_of, row_told}
+use Rattle.fuse_store_tree.proofs.Turning.{content_in}
+use Rattle.fuse_store_tree.proofs.Sure.{failed_so}
 use Rattle.fuse_store_tree.proofs.look.TableLookLook.node.Goals as goal
 
 pub returns-in-Ok-clause-row : goal.returns-in-Ok-clause-row
@@ -20,3 +22,11 @@ returns-in-Ok-clause-looks g c = record {
       ∙ row_told x at.holds.0 (subst IsRowed (sym is) rowed) at.holds.2 c.args.number
       ∙ ap (λ (r : Rows). row_at r c.args.number) is;
 }
+
+pub returns-in-Err-clause-fails : goal.returns-in-Err-clause-fails
+returns-in-Err-clause-fails g c =
+    let a = state g.S.Store c.args.self.now.conn in
+    rw c.fail.ensures.conn
+    (failed_so a (state g.S.Store c.find_node.new.conn) c.args.self.now.fault c.fail.new.self.fault c.in-Err.fault c.fail.ensures.kept
+    c.in-Err.ensures.fails c.in-Err.ensures.plain
+    (λ clean y at. c.in-Err.ensures.fault clean at.holds.held.0 (content_in y a at) at.holds.held.2.fits))
