@@ -9,6 +9,7 @@ use Rattle.fuse_wire.specs.Bytes.{number_of, IsBytes}
 use Rattle.fuse_wire.specs.Layout.{Part, number, unused, bytes, Lays, Placed, widths}
 use Rattle.fuse_wire.specs.Laws.{LayoutsStand}
 use Rattle.fuse_answer.specs.Entries.{Entry, padding, dirent_parts, StandsBefore, Lists, IsListing, entry_len}
+use Rattle.fuse_answer.specs.PlusEntries.{PlusLists, IsPlusListing}
 use Rattle.fuse_answer.specs.FirstEntry.{name_len, entry_at, leading_entry, entries_by}
 
 -- a payload that ends what is laid out
@@ -99,7 +100,7 @@ leading_cases b =
     ]
 
 -- no bytes have no first entry
-leading_empty : (b : List ℕ) → length b ≤ 0 → leading_entry b ≡ None
+pub leading_empty : (b : List ℕ) → length b ≤ 0 → leading_entry b ≡ None
 leading_empty b few = rw (lt-ltb (length b) 24 (omega (arith, few))) refl
 
 -- the entries that are read, by the first one
@@ -154,4 +155,29 @@ pub not_listing : LayoutsStand → (b : List ℕ) → leading_entry b ≡ None �
 not_listing laws b none some ([], h) = absurd (omega (arith, ap length h, some))
 not_listing laws b none some (e ∷ es, h) =
     let no : ◌≡◌ {A = Option (Entry × List ℕ)} None (Some (e, h.0)) = sym none ∙ leading_back laws e h.0 b h.1 in
+    absurd cc
+
+-- ---- entries of READDIRPLUS
+
+-- the bytes after the first entry of a listing
+pub plus_rest : LayoutsStand → (e : Entry) (rest b : List ℕ) → StandsBefore e rest (drop 128 b) → IsPlusListing b → IsPlusListing rest
+plus_rest laws e rest b s ([], h) =
+    absurd (omega (arith, leading_shorter e rest (drop 128 b) (leading_back laws e rest (drop 128 b) s), length-drop 128 b, ap length h))
+plus_rest laws e rest b s (e' ∷ es, h) =
+    let same : ◌≡◌ {A = Option (Entry × List ℕ)} (Some (e', h.0)) (Some (e, rest)) =
+    sym (leading_back laws e' h.0 (drop 128 b) h.1) ∙ leading_back laws e rest (drop 128 b) s in
+    let follows : h.0 ≡ rest = ap (λ (o : Option (Entry × List ℕ)). option_map_or (λ p. p.1) o []) same in
+    (es, subst (PlusLists es) follows h.2)
+
+pub plus_shorter : LayoutsStand → (e : Entry) (rest b : List ℕ) → StandsBefore e rest (drop 128 b) → length rest < length b
+plus_shorter laws e rest b s = omega (arith, leading_shorter e rest (drop 128 b) (leading_back laws e rest (drop 128 b) s), length-drop 128 b)
+
+pub plus_more : (e : Entry) (rest b : List ℕ) → StandsBefore e rest (drop 128 b) → IsPlusListing rest → IsPlusListing b
+plus_more e rest b s h = (e ∷ h.0, (rest, s, h.1))
+
+-- bytes without a first entry
+pub not_plus : LayoutsStand → (b : List ℕ) → leading_entry (drop 128 b) ≡ None → 0 < length b → IsPlusListing b → ⊥
+not_plus laws b none some ([], h) = absurd (omega (arith, ap length h, some))
+not_plus laws b none some (e ∷ es, h) =
+    let no : ◌≡◌ {A = Option (Entry × List ℕ)} None (Some (e, h.0)) = sym none ∙ leading_back laws e h.0 (drop 128 b) h.1 in
     absurd cc

@@ -1,10 +1,10 @@
 -- What is written is read: a number by the bytes that it was written in, and so each record.
-use Rattle.std.proofs.Common.{◌≡◌, ◌<◌, ◌≤◌, ◌^◌, ℕ, zero, suc, inl, inr, List, [], ◌∷◌, ◌++◌, length, drop, refl, sym, ap, ◌∙◌, arith, rules, w32, to_z, of_z}
+use Rattle.std.proofs.Common.{◌≡◌, ◌<◌, ◌≤◌, ◌^◌, ℕ, zero, suc, inl, inr, List, [], ◌∷◌, ◌++◌, length, drop, Option, Some, None, refl, sym, ap, ◌∙◌, append_assoc, arith, rules, w32, to_z, of_z}
 use Rattle.std.specs.Prelude.{replicate}
 use Rattle.std.specs.Int.{byte_at, bytes_low_first, cast_unsigned}
 use Rattle.std.specs.List.{AllByRecursion}
 use Rattle.std.proofs.lemmas.Int.{of_z-to_z}
-use Rattle.std.proofs.lemmas.List.{append-nil, length-replicate, length-drop, nil_from_length}
+use Rattle.std.proofs.lemmas.List.{append-nil, drop_at, length-replicate, length-drop, nil_from_length}
 use Rattle.fuse_wire.specs.Bytes.{le, number_of, IsBytes}
 use Rattle.fuse_wire.specs.Layout.{Part, number, unused, text, bytes, Lays, form}
 use Rattle.fuse_wire.specs.Laws.{NumbersRead, LayoutsStand}
@@ -17,10 +17,17 @@ use Rattle.fuse_answer.specs.declared.records.WriteOut.{WriteOut}
 use Rattle.fuse_answer.specs.Bodies.{entry_parts, attr_out_parts, open_parts, write_parts, init_parts, entry_bytes, attr_out_bytes, open_bytes, write_bytes}
 use Rattle.fuse_answer.specs.Bodies.{init_bytes}
 use Rattle.fuse_answer.specs.Entries.{Entry, IsNamed, Lists, dirent_parts, entries_bytes}
-use Rattle.fuse_answer.specs.Replies.{AnEntry, Attributes, AnOpen, AWrite, AnInit, Directory, kind_of, of_entry, of_attributes, of_open, of_write, of_init}
-use Rattle.fuse_answer.specs.Replies.{of_directory, of_nothing, IsBody, IsRead, IsOfKind}
+use Rattle.fuse_answer.specs.declared.further.CreateOut.{CreateOut}
+use Rattle.fuse_answer.specs.declared.further.LseekOut.{LseekOut}
+use Rattle.fuse_answer.specs.declared.further.StatfsOut.{StatfsOut}
+use Rattle.fuse_answer.specs.declared.further.XattrOut.{XattrOut}
+use Rattle.fuse_answer.specs.FurtherAnswers.{create_parts, statfs_parts, xattr_parts, lseek_parts, create_bytes, statfs_bytes, xattr_bytes, lseek_bytes}
+use Rattle.fuse_answer.specs.PlusEntries.{PlusEntry, PlusLists, out_bytes, plus_form, plus_bytes}
+use Rattle.fuse_answer.specs.Replies.{AnEntry, ACreate, Attributes, AnOpen, AWrite, AStatfs, AnXattr, AnLseek, AnInit, Data, Directory, DirectoryPlus, kind_of}
+use Rattle.fuse_answer.specs.Replies.{most_of, of_entry, of_create, of_attributes, of_open, of_write, of_statfs, of_xattr, of_lseek, of_init, of_data, of_directory}
+use Rattle.fuse_answer.specs.Replies.{of_directory_plus, of_nothing, IsBody, IsRead, IsOfKind, IsAtMost}
 use Rattle.fuse_answer.specs.Said.{Said, FitsAnswer}
-use Rattle.fuse_answer.proofs.Forms.{len_first}
+use Rattle.fuse_answer.proofs.Forms.{len_first, entry_len}
 
 -- ---- a number by its bytes
 
@@ -98,19 +105,20 @@ low_attr a = record {
   flags = low 4 a.flags;
 }
 
+low_entry_out : EntryOut → EntryOut
+low_entry_out e = record {
+  nodeid = low 8 e.nodeid;
+  generation = low 8 e.generation;
+  entry_valid = low 8 e.entry_valid;
+  attr_valid = low 8 e.attr_valid;
+  entry_valid_nsec = low 4 e.entry_valid_nsec;
+  attr_valid_nsec = low 4 e.attr_valid_nsec;
+  attr = low_attr e.attr;
+}
+
 pub entry_body : NumbersRead → (e : EntryOut) → IsBody AnEntry (entry_bytes e)
-unfolding entry_bytes lowered HasNoText low_attr
-entry_body laws e =
-    let back : EntryOut = record {
-      nodeid = low 8 e.nodeid;
-      generation = low 8 e.generation;
-      entry_valid = low 8 e.entry_valid;
-      attr_valid = low 8 e.attr_valid;
-      entry_valid_nsec = low 4 e.entry_valid_nsec;
-      attr_valid_nsec = low 4 e.attr_valid_nsec;
-      attr = low_attr e.attr;
-    } in
-    (of_entry back, record { of_kind = refl; laid = lays laws (entry_parts e) tt; proper = tt })
+unfolding entry_bytes lowered HasNoText low_attr low_entry_out
+entry_body laws e = (of_entry (low_entry_out e), record { of_kind = refl; laid = lays laws (entry_parts e) tt; proper = tt })
 
 pub attributes_body : NumbersRead → (a : AttrOut) → IsBody Attributes (attr_out_bytes a)
 unfolding attr_out_bytes lowered HasNoText low_attr
@@ -150,6 +158,43 @@ open_body laws o =
     let back : OpenOut = record { fh = low 8 o.fh; open_flags = low 4 o.open_flags; backing_id = to_z w32 bits } in
     (of_open back, record { of_kind = refl; laid = rw same (lays laws (open_parts o) tt); proper = search rules })
 
+pub create_body : NumbersRead → (c : CreateOut) → IsBody ACreate (create_bytes c)
+unfolding create_bytes lowered HasNoText low_attr low_entry_out
+create_body laws c =
+    let bits : ℕ = low 4 (cast_unsigned w32 c.open.backing_id) in
+    let few = (low_is laws 4 (cast_unsigned w32 c.open.backing_id)).0 in
+    let same : of_z w32 (to_z w32 bits) ≡ bits = of_z-to_z w32 bits (omega (arith, few)) in
+    let opened : OpenOut = record { fh = low 8 c.open.fh; open_flags = low 4 c.open.open_flags; backing_id = to_z w32 bits } in (
+      of_create (record { entry = low_entry_out c.entry; «open» = opened }),
+      record { of_kind = refl; laid = rw same (lays laws (create_parts c) tt); proper = search rules },
+    )
+
+pub statfs_body : NumbersRead → (s : StatfsOut) → IsBody AStatfs (statfs_bytes s)
+unfolding statfs_bytes lowered HasNoText
+statfs_body laws s =
+    let back : StatfsOut = record {
+      blocks = low 8 s.blocks;
+      bfree = low 8 s.bfree;
+      bavail = low 8 s.bavail;
+      files = low 8 s.files;
+      ffree = low 8 s.ffree;
+      bsize = low 4 s.bsize;
+      namelen = low 4 s.namelen;
+      frsize = low 4 s.frsize;
+    } in
+    (of_statfs back, record { of_kind = refl; laid = lays laws (statfs_parts s) tt; proper = tt })
+
+pub xattr_body : NumbersRead → (x : XattrOut) → IsBody AnXattr (xattr_bytes x)
+unfolding xattr_bytes lowered HasNoText
+xattr_body laws x = (of_xattr (record { size = low 4 x.size }), record { of_kind = refl; laid = lays laws (xattr_parts x) tt; proper = tt })
+
+pub lseek_body : NumbersRead → (l : LseekOut) → IsBody AnLseek (lseek_bytes l)
+unfolding lseek_bytes lowered HasNoText
+lseek_body laws l = (of_lseek (record { offset = low 8 l.offset }), record { of_kind = refl; laid = lays laws (lseek_parts l) tt; proper = tt })
+
+pub data_body : (b : List ℕ) → IsBody Data b
+data_body b = (of_data b, record { of_kind = refl; laid = ([], sym (append-nil b), refl); proper = tt })
+
 -- ---- the entries of a directory
 
 low_entry : Entry → Entry
@@ -176,12 +221,49 @@ listing_body laws es named =
     let b : List ℕ = entries_bytes es in
     (of_directory b, record { of_kind = refl; laid = ([], sym (append-nil b), refl); proper = (low_entries es, lists laws es named) })
 
+-- ---- the entries of READDIRPLUS
+
+low_plus : List PlusEntry → List Entry
+low_plus [] = []
+low_plus (e ∷ es) = low_entry e.entry ∷ low_plus es
+
+-- what stands before an entry is passed over
+past_out : LayoutsStand → (out : Option EntryOut) (b : List ℕ) → drop 128 (out_bytes out ++ b) ≡ b
+past_out laws None b = drop_at {A = ℕ} (replicate 128 0) b 128 (length-replicate {A = ℕ} 128 0)
+past_out laws (Some e) b = drop_at (entry_bytes e) b 128 (entry_len laws e)
+
+plus_lists : (NumbersRead × LayoutsStand) → (es : List PlusEntry) → AllByRecursion (λ e. IsNamed e.entry) es → PlusLists (low_plus es) (plus_bytes es)
+unfolding low_plus low_entry
+plus_lists laws [] named = refl
+plus_lists laws (e ∷ es) named =
+    let one : List ℕ = form (dirent_parts e.entry) in
+    let whole : drop 128 (plus_bytes (e ∷ es)) ≡ one ++ plus_bytes es =
+    ap (drop 128) (append_assoc (out_bytes e.out) one (plus_bytes es)) ∙ past_out laws.1 e.out (one ++ plus_bytes es) in (
+      plus_bytes es,
+      record { prefix = one; whole = whole; named = named.0; laid = dirent_lays laws.0 e.entry named.0.1 },
+      plus_lists laws es named.1,
+    )
+
+pub plus_body : (NumbersRead × LayoutsStand) → (es : List PlusEntry) → AllByRecursion (λ e. IsNamed e.entry) es → IsBody DirectoryPlus (plus_bytes es)
+plus_body laws es named =
+    let b : List ℕ = plus_bytes es in
+    (of_directory_plus b, record { of_kind = refl; laid = ([], sym (append-nil b), refl); proper = (low_plus es, plus_lists laws es named) })
+
 -- ---- whole answers
 
-pub read : (NumbersRead × LayoutsStand) → (opcode : ℕ) (a : Said) → FitsAnswer a → IsOfKind (kind_of opcode) a → IsRead opcode a
-read laws opcode a fits (inl is) unique small =
-    (is.1.0, record { body = a.body; whole = refl; len = (len_first laws a.errno a.body unique fits.short).fits; unique = small; said = inl (is.0, is.1.1) })
-read laws opcode a fits (inr is) unique small = (
+pub read : (NumbersRead × LayoutsStand) → (opcode size : ℕ) (a : Said) → FitsAnswer a → IsOfKind (kind_of opcode size) a
+    → IsAtMost (most_of opcode size) (length a.body) → IsRead opcode size a
+read laws opcode size a fits (inl is) within unique small = (
+  is.1.0,
+  record {
+    body = a.body;
+    whole = refl;
+    len = (len_first laws a.errno a.body unique fits.short).fits;
+    unique = small;
+    said = inl (is.0, is.1.1, within);
+  },
+)
+read laws opcode size a fits (inr is) within unique small = (
   of_nothing,
   record {
     body = a.body;

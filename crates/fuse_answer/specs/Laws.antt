@@ -11,7 +11,14 @@ use Rattle.fuse_answer.specs.declared.records.OpenOut.{OpenOut}
 use Rattle.fuse_answer.specs.declared.records.WriteOut.{WriteOut}
 use Rattle.fuse_answer.specs.Bodies.{entry_bytes, attr_out_bytes, open_bytes, write_bytes, init_bytes}
 use Rattle.fuse_answer.specs.Entries.{Entry, IsNamed, packed_len, entries_bytes}
-use Rattle.fuse_answer.specs.Replies.{AnEntry, Attributes, AnOpen, AWrite, AnInit, Directory, kind_of, IsBody, IsRead, IsOfKind}
+use Rattle.fuse_answer.specs.declared.further.CreateOut.{CreateOut}
+use Rattle.fuse_answer.specs.declared.further.LseekOut.{LseekOut}
+use Rattle.fuse_answer.specs.declared.further.StatfsOut.{StatfsOut}
+use Rattle.fuse_answer.specs.declared.further.XattrOut.{XattrOut}
+use Rattle.fuse_answer.specs.FurtherAnswers.{create_bytes, statfs_bytes, xattr_bytes, lseek_bytes}
+use Rattle.fuse_answer.specs.PlusEntries.{PlusEntry, plus_bytes}
+use Rattle.fuse_answer.specs.Replies.{AnEntry, ACreate, Attributes, AnOpen, AWrite, AStatfs, AnXattr, AnLseek, AnInit, Data, Directory, DirectoryPlus}
+use Rattle.fuse_answer.specs.Replies.{kind_of, most_of, IsBody, IsRead, IsOfKind, IsAtMost}
 use Rattle.fuse_answer.specs.Said.{Said, FitsAnswer}
 use Rattle.fuse_answer.specs.Wire.{wire}
 
@@ -36,12 +43,20 @@ RecordSizes =
     × ((i : InitOut) → length (init_bytes i) ≡ init_out_size)
     × ((es : List Entry) → length (entries_bytes es) ≡ sum_by packed_len es)
 
--- an answer that fits and is of the opcode's kind is read; each record is a body of its kind, and so are named entries
+-- an answer that fits, is of the kind that is asked and not too long is read; each record is a body of its kind, and so are named
+-- entries, and any bytes as data
 pub record ReadBack : Type 0 where
-  pub said : (opcode : ℕ) (a : Said) → FitsAnswer a → IsOfKind (kind_of opcode) a → IsRead opcode a
+  pub said : (opcode size : ℕ) (a : Said) → FitsAnswer a → IsOfKind (kind_of opcode size) a → IsAtMost (most_of opcode size) (length a.body)
+      → IsRead opcode size a
   pub entry : (e : EntryOut) → IsBody AnEntry (entry_bytes e)
+  pub create : (c : CreateOut) → IsBody ACreate (create_bytes c)
   pub attributes : (a : AttrOut) → IsBody Attributes (attr_out_bytes a)
   pub opened : (o : OpenOut) → IsBody AnOpen (open_bytes o)
   pub written : (w : WriteOut) → IsBody AWrite (write_bytes w)
+  pub statfs : (s : StatfsOut) → IsBody AStatfs (statfs_bytes s)
+  pub xattr : (x : XattrOut) → IsBody AnXattr (xattr_bytes x)
+  pub lseek : (l : LseekOut) → IsBody AnLseek (lseek_bytes l)
   pub init : (i : InitOut) → IsBody AnInit (init_bytes i)
+  pub data_bytes : (b : List ℕ) → IsBody Data b
   pub listing : (es : List Entry) → AllByRecursion IsNamed es → IsBody Directory (entries_bytes es)
+  pub listing_plus : (es : List PlusEntry) → AllByRecursion (λ e. IsNamed e.entry) es → IsBody DirectoryPlus (plus_bytes es)

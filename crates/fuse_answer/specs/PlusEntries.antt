@@ -1,12 +1,12 @@
 -- The entries of a directory as READDIRPLUS answers them (fuse.h: fuse_direntplus; Linux: fuse_direntplus_link takes an entry whose
 -- nodeid is 0 for none).
-use Rattle.std.specs.Prelude.{◌+◌, ℕ, List, [], ◌∷◌, ◌++◌, replicate, Option, Some, None}
+use Rattle.std.specs.Prelude.{◌≡◌, ◌+◌, ℕ, List, [], ◌∷◌, ◌++◌, replicate, drop, Option, Some, None}
 use Rattle.fuse_wire.specs.Layout.{form}
 use Rattle.fuse_answer.specs.declared.records.EntryOut.{EntryOut}
 use Rattle.fuse_answer.specs.declared.plus.PlusDirent.{PlusDirent}
 use Rattle.fuse_answer.specs.Sizes.{entry_out_size}
 use Rattle.fuse_answer.specs.Bodies.{entry_bytes}
-use Rattle.fuse_answer.specs.Entries.{Entry, entry_of, dirent_parts, packed_len}
+use Rattle.fuse_answer.specs.Entries.{Entry, entry_of, dirent_parts, packed_len, StandsBefore}
 
 -- an entry of READDIR, and before it what LOOKUP of its name answers, or nothing
 pub record PlusEntry : Type 0 where
@@ -32,3 +32,11 @@ plus_form e = out_bytes e.out ++ form (dirent_parts e.entry)
 abbrev pub plus_bytes : List PlusEntry → List ℕ
 plus_bytes [] = []
 plus_bytes (e ∷ es) = plus_form e ++ plus_bytes es
+
+-- the bytes are these entries, one after the other, and before each those of a fuse_entry_out, whatever they are
+abbrev pub PlusLists : List Entry → List ℕ → Type 0
+PlusLists [] b = b ≡ []
+PlusLists (e ∷ es) b = (rest : List ℕ) × StandsBefore e rest (drop entry_out_size b) × PlusLists es rest
+
+abbrev pub IsPlusListing : List ℕ → Type 0
+IsPlusListing b = (es : List Entry) × PlusLists es b

@@ -34,3 +34,7 @@ lseek_out_size = 8
 -- where the name of a fuse_dirent begins: FUSE_NAME_OFFSET
 abbrev pub dirent_name_offset : ℕ
 dirent_name_offset = 24
+
+-- of the target of a symbolic link (Linux: fuse_readlink_folio asks for a page less one byte)
+abbrev pub max_target_len : ℕ
+max_target_len = 4095

@@ -25,6 +25,6 @@ pub use notice::{NOTIFY_INC_EPOCH, NOTIFY_RESEND, epoch_notice, resend_notice};
 pub use packing::{PackFault, Packed, pack};
 pub use plus::{PlusDirent, pack_plus};
 pub use records::{Attr, AttrOut, EntryOut, OpenOut, OutHeader, WriteOut};
-pub use reply::{BadAnswer, MAX_ERRNO, Reply, ReplyBody, read_answer};
+pub use reply::{BadAnswer, MAX_ERRNO, MAX_TARGET, Reply, ReplyBody, read_answer};
 pub use unpacking::{Dirents, unpack};
 pub use wire::{head_of, write_answer};

@@ -5,6 +5,7 @@ ghost use Rattle.fuse_answer.specs.Replies.{Told, told, content, Answers, IsProp
 ghost use Rattle.fuse_answer.specs.Replies.{errno_in};
 
 use crate::bodies::body_of;
+use crate::further::{CreateOut, LseekOut, StatfsOut, XattrOut};
 use crate::init_out::InitOut;
 use crate::records::{AttrOut, EntryOut, OpenOut, OutHeader, WriteOut};
 use fuse_wire::{Errno, layouts_stand, numbers_read, u32_at, u64_at};
@@ -12,26 +13,39 @@ use fuse_wire::{Errno, layouts_stand, numbers_read, u32_at, u64_at};
 /// The largest error number that an answer may bear.
 pub const MAX_ERRNO: u32 = 511;
 
+/// The most bytes that the target of a symbolic link has: a page less one.
+pub const MAX_TARGET: u32 = 4095;
+
 /// The body of an answer, by the opcode of the request. Bytes lie in the message.
 #[derive(Clone, Copy, Debug)]
 pub enum ReplyBody<'a> {
-    /// To LOOKUP, MKNOD and MKDIR.
+    /// To LOOKUP, SYMLINK, MKNOD, MKDIR and LINK.
     Entry(EntryOut),
+    /// To CREATE.
+    Create(CreateOut),
     /// To GETATTR and SETATTR.
     Attributes(AttrOut),
     /// To OPEN and OPENDIR.
     Open(OpenOut),
-    /// To WRITE.
+    /// To WRITE and COPY_FILE_RANGE.
     Write(WriteOut),
+    /// To STATFS.
+    Statfs(StatfsOut),
+    /// To GETXATTR and LISTXATTR that ask for no byte.
+    Xattr(XattrOut),
+    /// To LSEEK.
+    Lseek(LseekOut),
     /// To INIT.
     Init(InitOut),
-    /// To READ.
+    /// To READ, READLINK, and GETXATTR and LISTXATTR that ask for bytes.
     Data(&'a [u8]),
     /// To READDIR: the entries that `unpack` takes.
     Directory(&'a [u8]),
+    /// To READDIRPLUS: before each entry the bytes of what LOOKUP answers.
+    DirectoryPlus(&'a [u8]),
     /// To opcodes that the header alone answers, and every error.
     Nothing,
-    /// To an opcode outside the profile.
+    /// To an opcode that has no constant in `fuse_wire::opcode`.
     Unknown(&'a [u8]),
 }
 
@@ -54,9 +68,9 @@ pub enum BadAnswer {
     ErrorRange,
     /// Bytes follow the header of an error.
     BodyAfterError,
-    /// The body of the opcode has another length.
+    /// The body of the opcode has another length, or more bytes than were asked for.
     BodyLength,
-    /// The body isn't whole entries, or a name hasn't 1 to 255 bytes.
+    /// The body of READDIR or READDIRPLUS isn't whole entries, or a name hasn't 1 to 255 bytes.
     BadDirent,
 }
 
@@ -68,10 +82,10 @@ fn errno_at(bytes: &[u8]) -> u32
     u32_at(bytes, 4).wrapping_neg()
 }
 
-// The content of an answer to a request of this opcode, or its first fault.
-fn read(opcode: u32, bytes: &[u8]) -> Result<Reply<'_>, BadAnswer>
-    ensures found { IfOk result (λ r. Answers opcode (told r) bytes.now) }
-    ensures fault { IfErr result (λ m. FirstFault opcode bytes.now m) }
+// The content of an answer to such a request, or its first fault.
+fn read(opcode: u32, size: u32, bytes: &[u8]) -> Result<Reply<'_>, BadAnswer>
+    ensures found { IfOk result (λ r. Answers opcode size (told r) bytes.now) }
+    ensures fault { IfErr result (λ m. FirstFault opcode size bytes.now m) }
 {
     numbers_read();
     if bytes.len() < OutHeader::SIZE {
@@ -96,7 +110,7 @@ fn read(opcode: u32, bytes: &[u8]) -> Result<Reply<'_>, BadAnswer>
             body: ReplyBody::Nothing,
         });
     }
-    let body = body_of(opcode, body)?;
+    let body = body_of(opcode, size, body)?;
     Ok(Reply {
         unique,
         errno: Errno::NONE,
@@ -104,20 +118,22 @@ fn read(opcode: u32, bytes: &[u8]) -> Result<Reply<'_>, BadAnswer>
     })
 }
 
-/// The content of an answer to a request of this opcode, or its first fault. Takes no memory.
-pub fn read_answer(opcode: u32, bytes: &[u8]) -> Result<Reply<'_>, BadAnswer>
+/// The content of an answer to a request of this opcode, or its first fault. `size` is how many
+/// bytes the request asks for: the field of READ, READDIR, READDIRPLUS, GETXATTR and LISTXATTR. For
+/// others it has no meaning. Takes no memory.
+pub fn read_answer(opcode: u32, size: u32, bytes: &[u8]) -> Result<Reply<'_>, BadAnswer>
     requires { silent opcode ≡ false }
 
     // What is read is answered so.
-    ensures found { IfOk result (λ r. Answers opcode (told r) bytes.now) }
+    ensures found { IfOk result (λ r. Answers opcode size (told r) bytes.now) }
     // What is answered is read.
-    ensures only { (t : Told) → Answers opcode t bytes.now → IsOkAnd result (λ r. told r ≡ t) }
-    // `unpack` takes the body of a directory.
+    ensures only { (t : Told) → Answers opcode size t bytes.now → IsOkAnd result (λ r. told r ≡ t) }
+    // The body of a directory is its entries, which `unpack` takes.
     ensures proper { IfOk result (λ r. IsProper (content r.body)) }
 
     // Which fault it is.
-    ensures fault { IfErr result (λ m. FirstFault opcode bytes.now m) }
+    ensures fault { IfErr result (λ m. FirstFault opcode size bytes.now m) }
 {
     layouts_stand();
-    read(opcode, bytes)
+    read(opcode, size, bytes)
 }

@@ -1,9 +1,12 @@
-ghost use Rattle.std.specs.Prelude.{◌≡◌, ◌↔◌, List, IsTrue, IfSome};
+ghost use Rattle.std.specs.Prelude.{◌≡◌, ◌↔◌, List, None, drop, IsTrue, IfSome};
 ghost use Rattle.std.specs.Option.{option_map};
 ghost use Rattle.fuse_answer.specs.Entries.{Entry, entry_of, StandsBefore, Lists, IsListing};
 ghost use Rattle.fuse_answer.specs.FirstEntry.{leading_entry, entries_left};
+ghost use Rattle.fuse_answer.specs.PlusEntries.{IsPlusListing};
+ghost use Rattle.fuse_answer.specs.Sizes.{entry_out_size};
 
 use crate::dirent::{Dirent, MAX_NAME, packed_len};
+use crate::records::EntryOut;
 use fuse_wire::{layouts_stand, u32_at, u64_at};
 
 // The first entry, and the bytes after it. `None` where the bytes begin with no whole entry.
@@ -40,6 +43,35 @@ pub(crate) fn is_listing(body: &[u8]) -> bool
     let mut rest = body;
     while !rest.is_empty() {
         let Some((_dirent, follows)) = split_entry(rest) else {
+            return false;
+        };
+        rest = follows;
+    }
+    true
+}
+
+// The bytes after the first entry of READDIRPLUS. `None` where the bytes begin with no whole one.
+fn split_plus(bytes: &[u8]) -> Option<&[u8]>
+    ensures none { result ≡ None → leading_entry (drop entry_out_size bytes.now) ≡ None }
+    ensures laid { IfSome result (λ rest. (e : Entry) × StandsBefore e rest.now (drop entry_out_size bytes.now)) }
+{
+    layouts_stand();
+    if bytes.len() < EntryOut::SIZE {
+        return None;
+    }
+    let (_entry_out, dirents) = bytes.split_at(EntryOut::SIZE);
+    let (_dirent, rest) = split_entry(dirents)?;
+    Some(rest)
+}
+
+// Whether the bytes are whole entries of READDIRPLUS, one after the other.
+pub(crate) fn is_plus_listing(body: &[u8]) -> bool
+    ensures { IsTrue result ↔ (IsPlusListing body.now) }
+{
+    layouts_stand();
+    let mut rest = body;
+    while !rest.is_empty() {
+        let Some(follows) = split_plus(rest) else {
             return false;
         };
         rest = follows;

@@ -12,4 +12,5 @@ pub mod Encoding
 pub mod Stream
 pub mod Framing
 pub mod FurtherBodies
+pub mod AskedSize
 pub mod inner

@@ -2,6 +2,7 @@
 //! stream into messages.
 #![tactic(auto)]
 
+mod asked_size;
 mod bodies;
 mod class;
 mod decoding;
@@ -16,6 +17,7 @@ mod request;
 mod sayable;
 mod writing;
 
+pub use asked_size::size_asked;
 pub use class::{Class, classify, classify_for, has_zero_unique};
 pub use decoding::{Malformed, decode};
 pub use encoding::{EncodeFault, encode};

@@ -329,15 +329,14 @@ pub record Found (pending : List (Vec ℕ Global)) (unique place : ℕ) (m : Lis
   pub one : Asked
   pub there : place < length pending
   pub owner_is : owner unique (requests_in pending) ≡ Some one
-  pub long : 40 ≤ length m
-  pub opcode : number_of 4 (drop 4 m) ≡ opcode_of one.act
-  pub loud : silent (number_of 4 (drop 4 m)) ≡ false
+  pub owed : IsOwed m
+  pub is_one : asked_at m ≡ one
   pub left : requests_in (remove pending place) ≡ others unique (requests_in pending)
   pub others_pending : ArePending (remove pending place)
 
-pub found : SpelledAt → (pending : List (Vec ℕ Global)) (unique place : ℕ) (m : Vec ℕ Global) → ArePending pending
+pub found : (pending : List (Vec ℕ Global)) (unique place : ℕ) (m : Vec ℕ Global) → ArePending pending
     → StandsFirst unique (requests_in pending) (Some place) → m ≡ get_or pending place m → Found pending unique place m.items
-found spelled pending unique place m p f here =
+found pending unique place m p f here =
     let rs : List Asked = requests_in pending in
     let before = f.0 in let one = f.1 in let after = f.2 in
     let there : place < length pending =
@@ -347,7 +346,6 @@ found spelled pending unique place m p f here =
     ∙ ap (λ (x : List Asked). get_or x place (asked_at [])) f.3 ∙ ap (λ (n : ℕ). get_or (before ++ one ∷ after) n (asked_at [])) (sym f.4)
     ∙ get_or_after before one after (asked_at []) in
     let owed = subst (λ (x : Vec ℕ Global). IsOwed x.items) (sym here) (owed_at pending place m there p.each) in
-    let at = spelled (asked_at m.items) m.items owed.spells in
     let ids : request_ids rs ≡ request_ids before ++ request_id one ∷ request_ids after = ap request_ids f.3 ∙ map-append request_id before (one ∷ after) in
     let less = NoneTwice-less (request_ids before) (request_id one) (request_ids after) (subst NoneTwice ids p.once) in
     let left : requests_in (remove pending place) ≡ before ++ after =
@@ -361,9 +359,8 @@ found spelled pending unique place m p f here =
       one = one;
       there = there;
       owner_is = ap (owner unique) f.3 ∙ owner_of unique before one after f.5 f.6;
-      long = at.long;
-      opcode = at.opcode ∙ ap (λ (r : Asked). opcode_of r.act) says;
-      loud = ap silent at.opcode ∙ owed.loud;
+      owed = owed;
+      is_one = says;
       left = left ∙ sym kept;
       others_pending = record {
         each = subst (All IsOwed) (sym (map-remove (λ (x : Vec ℕ Global). x.items) pending place))

@@ -7,6 +7,7 @@ use Rattle.fuse_wire.specs.Ids.{id_of}
 use Rattle.fuse_wire.specs.Opcodes.{silent}
 use Rattle.fuse_wire.specs.Bits.{fuse_unique_resend}
 use Rattle.fuse_request.specs.Act.{Asked, opcode_of}
+use Rattle.fuse_request.specs.AskedSize.{size_asked}
 use Rattle.fuse_request.specs.Places.{asked_at}
 use Rattle.fuse_answer.specs.Replies.{Told, Answers, FirstFault}
 use Rattle.fuse_keeper.specs.History.{is_in}
@@ -57,12 +58,17 @@ owner unique (r ∷ rs) = if has_unique unique r then Some r else owner unique r
 abbrev pub others : ℕ → List Asked → List Asked
 others unique rs = filter (λ r. not (has_unique unique r)) rs
 
+-- the bytes answer the request
+abbrev pub AnswersIt : Asked → Told → List ℕ → Type 0
+AnswersIt r told answer = Answers (opcode_of r.act) (size_asked r.act) told answer
+
 -- the result for an answer that bears the unique of this pending request, or of none
 abbrev pub TakenOf : Option Asked → List Asked → List Asked → List ℕ → Result (Unit {0}) TakeFault → Type 0
 TakenOf None old new answer result = result ≡ Err Unknown
-TakenOf (Some r) old new answer (Ok _) = ((told : Told) × Answers (opcode_of r.act) told answer) × (new ≡ others (borne answer) old)
+TakenOf (Some r) old new answer (Ok _) = ((told : Told) × AnswersIt r told answer) × (new ≡ others (borne answer) old)
 TakenOf (Some r) old new answer (Err Unknown) = ⊥
-TakenOf (Some r) old new answer (Err (Bad fault)) = FirstFault (opcode_of r.act) answer fault × ((told : Told) → Answers (opcode_of r.act) told answer → ⊥)
+TakenOf (Some r) old new answer (Err (Bad fault)) =
+    FirstFault (opcode_of r.act) (size_asked r.act) answer fault × ((told : Told) → AnswersIt r told answer → ⊥)
 
 -- the messages that are kept, and the requests that they are
 abbrev pub messages_in : List (Vec ℕ Global) → List (List ℕ)

@@ -4,7 +4,8 @@ ghost use Rattle.std.specs.Prelude.{length, map, drop, option_map, slice_get, Al
 ghost use Rattle.std.specs.Prelude.{IfOk, OnOk, OnErr};
 ghost use Rattle.fuse_wire.specs.Bytes.{number_of};
 ghost use Rattle.fuse_wire.specs.Opcodes.{silent};
-ghost use Rattle.fuse_request.specs.Act.{asked};
+ghost use Rattle.fuse_request.specs.Act.{asked, opcode_of};
+ghost use Rattle.fuse_request.specs.AskedSize as sizes;
 ghost use Rattle.fuse_request.specs.Canon.{canon, len_of, sayable};
 ghost use Rattle.fuse_request.specs.declared.header.TheConstants.{MAX_MESSAGE as max_message};
 ghost use Rattle.fuse_answer.specs.declared.records.TheConstants.OutHeader.{SIZE as header_size};
@@ -18,7 +19,7 @@ ghost use Rattle.fuse_sim.specs.inner.Marking.{StandsFirst, marked};
 use byteorder::{ByteOrder, LittleEndian};
 use fuse_answer::{BadAnswer, OutHeader, read_answer};
 use fuse_request::opcode::is_silent;
-use fuse_request::{Request, encode, spelled_at};
+use fuse_request::{Request, decode, encode, size_asked, spelled_at};
 use fuse_wire::{Id, Memory, UNIQUE_RESEND, u32_at, u64_at};
 use std::alloc::Global;
 use std::marker::Model;
@@ -151,6 +152,19 @@ fn place_of(pending: &[Vec<u8>], unique: u64) -> Option<usize>
     None
 }
 
+// The opcode of a pending message, and how many bytes of its answer it asks for.
+fn asks(message: &[u8]) -> (u32, u32)
+    requires { IsOwed message.now }
+    ensures opcode { result.0 ≡ opcode_of (asked_at message.now).act }
+    ensures size { result.1 ≡ sizes.size_asked (asked_at message.now).act }
+{
+    spelled_at();
+    match decode(message) {
+        Ok(request) => (u32_at(message, 4), size_asked(&request.op)),
+        Err(_) => unreachable!(),
+    }
+}
+
 impl Kernel {
     /// Nothing is pending. Allocates nothing.
     pub fn new(alloc: Global) -> Kernel
@@ -212,8 +226,9 @@ impl Kernel {
         Ok(messages)
     }
 
-    /// Takes an answer: the request of its unique is pending no more. An `Err` leaves the kernel as
-    /// it was. Allocates nothing.
+    /// Takes an answer: the request of its unique is pending no more. Its body has the form that the
+    /// request's opcode and size want, as `read_answer` says. An `Err` leaves the kernel as it was.
+    /// Allocates nothing.
     pub fn take(&mut self, answer: &[u8]) -> Result<(), TakeFault>
         // Bytes that are no header are refused first.
         ensures short { length answer.now < header_size
@@ -229,8 +244,8 @@ impl Kernel {
         let Some(place) = place_of(self.pending.as_slice(), u64_at(answer, 8)) else {
             return Err(TakeFault::Unknown);
         };
-        let opcode = u32_at(self.pending[place].as_slice(), 4);
-        match read_answer(opcode, answer) {
+        let (opcode, size) = asks(self.pending[place].as_slice());
+        match read_answer(opcode, size, answer) {
             Ok(_) => {
                 let _taken = self.pending.remove(place);
                 Ok(())

@@ -10,6 +10,7 @@ use Rattle.fuse_request.specs.declared.request.Op.{Op}
 use Rattle.fuse_request.specs.declared.request.Op.TheVariants as ops
 use Rattle.fuse_request.specs.Act.{Act, Asked, act, opcode_of}
 use Rattle.fuse_request.specs.Act as acts
+use Rattle.fuse_request.specs.AskedSize.{size_asked}
 use Rattle.fuse_answer.specs.Replies.{IsRead}
 use Rattle.fuse_init.specs.declared.settings.Settings.{Settings}
 use Rattle.fuse_init.specs.declared.profile.Profile.{Profile}
@@ -151,8 +152,8 @@ answered s request now (Ok p) tree tells = subst (λ (q : Planned). Meets s q (d
 answered s request now (Err fault) tree tells = tt
 
 pub read : (s : State) (request : Asked) (now : Moment) (result : Result Planned PlanFault) → AnswersAreRead → Tree s
-    → IfOk result (λ p. Meets s p (done s request now)) → IfOk result (λ p. IsRead (opcode_of request.act) p.answer)
-read s request now (Ok p) law tree meets = subst (IsRead (opcode_of request.act)) (sym meets.answer) (law s request now tree)
+    → IfOk result (λ p. Meets s p (done s request now)) → IfOk result (λ p. IsRead (opcode_of request.act) (size_asked request.act) p.answer)
+read s request now (Ok p) law tree meets = subst (IsRead (opcode_of request.act) (size_asked request.act)) (sym meets.answer) (law s request now tree)
 read s request now (Err fault) law tree meets = tt
 
 pub no_tree : (q : Planned) (result : Result Planned PlanFault)

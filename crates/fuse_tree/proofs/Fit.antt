@@ -1,13 +1,12 @@
 -- An answer fits and is read: what the operations' lemmas share.
-use Rattle.std.proofs.Common.{◌≡◌, ◌≤◌, ◌<◌, ◌&&◌, ℕ, Bool, true, false, inl, inr, if◌then◌else◌, nat_lt, List, [], length, Option, Some, None, refl, sym}
+use Rattle.std.proofs.Common.{◌≡◌, ◌≤◌, ◌<◌, ◌&&◌, ℕ, Bool, true, false, inl, inr, if◌then◌else◌, nat_lt, List, [], length, Option, Some, None, refl}
 use Rattle.std.proofs.Common.{arith}
 use Rattle.std.specs.Prelude.{nat_le}
 use Rattle.std.proofs.lemmas.Bool.{ltb-true, leb-true}
-use Rattle.std.proofs.lemmas.List.{append-nil}
 use Rattle.fuse_wire.specs.declared.errno.Errno.{Errno}
 use Rattle.fuse_wire.specs.Errnos.{einval, enametoolong}
 use Rattle.fuse_wire.specs.Bounds.{max_error_number}
-use Rattle.fuse_answer.specs.Replies.{Kind, Data, Nothing, Unknown, of_data, of_nothing, of_unknown, IsBody, IsOfKind}
+use Rattle.fuse_answer.specs.Replies.{Kind, Nothing, of_nothing, IsBody, IsOfKind, IsAtMost}
 use Rattle.fuse_answer.specs.Said.{FitsAnswer}
 use Rattle.fuse_tree.specs.State.{State, is_odd_name, name_fault}
 use Rattle.fuse_tree.specs.Done.{Done, refuse, refuse_for, answer}
@@ -67,13 +66,25 @@ name_reads s false false d so = so
 pub refused_name_reads : {kind : Kind} (s : State) (name : List ℕ) (d : Done) → Reads kind d → Reads kind (refuse_for s (name_fault name) d)
 refused_name_reads s name d so = name_reads s (nat_lt 255 (length name)) (is_odd_name name) d so
 
--- the body of an answer without one, and of READ
+-- the body of an answer without one
 pub no_body : IsBody Nothing []
 no_body = (of_nothing, record { of_kind = refl; laid = refl; proper = tt })
 
-pub data_body : (b : List ℕ) → IsBody Data b
-data_body b = (of_data b, record { of_kind = refl; laid = ([], sym (append-nil b), refl); proper = tt })
+-- ---- it isn't longer than was asked for
 
--- any bytes are a body of no kind that is known
-pub any_body : (b : List ℕ) → IsBody Unknown b
-any_body b = (of_unknown b, record { of_kind = refl; laid = ([], sym (append-nil b), refl); proper = tt })
+pub record Short (most : Option ℕ) (d : Done) : Type 0 where
+  pub within : IsAtMost most (length d.said.body)
+
+empty_short : (most : Option ℕ) → IsAtMost most 0
+empty_short None = tt
+empty_short (Some n) = omega arith
+
+pub refused_short : (most : Option ℕ) (s : State) (errno : Errno) → Short most (refuse s errno)
+refused_short most s errno = record { within = empty_short most }
+
+pub nothing_short : (most : Option ℕ) (s : State) → Short most (answer s [])
+nothing_short most s = record { within = empty_short most }
+
+pub chosen_short : (most : Option ℕ) (b : Bool) (d e : Done) → Short most d → Short most e → Short most (if b then d else e)
+chosen_short most true d e one two = one
+chosen_short most false d e one two = two

@@ -5,9 +5,10 @@ use Rattle.fuse_request.specs.declared.request.InHeader.{InHeader}
 use Rattle.fuse_request.specs.declared.request.InitIn.{InitIn}
 use Rattle.fuse_request.specs.Act.{Act, Asked, opcode_of}
 use Rattle.fuse_request.specs.Act as acts
+use Rattle.fuse_request.specs.AskedSize.{size_asked}
 use Rattle.fuse_answer.specs.Said.{FitsAnswer}
 use Rattle.fuse_answer.specs.Laws.{ReadBack, RecordSizes}
-use Rattle.fuse_answer.specs.Replies.{AnEntry, Attributes, kind_of}
+use Rattle.fuse_answer.specs.Replies.{AnEntry, Attributes, kind_of, most_of}
 use Rattle.fuse_init.specs.Agree.{agree}
 use Rattle.fuse_tree.specs.declared.rows.EntryRow.{EntryRow}
 use Rattle.fuse_tree.specs.State.{State, profile_of, Node, Shape, is_dir, is_named, node_at, name_fault}
@@ -16,16 +17,17 @@ use Rattle.fuse_tree.specs.Done.{attr_of, entry_of, attr_out_of, Done, answer}
 use Rattle.fuse_tree.specs.Keeping.{agreement_of, keeps, valid_of, attr_valid_of, absent_entry}
 use Rattle.fuse_tree.specs.Do.{lookup_absent, lookup_child, lookup_entry, lookup_named, lookup, getattr, do_act, do_at, names_node, done, do_agreed, do_offered, offer_of}
 use Rattle.fuse_tree.specs.Renaming.{asking}
-use Rattle.fuse_tree.proofs.Fit.{Fits, refused, answered, chosen, refused_for, Reads, refused_reads, answered_reads, chosen_reads, refused_name_reads, no_body}
+use Rattle.fuse_tree.proofs.Fit.{Fits, refused, answered, chosen, refused_for, Reads, refused_reads, answered_reads, chosen_reads, refused_name_reads, no_body, Short, refused_short, nothing_short}
+use Rattle.fuse_tree.proofs.Fit.{chosen_short}
 use Rattle.fuse_tree.proofs.MakingFits.{mkdir_fits, mknod_fits, mkdir_reads, mknod_reads}
 use Rattle.fuse_tree.proofs.SettingFits.{setattr_fits, setattr_reads}
-use Rattle.fuse_tree.proofs.WritingFits.{write_fits, read_fits, write_reads, read_reads}
+use Rattle.fuse_tree.proofs.WritingFits.{write_fits, read_fits, write_reads, read_reads, read_short}
 use Rattle.fuse_tree.proofs.OpeningFits.{open_fits, open_dir_fits, release_fits, release_dir_fits, open_reads, open_dir_reads, release_reads, release_dir_reads}
-use Rattle.fuse_tree.proofs.FurtherFits.{further_fits, further_reads}
+use Rattle.fuse_tree.proofs.FurtherFits.{further_fits, further_reads, further_short}
 use Rattle.fuse_tree.proofs.InitFits.{init_fits, init_reads}
 use Rattle.fuse_tree.specs.Plan.{AnswersAreRead}
 use Rattle.fuse_tree.proofs.RemovingFits.{unlink_fits, rmdir_fits, unlink_reads, rmdir_reads}
-use Rattle.fuse_tree.proofs.ListingFits.{read_dir_fits, read_dir_reads}
+use Rattle.fuse_tree.proofs.ListingFits.{read_dir_fits, read_dir_reads, read_dir_short}
 use Rattle.fuse_tree.proofs.RenameFits.{rename_fits, rename_reads}
 
 -- ---- LOOKUP
@@ -113,7 +115,7 @@ fits sizes s request now = offered_fits sizes s request now (offer_of request.ac
 -- ---- and it is read
 
 act_reads : ReadBack → (s : State) (header : InHeader) (act : Act) (now : Moment) (n : Node) → Shape s
-    → Reads (kind_of (opcode_of act)) (do_act s header act now n)
+    → Reads (kind_of (opcode_of act) (size_asked act)) (do_act s header act now n)
 act_reads back s header (acts.Lookup name) now n tree = lookup_reads back s name n
 act_reads back s header (acts.Getattr flags fh) now n tree = getattr_reads back s n
 act_reads back s header (acts.Setattr set) now n tree = setattr_reads back s set now n
@@ -121,7 +123,7 @@ act_reads back s header (acts.Mkdir mode umask name) now n tree = mkdir_reads ba
 act_reads back s header (acts.Mknod mode rdev umask name) now n tree = mknod_reads back s header mode rdev name now n
 act_reads back s header (acts.Unlink name) now n tree = unlink_reads s name now n
 act_reads back s header (acts.Rmdir name) now n tree = rmdir_reads s name now n
-act_reads back s header (acts.Read asked) now n tree = read_reads s asked n
+act_reads back s header (acts.Read asked) now n tree = read_reads back s asked n
 act_reads back s header (acts.Write fh offset write_flags lock_owner flags payload) now n tree = write_reads back s fh offset payload now n
 act_reads back s header (acts.OpenFile flags open_flags) now n tree = open_reads back s flags n
 act_reads back s header (acts.OpenDir flags open_flags) now n tree = open_dir_reads back s n
@@ -130,25 +132,51 @@ act_reads back s header (acts.Release x) now n tree = release_reads s x.fh n
 act_reads back s header (acts.ReleaseDir x) now n tree = release_dir_reads s x.fh n
 act_reads back s header (acts.Rename new_dir old_name new_name) now n tree = rename_reads s (asking new_dir 0 old_name new_name now) n
 act_reads back s header (acts.Rename2 new_dir flags old_name new_name) now n tree = rename_reads s (asking new_dir flags old_name new_name now) n
-act_reads back s header (acts.Unsupported opcode body) now n tree = further_reads s header opcode body now n
+act_reads back s header (acts.Unsupported opcode body) now n tree = further_reads back s header opcode body now n tree
 act_reads back s header _ now n tree = refused_reads s _ refl
 
-at_reads : ReadBack → (s : State) (request : Asked) (now : Moment) (n : Option Node) → Shape s → Reads (kind_of (opcode_of request.act)) (do_at s request now n)
+at_reads : ReadBack → (s : State) (request : Asked) (now : Moment) (n : Option Node) → Shape s → Reads (kind_of (opcode_of request.act) (size_asked request.act)) (do_at s request now n)
 at_reads back s request now None tree = refused_reads s _ refl
 at_reads back s request now (Some n) tree = act_reads back s request.header request.act now n tree
 
 -- DESTROY alone looks at no node
-agreed_reads : (s : State) (a : Act) (d : Done) → Reads (kind_of (opcode_of a)) d → Reads (kind_of (opcode_of a)) (if names_node a then d else answer s [])
+agreed_reads : (s : State) (a : Act) (d : Done) → Reads (kind_of (opcode_of a) (size_asked a)) d → Reads (kind_of (opcode_of a) (size_asked a)) (if names_node a then d else answer s [])
 agreed_reads s acts.Destroy d so = answered_reads s [] no_body
 agreed_reads s _ d so = so
 
-offered_reads : ReadBack → (s : State) (request : Asked) (now : Moment) (a : Act) → Reads (kind_of (opcode_of a)) (do_agreed s request now)
-    → Reads (kind_of (opcode_of a)) (do_offered s request now (offer_of a))
+offered_reads : ReadBack → (s : State) (request : Asked) (now : Moment) (a : Act) → Reads (kind_of (opcode_of a) (size_asked a)) (do_agreed s request now)
+    → Reads (kind_of (opcode_of a) (size_asked a)) (do_offered s request now (offer_of a))
 offered_reads back s request now (acts.Init offer) so = init_reads back s (profile_of s) offer
 offered_reads back s request now _ so = chosen_reads (is_some s.settings) _ _ so (refused_reads s _ refl)
+
+-- ---- and it isn't longer than was asked for
+
+abbrev most_for : Act → Option ℕ
+most_for a = most_of (opcode_of a) (size_asked a)
+
+act_short : RecordSizes → (s : State) (header : InHeader) (act : Act) (now : Moment) (n : Node) → Short (most_for act) (do_act s header act now n)
+act_short sizes s header (acts.Read asked) now n = read_short s asked n
+act_short sizes s header (acts.ReadDir asked) now n = read_dir_short sizes s asked n
+act_short sizes s header (acts.Unsupported opcode body) now n = further_short sizes s header opcode body now n
+act_short sizes s header _ now n = record { within = tt }
+
+at_short : RecordSizes → (s : State) (request : Asked) (now : Moment) (n : Option Node) → Short (most_for request.act) (do_at s request now n)
+at_short sizes s request now None = refused_short (most_for request.act) s _
+at_short sizes s request now (Some n) = act_short sizes s request.header request.act now n
+
+agreed_short : RecordSizes → (s : State) (request : Asked) (now : Moment) → Short (most_for request.act) (do_agreed s request now)
+agreed_short sizes s request now =
+    chosen_short (most_for request.act) (names_node request.act) _ _ (at_short sizes s request now (node_at s request.header.nodeid))
+    (nothing_short (most_for request.act) s)
+
+offered_short : (s : State) (request : Asked) (now : Moment) (a : Act) → Short (most_for a) (do_agreed s request now)
+    → Short (most_for a) (do_offered s request now (offer_of a))
+offered_short s request now (acts.Init offer) so = record { within = tt }
+offered_short s request now a so = chosen_short (most_for a) (is_some s.settings) _ _ so (refused_short (most_for a) s _)
 
 pub answers_read : ReadBack → RecordSizes → AnswersAreRead
 unfolding done
 answers_read back sizes s request now tree =
-    back.said (opcode_of request.act) _ (fits sizes s request now)
+    back.said (opcode_of request.act) (size_asked request.act) _ (fits sizes s request now)
     (offered_reads back s request now request.act (agreed_reads s request.act _ (at_reads back s request now (node_at s request.header.nodeid) tree.shape)))
+    (offered_short s request now request.act (agreed_short sizes s request now)).within

@@ -1,23 +1,27 @@
 -- What is answered to READDIRPLUS fits, and is read.
-use Rattle.std.proofs.Common.{◌≡◌, ◌≤◌, ℕ, not, nat_lt, List, [], ◌∷◌, length, Option, Some, None, refl, sym, ap, ◌∙◌, arith}
-use Rattle.std.specs.List.{sum_by}
+use Rattle.std.proofs.Common.{◌≡◌, ◌≤◌, ℕ, not, nat_lt, List, [], ◌∷◌, length, map, Option, Some, None, refl, sym, ap, ◌∙◌, arith}
+use Rattle.std.specs.List.{AllByRecursion, sum_by}
 use Rattle.std.proofs.lemmas.Bool.{ltb-false}
 use Rattle.std.proofs.lemmas.List.{length-append, length-replicate, append-nil}
 use Rattle.std.proofs.lemmas.List.Sums.{sum_by-cons}
 use Rattle.fuse_wire.specs.Layout.{form}
+use Rattle.fuse_wire.specs.declared.errno.Errno.{Errno}
 use Rattle.fuse_request.specs.declared.request.ReadIn.{ReadIn}
 use Rattle.fuse_answer.specs.declared.records.EntryOut.{EntryOut}
-use Rattle.fuse_answer.specs.Entries.{Entry, packed_len, dirent_parts}
+use Rattle.fuse_answer.specs.Entries.{Entry, IsNamed, packed_len, dirent_parts}
 use Rattle.fuse_answer.specs.PlusEntries.{PlusEntry, plus_len, out_bytes, plus_form, plus_bytes}
-use Rattle.fuse_answer.specs.Laws.{RecordSizes}
-use Rattle.fuse_answer.specs.Replies.{Unknown}
+use Rattle.fuse_answer.specs.Laws.{ReadBack, RecordSizes}
+use Rattle.fuse_answer.specs.Replies.{DirectoryPlus}
 use Rattle.fuse_tree.specs.Bounds.{read_limit}
-use Rattle.fuse_tree.specs.State.{State, Node, is_dir, is_named}
+use Rattle.fuse_tree.specs.State.{State, Node, Shape, is_dir, is_named}
+use Rattle.fuse_tree.specs.Done.{refuse}
 use Rattle.fuse_tree.specs.Handles.{is_open}
-use Rattle.fuse_tree.specs.Listing.{longest_by, first_fits_by}
-use Rattle.fuse_tree.specs.PlusListing.{plus_following, list_plus, read_dir_plus}
-use Rattle.fuse_tree.proofs.Fit.{Fits, Reads, refused, answered, chosen, chosen_then, refused_reads, answered_reads, chosen_reads, any_body}
+use Rattle.fuse_tree.specs.Listing.{longest_by, first_fits_by, entries_following}
+use Rattle.fuse_tree.specs.PlusListing.{plus_entry, plus_following, list_plus, read_dir_plus}
+use Rattle.fuse_tree.proofs.Fit.{Fits, Reads, refused, answered, chosen, chosen_then, refused_reads, answered_reads, chosen_reads, Short, refused_short, chosen_short}
 use Rattle.fuse_tree.proofs.Prefixes.{longest}
+use Rattle.fuse_tree.proofs.Listing.{all_named}
+use Rattle.fuse_tree.proofs.Shown.{all_taken}
 
 -- ---- how many bytes they take
 
@@ -59,11 +63,34 @@ read_dir_plus_fits sizes s asked n =
 
 -- ---- it is read
 
-pub read_dir_plus_reads : (s : State) (asked : ReadIn) (n : Node) → Reads Unknown (read_dir_plus s asked n)
-read_dir_plus_reads s asked n =
+-- what LOOKUP answers changes no name
+plus_named : (s : State) (es : List Entry) → AllByRecursion IsNamed es → AllByRecursion (λ e. IsNamed e.entry) (map (plus_entry s) es)
+plus_named s [] named = tt
+plus_named s (e ∷ es) named = (named.0, plus_named s es named.1)
+
+list_plus_reads : ReadBack → (s : State) (es : List PlusEntry) (size : ℕ) → AllByRecursion (λ e. IsNamed e.entry) es → Reads DirectoryPlus (list_plus s es size)
+list_plus_reads back s es size named =
+    chosen_reads (not (first_fits_by plus_len es size)) _ _ (refused_reads s _ refl)
+    (answered_reads s _ (back.listing_plus (longest_by plus_len es size) (all_taken (λ e. IsNamed e.entry) _ es named)))
+
+pub read_dir_plus_reads : ReadBack → (s : State) (asked : ReadIn) (n : Node) → Shape s → Reads DirectoryPlus (read_dir_plus s asked n)
+read_dir_plus_reads back s asked n tree =
     chosen_reads (not (is_open s.handles asked.fh n.number)) _ _ (refused_reads s _ refl)
     (chosen_reads (not (is_dir n.mode)) _ _ (refused_reads s _ refl)
     (chosen_reads (nat_lt read_limit asked.size) _ _ (refused_reads s _ refl)
     (chosen_reads (not (is_named s n.number)) _ _ (refused_reads s _ refl)
-    (chosen_reads (not (first_fits_by plus_len (plus_following s n.number asked.offset) asked.size)) _ _ (refused_reads s _ refl)
-    (answered_reads s _ (any_body _))))))
+    (list_plus_reads back s (plus_following s n.number asked.offset) asked.size
+    (plus_named s (entries_following s n.number asked.offset) (all_named s n.number asked.offset tree))))))
+
+list_plus_short : RecordSizes → (s : State) (es : List PlusEntry) (size : ℕ) → Short (Some size) (list_plus s es size)
+list_plus_short sizes s es size =
+    chosen_short _ (not (first_fits_by plus_len es size)) _ _ (refused_short (Some size) s _)
+    (record { within = omega (arith, plus_len_is sizes (longest_by plus_len es size), (longest plus_len es size).fits) })
+
+pub read_dir_plus_short : RecordSizes → (s : State) (asked : ReadIn) (n : Node) → Short (Some asked.size) (read_dir_plus s asked n)
+read_dir_plus_short sizes s asked n =
+    let refused : (errno : Errno) → Short (Some asked.size) (refuse s errno) = λ errno. refused_short (Some asked.size) s errno in
+    chosen_short _ (not (is_open s.handles asked.fh n.number)) _ _ (refused _)
+    (chosen_short _ (not (is_dir n.mode)) _ _ (refused _)
+    (chosen_short _ (nat_lt read_limit asked.size) _ _ (refused _)
+    (chosen_short _ (not (is_named s n.number)) _ _ (refused _) (list_plus_short sizes s (plus_following s n.number asked.offset) asked.size))))

@@ -1,17 +1,19 @@
 -- What WRITE and READ answer fits, and is read.
-use Rattle.std.proofs.Common.{◌+◌, ◌==◌, ℕ, not, List, length, take, drop, [], refl, sym, arith}
+use Rattle.std.proofs.Common.{◌+◌, ◌==◌, ℕ, not, List, length, take, drop, Some, refl, arith}
 use Rattle.std.specs.Prelude.{max, nat_lt}
 use Rattle.std.proofs.lemmas.Bool.{ltb-false}
-use Rattle.std.proofs.lemmas.List.{length-take, append-nil}
+use Rattle.std.proofs.lemmas.List.{length-take}
+use Rattle.fuse_wire.specs.declared.errno.Errno.{Errno}
 use Rattle.fuse_wire.specs.declared.moment.Moment.{Moment}
 use Rattle.fuse_request.specs.declared.request.ReadIn.{ReadIn}
 use Rattle.fuse_answer.specs.Laws.{ReadBack, RecordSizes}
-use Rattle.fuse_answer.specs.Replies.{Data, AWrite, IsBody, of_data}
+use Rattle.fuse_answer.specs.Replies.{Data, AWrite}
 use Rattle.fuse_tree.specs.State.{State, terms_of, Node, is_dir}
 use Rattle.fuse_tree.specs.Space.{room_of, has_room}
+use Rattle.fuse_tree.specs.Done.{refuse}
 use Rattle.fuse_tree.specs.Handles.{access_at}
 use Rattle.fuse_tree.specs.Writing.{may_write, with_bytes, write, may_read, read}
-use Rattle.fuse_tree.proofs.Fit.{Fits, Reads, refused, answered, chosen, chosen_then, refused_reads, answered_reads, chosen_reads}
+use Rattle.fuse_tree.proofs.Fit.{Fits, Reads, refused, answered, chosen, chosen_then, refused_reads, answered_reads, chosen_reads, Short, refused_short, chosen_short}
 
 pub write_fits : RecordSizes → (s : State) (fh offset : ℕ) (payload : List ℕ) (now : Moment) (n : Node) → Fits (write s fh offset payload now n)
 write_fits sizes s fh offset payload now n =
@@ -38,13 +40,17 @@ write_reads back s fh offset payload now n =
     (chosen_reads (not (has_room (room_of s) (length n.content) (max (length n.content) (offset + length payload)))) _ _ (refused_reads s _ refl)
     (answered_reads (with_bytes s offset payload now n.number) _ (back.written (record { size = length payload }))))))
 
--- any bytes are a body of data
-data_body : (b : List ℕ) → IsBody Data b
-data_body b = (of_data b, record { of_kind = refl; laid = ([], sym (append-nil b), refl); proper = tt })
-
-pub read_reads : (s : State) (asked : ReadIn) (n : Node) → Reads Data (read s asked n)
-read_reads s asked n =
+pub read_reads : ReadBack → (s : State) (asked : ReadIn) (n : Node) → Reads Data (read s asked n)
+read_reads back s asked n =
     chosen_reads (not (may_read (access_at s.handles asked.fh n.number))) _ _ (refused_reads s _ refl)
     (chosen_reads (is_dir n.mode) _ _ (refused_reads s _ refl)
     (chosen_reads (nat_lt 1048576 asked.size) _ _ (refused_reads s _ refl)
-    (answered_reads s _ (data_body (take asked.size (drop asked.offset n.content))))))
+    (answered_reads s _ (back.data_bytes (take asked.size (drop asked.offset n.content))))))
+
+pub read_short : (s : State) (asked : ReadIn) (n : Node) → Short (Some asked.size) (read s asked n)
+read_short s asked n =
+    let refused : (errno : Errno) → Short (Some asked.size) (refuse s errno) = λ errno. refused_short (Some asked.size) s errno in
+    chosen_short _ (not (may_read (access_at s.handles asked.fh n.number))) _ _ (refused _)
+    (chosen_short _ (is_dir n.mode) _ _ (refused _)
+    (chosen_short _ (nat_lt 1048576 asked.size) _ _ (refused _)
+    (record { within = omega (arith, length-take asked.size (drop asked.offset n.content)) })))

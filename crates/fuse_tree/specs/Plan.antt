@@ -2,6 +2,7 @@
 use Rattle.std.specs.Prelude.{◌≡◌, ◌<◌, ℕ, Bool, true, false, List, Option, Some, None, Result, Ok, Err}
 use Rattle.fuse_wire.specs.declared.moment.Moment.{Moment}
 use Rattle.fuse_request.specs.Act.{Asked, opcode_of}
+use Rattle.fuse_request.specs.AskedSize.{size_asked}
 use Rattle.fuse_answer.specs.Replies.{IsRead}
 use Rattle.fuse_answer.specs.Said.{FitsAnswer}
 use Rattle.fuse_init.specs.declared.profile.Profile.{Profile}
@@ -65,6 +66,6 @@ RowsTellState = (s other : State) → rowed s ≡ rowed other → s ≡ other
 abbrev pub AnswersFit : Type 0
 AnswersFit = (s : State) (request : Asked) (now : Moment) → FitsAnswer (done s request now).said
 
--- an answer in a tree is read as one to the request's opcode
+-- an answer in a tree is read as one to the request
 abbrev pub AnswersAreRead : Type 0
-AnswersAreRead = (s : State) (request : Asked) (now : Moment) → Tree s → IsRead (opcode_of request.act) (done s request now).said
+AnswersAreRead = (s : State) (request : Asked) (now : Moment) → Tree s → IsRead (opcode_of request.act) (size_asked request.act) (done s request now).said

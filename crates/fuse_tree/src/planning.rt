@@ -1,5 +1,6 @@
 ghost use Rattle.std.specs.Prelude.{◌≡◌, true, None, IfOk, IfErr, OnErr};
 ghost use Rattle.fuse_request.specs.Act.{asked, act, opcode_of};
+ghost use Rattle.fuse_request.specs.AskedSize as sizes;
 ghost use Rattle.fuse_answer.specs.Replies.{IsRead};
 ghost use Rattle.fuse_tree.specs.State.{State, Tree};
 ghost use Rattle.fuse_tree.specs.Rows.{rowed};
@@ -80,9 +81,10 @@ pub fn plan<L: Look>(
     // Over the rows of a tree it agrees with `done`.
     ensures meets { L.is_clean look.new → (s : State) → Tree s → L.sees look.old (rowed s)
         → IfOk result (λ p. Meets s p (done s (asked request.now) now)) }
-    // Its answer is read as one to the request's opcode.
+    // Its answer is read as one to the request.
     ensures read { L.is_clean look.new → (s : State) → Tree s → L.sees look.old (rowed s)
-        → IfOk result (λ p. IsRead (opcode_of (act request.now.op)) p.answer) }
+        → IfOk result (λ p. IsRead (opcode_of (act request.now.op))
+        (sizes.size_asked (act request.now.op)) p.answer) }
     // `NotATree` comes only over rows of no tree.
     ensures not_a_tree { IfErr result (λ f. f ≡ PlanFault.NotATree → L.is_clean look.new
         → (s : State) → Tree s → L.sees look.old (rowed s) → ⊥) }

@@ -7,7 +7,7 @@ use std::test::*;
 #[test]
 fn size_of_write(rt: HostRuntime) {
     let bytes = b"\x18\0\0\0\0\0\0\0\x0c\0\0\0\0\0\0\0\x03\0\0\0\x01\0\0\0";
-    let size = match read_answer(WRITE, bytes) {
+    let size = match read_answer(WRITE, 0, bytes) {
         Ok(
             Reply {
                 unique: 12,
@@ -47,9 +47,9 @@ const NAMELESS: &[u8] = b"\x30\0\0\0\0\0\0\0\x06\0\0\0\0\0\0\0\
 const PADDED: &[u8] = b"\x30\0\0\0\0\0\0\0\x06\0\0\0\0\0\0\0\
     \x01\0\0\0\0\0\0\0\x01\0\0\0\0\0\0\0\x01\0\0\0\x04\0\0\0.\0\0\0\0\0\0\x01";
 
-// Whether `read_answer` finds this fault, or none.
+// Whether `read_answer` finds this fault, or none, where 32 bytes are asked for.
 fn has_fault(opcode: u32, bytes: &[u8], fault: Option<BadAnswer>) -> bool {
-    !is_silent(opcode) && read_answer(opcode, bytes).err() == fault
+    !is_silent(opcode) && read_answer(opcode, 32, bytes).err() == fault
 }
 
 // Whether it is read as an answer with this error alone, to the request of id 4.
@@ -57,7 +57,7 @@ fn has_error(opcode: u32, bytes: &[u8], number: u32) -> bool {
     if is_silent(opcode) {
         return false;
     }
-    match read_answer(opcode, bytes) {
+    match read_answer(opcode, 0, bytes) {
         Ok(
             Reply {
                 unique: 4,
