@@ -9,7 +9,7 @@ use Rattle.fuse_keeper.specs.KeeperState.{KeeperState}
 use Rattle.fuse_store.specs.declared.table_keeper.TableKeeper.{TableKeeper}
 use Rattle.fuse_keeper.specs.declared.fault.StoreFault.{StoreFault}
 use Rattle.fuse_store_tables.specs.Moves.{IsSafe}
-use Rattle.fuse_store_tree.specs.Knowing.{IsSafeKnown, RefusesKnown}
+use Rattle.fuse_store_tree.specs.Knowing.{IsSafeKnown}
 use Rattle.fuse_store_tree.specs.Holding.{HeldFor}
 use Rattle.fuse_tree.specs.TheTree.{tree_of}
 use Rattle.fuse_store.specs.Opening.{OpenRefused}
@@ -22,10 +22,6 @@ LiesInMemory {S} g = (conn : Held S) → HasCleanDisk (state g conn) × IsTrue (
 -- the connection of a keeper
 abbrev pub conn_of : {P S : Type 0} → (g : Ghosts S) → TableKeeper P S g → Held S
 conn_of g k = k.look.conn
-
--- a refusal of what the keeper held leaves it alone
-abbrev pub RefusesKept : {P S X : Type 0} → (g : Ghosts S) → (old new : TableKeeper P S g) → Result X StoreFault → Type 0
-RefusesKept g old new r = RefusesKnown old.look.known (state g old.look.conn) (state g new.look.conn) r
 
 abbrev pub keeper_told : {P S : Type 0} → (p : Profile) → (g : Ghosts S) → TableKeeper P S g → KeeperState (tree_of p)
 keeper_told p g k = table_told p (LiesInMemory g) k.look.known (state g k.look.conn) k.lot k.failed

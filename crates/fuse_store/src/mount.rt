@@ -8,7 +8,7 @@ ghost use Rattle.fuse_tree.specs.State.{profile_of};
 ghost use Rattle.fuse_store_tables.specs.Content.{Content, LeftAs};
 ghost use Rattle.fuse_store_tables.specs.Faults.{IsOutside, IsPlain};
 ghost use Rattle.fuse_store_tables.specs.Moves.{RestsAs, ServesAs, StaysOpen, IsSafe};
-ghost use Rattle.fuse_store_tables.specs.Moves.{LeavesAlone};
+ghost use Rattle.fuse_store_tables.specs.Moves.{LeavesAlone, RollsBack};
 ghost use Rattle.fuse_store_tables.specs.Clearing.{IsBegun};
 ghost use Rattle.fuse_store_tables.specs.Opening.{IsStored, IsLaid, HasMeta};
 ghost use Rattle.fuse_store_tables.specs.Saying.{Says, IsTabled, IsRefusal};
@@ -38,6 +38,7 @@ pub(crate) fn begin_mount<S: Alter>(conn: &mut Connection<S>) -> Result<(), Stor
         → (state S.Store conn.new).in_transaction ≡ false }
     ensures refused { IfErr result (λ f. IsRefusal f
         → LeavesAlone (state S.Store conn.old) (state S.Store conn.new)) }
+    ensures undone { OnErr result (RollsBack (state S.Store conn.old) (state S.Store conn.new)) }
 {
     clearing();
     rows_in_order();

@@ -244,7 +244,7 @@ impl<P: Profiled, S: Alter> TableKeeper<P, S> {
 
 impl<P: Profiled, S: Alter + Drop> Keeper for TableKeeper<P, S> {
     ghost use Rattle.fuse_tree.specs.TheTree.{tree_of};
-    ghost use Rattle.std.specs.Prelude.{◌⊎◌, length, true, false, is_err, IfOk, IfErr, OnOk};
+    ghost use Rattle.std.specs.Prelude.{◌⊎◌, length, true, false, is_err, IfOk, IfErr, OnOk, OnErr};
     ghost use Rattle.sqlite.specs.State.{HasCleanDisk};
     ghost use Rattle.fuse_tree.specs.Rows.{Rows};
     ghost use Rattle.fuse_keeper.specs.KeeperState.{AnswersNoMore, Called, Looked};
@@ -254,10 +254,11 @@ impl<P: Profiled, S: Alter + Drop> Keeper for TableKeeper<P, S> {
     ghost use Rattle.fuse_keeper.specs.Group.{entries_of, ids_of};
     ghost use Rattle.fuse_keeper.specs.Stands.{Records, CountsRecords};
     ghost use Rattle.fuse_store_tables.specs.Faults.{IsPlain};
-    ghost use Rattle.fuse_store_tables.specs.Moves.{LeavesAlone, OnlyReads};
+    ghost use Rattle.fuse_store_tables.specs.Moves.{LeavesAlone, OnlyReads, RollsBack};
+    ghost use Rattle.fuse_store_tree.specs.Committing.{CommitsOnce};
     ghost use Rattle.fuse_store_tables.specs.Saying.{IsRefusal};
     ghost use Rattle.fuse_store.specs.TableKeeper.{keeper_told, conn_of};
-    ghost use Rattle.fuse_store.specs.TableKeeper.{FaultsOutside, FaultsOutsideWithLot, RefusesKept};
+    ghost use Rattle.fuse_store.specs.TableKeeper.{FaultsOutside, FaultsOutsideWithLot};
     ghost use Rattle.fuse_store.specs.inner.Laws.{one_held};
 
     ghost model = { tree_of P.PROFILE };
@@ -306,8 +307,16 @@ impl<P: Profiled, S: Alter + Drop> Keeper for TableKeeper<P, S> {
         // No transaction is left open.
         ensures ended { HasCleanDisk (state S.Store (conn_of S.Store self.new))
             → (state S.Store (conn_of S.Store self.new)).in_transaction ≡ false }
-        // A refusal of what was held leaves it alone.
-        ensures refused { RefusesKept S.Store self.old self.new result }
+        // A refusal leaves the store alone, whatever it is.
+        ensures refused { IfErr result (λ f. IsRefusal f
+            → LeavesAlone (state S.Store (conn_of S.Store self.old))
+            (state S.Store (conn_of S.Store self.new))) }
+        // Where the call fails, what was committed before is seen, whatever it is.
+        ensures undone { OnErr result (RollsBack (state S.Store (conn_of S.Store self.old))
+            (state S.Store (conn_of S.Store self.new))) }
+        // It commits once at most: after a crash all of it is seen, or nothing.
+        ensures once { CommitsOnce (state S.Store (conn_of S.Store self.old))
+            (state S.Store (conn_of S.Store self.new)) result }
     {
         one_holding();
         calls_perform::<P>();
@@ -345,6 +354,8 @@ impl<P: Profiled, S: Alter + Drop> Keeper for TableKeeper<P, S> {
             → (state S.Store (conn_of S.Store self.new)).in_transaction ≡ false }
         ensures refused { IfErr result (λ f. IsRefusal f
             → LeavesAlone (state S.Store (conn_of S.Store self.old))
+            (state S.Store (conn_of S.Store self.new))) }
+        ensures undone { OnErr result (RollsBack (state S.Store (conn_of S.Store self.old))
             (state S.Store (conn_of S.Store self.new))) }
     {
         one_holding();

@@ -35,6 +35,8 @@ use Rattle.fuse_store_tables.proofs.RowLemmas.{cast_int}
 use Rattle.fuse_store_tables.proofs.Apart.{AreApart, blocks_apart}
 use Rattle.fuse_store_tables.proofs.Updating.{changing, edits, some_changed, edited_as}
 use Rattle.fuse_store_tables.proofs.BlockRows.{given_block, block_terms, tests_block, found_one, same_number, both_are}
+use Rattle.sqlite_resolve.specs.Compile.{first}
+use Rattle.fuse_store_tables.proofs.Edits.{IsEditText}
 
 abbrev slot : Block → ℕ
 slot b = b.slot
@@ -120,6 +122,10 @@ update_plain : IsPlain (understood store_schema update_text)
 unfolding understood everything
 update_plain = (refl, refl)
 
+pub update_edit : IsEditText (first update_text)
+unfolding first everything
+update_edit = tt
+
 cast_block : (b : Block) → cast_row blocks (block_row b) ≡ block_row b
 cast_block b = rw (cast_int (pos b.slot), cast_int (pos b.node), cast_int (pos b.block)) refl
 
@@ -167,7 +173,7 @@ module _ (node block : ℕ) (bytes : List ℕ) where
   pub sets : (old new : State) (r : Result Bool Error) → (HasCleanDisk new → RanAny update_text (given_block node block bytes) old new r)
       → Survives old new (CommitsBy update_text (given_block node block bytes) old) → Makes (set_block node block bytes) old new r
   sets = makes_any Holds store_schema (λ c d h. h.schema) update_text (given_block node block bytes) (Update 3 (changing 5 block_terms update_terms)) update_is
-      update_plain refl (λ c. Holds (set_block node block bytes c)) changed
+      update_plain refl update_edit (λ c. Holds (set_block node block bytes c)) changed
 
   pub sets_some : (old new : State) (r : Result Bool Error) → (HasCleanDisk new → RanAny update_text (given_block node block bytes) old new r)
       → HasCleanDisk new → IfOk r (λ any. (c : Content) → Inside c old → any ≡ is_some (block_at node block c.blocks))

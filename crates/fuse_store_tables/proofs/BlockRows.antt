@@ -40,6 +40,9 @@ use Rattle.fuse_store_tables.proofs.Reading.{plain_query, answered, looks, read,
 use Rattle.fuse_store_tables.proofs.RowLemmas.{cast_int, cast_null, inserted}
 use Rattle.fuse_store_tables.proofs.Apart.{AreApart, blocks_apart}
 use Rattle.fuse_store_tables.proofs.Deletes.{picking, picks}
+use Rattle.sqlite_resolve.specs.Compile.{first}
+use Rattle.fuse_store_tables.proofs.Edits.{IsEditText}
+use Rattle.fuse_store_tables.proofs.Queries.{IsSelectText}
 
 -- ---- a new block
 
@@ -56,6 +59,10 @@ insert_is = refl
 insert_plain : IsPlain (understood store_schema insert_text)
 unfolding understood everything
 insert_plain = (refl, refl)
+
+pub insert_edit : IsEditText (first insert_text)
+unfolding first everything
+insert_edit = tt
 
 abbrev pub given_block : ℕ → ℕ → List ℕ → Row
 given_block node block bytes = Int (pos node) ∷ Int (pos block) ∷ Blob bytes ∷ []
@@ -93,7 +100,7 @@ pub adds : (node block : ℕ) (bytes : List ℕ) (old new : State) (r : Result (
     → (HasCleanDisk new → Ran insert_text (given_block node block bytes) old new r)
     → Survives old new (CommitsBy insert_text (given_block node block bytes) old) → Makes (with_block node block bytes) old new r
 adds node block bytes = makes Holds store_schema (λ c d h. h.schema) insert_text (given_block node block bytes) (Insert 3 (Values terms 4)) insert_is
-    insert_plain refl (λ c. Holds (with_block node block bytes c))
+    insert_plain refl insert_edit (λ c. Holds (with_block node block bytes c))
     (inserts node block bytes)
 
 -- ---- the blocks of a node from a number on
@@ -111,6 +118,10 @@ blocks_is = refl
 blocks_plain : IsPlain (understood store_schema blocks_text)
 unfolding understood everything
 blocks_plain = (refl, refl)
+
+pub blocks_edit : IsEditText (first blocks_text)
+unfolding first everything
+blocks_edit = tt
 
 tests_blocks : (node from : ℕ) (b : Block) → list_all (holds ((Int (pos node) ∷ Int (pos from) ∷ []) ∷ block_row b ∷ [])) blocks_terms ≡ is_from node from b
 unfolding binary
@@ -133,7 +144,7 @@ pub removes_blocks : (node from : ℕ) (old new : State) (r : Result (Unit {0}) 
     ∷ []) old new r)
     → Survives old new (CommitsBy blocks_text (Int (pos node) ∷ Int (pos from) ∷ []) old) → Makes (without_blocks_from node from) old new r
 removes_blocks node from = makes Holds store_schema (λ c d h. h.schema) blocks_text (Int (pos node) ∷ Int (pos from) ∷ []) (Delete 3 (picking 5 blocks_terms))
-    blocks_is blocks_plain refl
+    blocks_is blocks_plain refl blocks_edit
     (λ c. Holds (without_blocks_from node from c)) (blocks_gone node from)
 
 -- ---- one block
@@ -163,6 +174,10 @@ select_is = refl
 select_plain : IsPlain (understood store_schema select_text)
 unfolding understood everything
 select_plain = (refl, refl)
+
+pub select_reads : IsSelectText (first select_text)
+unfolding first everything
+select_reads = (_, refl)
 
 select_unlisted : reads_listing store_schema select_text ≡ false
 unfolding understood everything
@@ -206,7 +221,7 @@ pub look_makes : {X : Type 0} (items : X → List Row) (node block : ℕ) (old n
     → (HasCleanDisk new → IfOk r (λ x. Shown select_text (Int (pos node) ∷ Int (pos block) ∷ []) old new (items x)))
     → (HasCleanDisk new → IfErr r (FailsToQuery select_text (Int (pos node) ∷ Int (pos block) ∷ []) old new))
     → Survives old new (CommitsShowing select_text (Int (pos node) ∷ Int (pos block) ∷ []) old) → Makes (λ c. c) old new r
-look_makes items node block = looks Holds store_schema (λ c d h. h.schema) select_text (Int (pos node) ∷ Int (pos block) ∷ []) _ select_is select_plain items
+look_makes items node block = looks Holds store_schema (λ c d h. h.schema) select_text (Int (pos node) ∷ Int (pos block) ∷ []) _ select_is select_plain select_reads items
 
 pub look_finds : {X : Type 0} (items : X → List Row) (node block : ℕ) (old new : State) (r : Result X Error)
     → (HasCleanDisk new → IfOk r (λ x. Shown select_text (Int (pos node) ∷ Int (pos block) ∷ []) old new (items x)))

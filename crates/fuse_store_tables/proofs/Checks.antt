@@ -69,7 +69,7 @@ checks_as Known More P Q a b (Err f) so p = record {
 -- a test that passed, with what was made of it
 pub checks_told : {X Y : Type 0} (Known P : Content → Type 0) (a b : State) (x : X) (y : Y) → ChecksIf Known P a b (Ok x) → ChecksIf Known P a b (Ok y)
 checks_told Known P a b x y p = record {
-  looks = record { stays = p.looks.stays; turns = p.looks.turns };
+  looks = record { stays = p.looks.stays; within = p.looks.within; turns = p.looks.turns };
   reads = record { commits = p.reads.commits; same = p.reads.same };
   within = record { survives = p.within.survives; kept = p.within.kept; within = p.within.within };
   whole = p.whole;
@@ -82,7 +82,7 @@ pub checks_failed : {X Y : Type 0} (Known More P Q : Content → Type 0) (a b : 
     → ((c : Content) → More c → Q c → Known c × P c) → ChecksIf {X = X} Known P a b (Err e) → ChecksIf More Q a b r
 checks_failed Known More P Q a b e (Ok y) same so p = absurd same
 checks_failed Known More P Q a b e (Err f) same so p = record {
-  looks = record { stays = p.looks.stays; turns = tt };
+  looks = record { stays = p.looks.stays; within = tt; turns = tt };
   reads = record { commits = p.reads.commits; same = tt };
   within = record { survives = p.within.survives; kept = p.within.kept; within = tt };
   whole = λ clean. tt;
@@ -96,7 +96,7 @@ pub query_failed : {X Y : Type 0} (Known P : Content → Type 0) (a b : State) (
     → Takes {X = X} IsLaid IsLaid a b (Err e) → OnlyReads {X = X} a b (Err e) → StaysWithin {X = X} a b (Err e) → ChecksIf Known P a b r
 query_failed Known P a b e (Ok y) same looks reads within = absurd same
 query_failed Known P a b e (Err f) same looks reads within = record {
-  looks = record { stays = looks.stays; turns = tt };
+  looks = record { stays = looks.stays; within = tt; turns = tt };
   reads = record { commits = reads.commits; same = tt };
   within = record { survives = within.survives; kept = within.kept; within = tt };
   whole = λ clean. tt;
@@ -109,7 +109,7 @@ pub query_told : {X Y : Type 0} (Known P : Content → Type 0) (a b : State) (x 
     → Tests (λ c. Known c → P c) a b r
     → (HasCleanDisk b → IfErr r (λ f. (c : Content) → InsideAs (IsLaid c) a → Known c → P c → IsOutside f)) → IfErr r IsPlain → ChecksIf Known P a b r
 query_told Known P a b x (Ok y) looks reads within whole fault plain = record {
-  looks = record { stays = looks.stays; turns = looks.turns };
+  looks = record { stays = looks.stays; within = looks.within; turns = looks.turns };
   reads = record { commits = reads.commits; same = reads.same };
   within = record { survives = within.survives; kept = within.kept; within = within.within };
   whole = whole;
@@ -117,7 +117,7 @@ query_told Known P a b x (Ok y) looks reads within whole fault plain = record {
   plain = plain;
 }
 query_told Known P a b x (Err f) looks reads within whole fault plain = record {
-  looks = record { stays = looks.stays; turns = tt };
+  looks = record { stays = looks.stays; within = tt; turns = tt };
   reads = record { commits = reads.commits; same = tt };
   within = record { survives = within.survives; kept = within.kept; within = tt };
   whole = whole;
@@ -152,7 +152,7 @@ pub nothing_asked : {Y : Type 0} (Known P : Content → Type 0) (a : State) (e :
     → ((c : Content) → Known c → IsOutside e) → ChecksIf Known P a a r
 nothing_asked Known P a e (Ok y) same plain out = absurd same
 nothing_asked Known P a e (Err f) same plain out = record {
-  looks = record { stays = record { survives = no_step a _; kept = λ clean at. still }; turns = tt };
+  looks = record { stays = record { survives = no_step a _; kept = λ clean inside. still }; within = tt; turns = tt };
   reads = record { commits = record { survives = no_step a _; kept = λ clean. still }; same = tt };
   within = record { survives = no_step a _; kept = λ clean inside. still; within = tt };
   whole = λ clean. tt;

@@ -33,6 +33,8 @@ use Rattle.fuse_store_tables.specs.Moves.{Inside, Makes}
 use Rattle.fuse_store_tables.proofs.Keyed.{found_rows, row_cmp_nat}
 use Rattle.fuse_store_tables.proofs.Reading.{looks, read, truth_of, both_true}
 use Rattle.fuse_store_tables.proofs.Ordered.{ordered_from, ways_in_order, rises_from}
+use Rattle.sqlite_resolve.specs.Compile.{first}
+use Rattle.fuse_store_tables.proofs.Queries.{IsSelectText}
 
 abbrev pub text : List ℕ
 text =
@@ -63,6 +65,10 @@ is = refl
 plain : IsPlain (understood store_schema text)
 unfolding understood everything
 plain = (refl, refl)
+
+selects : IsSelectText (first text)
+unfolding first everything
+selects = (_, refl)
 
 unlisted : reads_listing store_schema text ≡ false
 unfolding understood everything
@@ -178,7 +184,7 @@ pub makes : {X : Type 0} (items : X → List Row) (dir cookie limit : ℕ) (old 
     → (HasCleanDisk new → IfOk r (λ x. Shown text (params dir cookie limit) old new (items x)))
     → (HasCleanDisk new → IfErr r (FailsToQuery text (params dir cookie limit) old new))
     → Survives old new (CommitsShowing text (params dir cookie limit) old) → Makes (λ c. c) old new r
-makes items dir cookie limit = looks Holds store_schema (λ c d h. h.schema) text (params dir cookie limit) _ is plain items
+makes items dir cookie limit = looks Holds store_schema (λ c d h. h.schema) text (params dir cookie limit) _ is plain selects items
 
 pub shows : {X : Type 0} (items : X → List Row) (dir cookie limit : ℕ) (old new : State) (r : Result X Error)
     → (HasCleanDisk new → IfOk r (λ x. Shown text (params dir cookie limit) old new (items x)))

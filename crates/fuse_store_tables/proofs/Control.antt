@@ -12,6 +12,7 @@ use Rattle.sqlite_tied.specs.Compute.{everything}
 use Rattle.sqlite.specs.Listing.{understood}
 use Rattle.sqlite.specs.State.{State, HasCleanDisk, Survives, KeepsCommit, Executes, ExecutesIn, CommitsBy, IsUnchanged, IsRolledBack, Fails, IsNotRun}
 use Rattle.sqlite.specs.State.{RunsCommand, shows_rows, MayCommit, MayWrite, MayChange, IsMisplaced, IsNoStatement, text_of}
+use Rattle.sqlite.specs.State.{FailsToQuery, FailsToShow}
 use Rattle.sqlite.specs.Clock.{timed}
 use Rattle.sqlite.specs.Calls.{IsWrite}
 use Rattle.sqlite_resolve.specs.declared.compiled.Compiled.{Compiled}
@@ -72,6 +73,16 @@ keeps_failed old new sql params e (inr h) = elim (cases_Bool (shows_rows false h
   | inl shows ↦ keeps_unchanged old new (rw shows at h.2).1
   | inr runs ↦ keeps_command old new sql _ e h.0 (rw runs at h.2)
 ]
+
+-- a query that failed
+pub keeps_query : (old new : State) (sql : List ℕ) (params : Row) (e : Error) → FailsToQuery sql params old new e → KeepsCommit old new
+unfolding FailsToQuery
+keeps_query old new sql params e (inl h) = keeps_not_run old new sql params e h
+keeps_query old new sql params e (inr h) = shown h.0.returning h.2
+  where
+    shown : (r : _) → FailsToShow old new sql h.0 (timed params h.0.formats h.1.now) e r → KeepsCommit old new
+    shown None it = keeps_unchanged old new it.3
+    shown (Some what) it = keeps_command old new sql _ e h.0 it
 
 -- ---- the three texts
 

@@ -34,6 +34,9 @@ use Rattle.fuse_store_tables.proofs.Reading.{plain_query, answered, looks, read,
 use Rattle.fuse_store_tables.proofs.Resting.{peeks}
 use Rattle.fuse_store_tables.proofs.Updating.{changing, changes}
 use Rattle.fuse_store_tables.proofs.Ordered.{ordered_query, answered_in_order, rises_from}
+use Rattle.sqlite_resolve.specs.Compile.{first}
+use Rattle.fuse_store_tables.proofs.Edits.{IsEditText}
+use Rattle.fuse_store_tables.proofs.Queries.{IsSelectText}
 
 abbrev pub key_terms : List Term
 key_terms = op2 (Compare Eq Binary) (col 1 0) (col 0 0) ∷ []
@@ -56,6 +59,10 @@ select_plain : IsPlain (understood store_schema select_text)
 unfolding understood everything
 select_plain = (refl, refl)
 
+pub select_reads : IsSelectText (first select_text)
+unfolding first everything
+select_reads = (_, refl)
+
 select_unlisted : reads_listing store_schema select_text ≡ false
 unfolding understood everything
 select_unlisted = refl
@@ -75,7 +82,7 @@ finds c old new rows at h =
 pub look_makes : {X : Type 0} (items : X → List Row) (old new : State) (r : Result X Error)
     → (HasCleanDisk new → IfOk r (λ x. Shown select_text [] old new (items x)))
     → (HasCleanDisk new → IfErr r (FailsToQuery select_text [] old new)) → Survives old new (CommitsShowing select_text [] old) → Makes (λ c. c) old new r
-look_makes items = looks Holds store_schema (λ c d h. h.schema) select_text [] _ select_is select_plain items
+look_makes items = looks Holds store_schema (λ c d h. h.schema) select_text [] _ select_is select_plain select_reads items
 
 pub look_finds : {X : Type 0} (items : X → List Row) (old new : State) (r : Result X Error)
     → (HasCleanDisk new → IfOk r (λ x. Shown select_text [] old new (items x)))
@@ -107,6 +114,10 @@ one_plain : IsPlain (understood store_schema one_text)
 unfolding understood everything
 one_plain = (refl, refl)
 
+pub one_select : IsSelectText (first one_text)
+unfolding first everything
+one_select = (_, refl)
+
 one_unlisted : reads_listing store_schema one_text ≡ false
 unfolding understood everything
 one_unlisted = refl
@@ -126,7 +137,7 @@ pub one_makes : {X : Type 0} (items : X → List Row) (k : ℕ) (old new : State
     → (HasCleanDisk new → IfOk r (λ x. Shown one_text (Int (pos k) ∷ []) old new (items x)))
     → (HasCleanDisk new → IfErr r (FailsToQuery one_text (Int (pos k) ∷ []) old new)) → Survives old new (CommitsShowing one_text (Int (pos k) ∷ []) old)
     → Makes (λ c. c) old new r
-one_makes items k = looks Holds store_schema (λ c d h. h.schema) one_text (Int (pos k) ∷ []) _ one_is one_plain items
+one_makes items k = looks Holds store_schema (λ c d h. h.schema) one_text (Int (pos k) ∷ []) _ one_is one_plain one_select items
 
 pub one_finds : {X : Type 0} (items : X → List Row) (k : ℕ) (old new : State) (r : Result X Error)
     → (HasCleanDisk new → IfOk r (λ x. Shown one_text (Int (pos k) ∷ []) old new (items x)))
@@ -150,6 +161,10 @@ update_plain : IsPlain (understood store_schema update_text)
 unfolding understood everything
 update_plain = (refl, refl)
 
+pub update_edit : IsEditText (first update_text)
+unfolding first everything
+update_edit = tt
+
 cast_as : (x : Counter) → cast_row meta (counter_row x) ≡ counter_row x
 cast_as x = rw (cast_int (pos x.key), cast_int (pos x.value), cast_null)
 
@@ -166,4 +181,4 @@ changed k value c old new n at w =
 pub sets : (k value : ℕ) (old new : State) (r : Result (Unit {0}) Error) → (HasCleanDisk new → Ran update_text (Int (pos k) ∷ Int (pos value) ∷ []) old new r)
     → Survives old new (CommitsBy update_text (Int (pos k) ∷ Int (pos value) ∷ []) old) → Makes (set_counter k value) old new r
 sets k value = makes Holds store_schema (λ c d h. h.schema) update_text (Int (pos k) ∷ Int (pos value) ∷ []) (Update 0 (changing 0 key_terms update_terms))
-    update_is update_plain refl (λ c. Holds (set_counter k value c)) (changed k value)
+    update_is update_plain refl update_edit (λ c. Holds (set_counter k value c)) (changed k value)

@@ -14,6 +14,8 @@ use Rattle.fuse_store_tables.specs.inner.Performing.{Ran}
 use Rattle.fuse_store_tables.proofs.Writing.{makes}
 use Rattle.fuse_store_tables.proofs.Tables.{wrote, only_handles, only_answers, only_lots, only_kept}
 use Rattle.fuse_store_tables.proofs.Deletes.{picking, picks}
+use Rattle.sqlite_resolve.specs.Compile.{first}
+use Rattle.fuse_store_tables.proofs.Edits.{IsEditText}
 
 none_left : {X : Type 0} (xs : List X) → filter (λ x. not true) xs ≡ []
 none_left [] = refl
@@ -32,6 +34,10 @@ all_kept_plain : IsPlain (understood store_schema all_kept_text)
 unfolding understood everything
 all_kept_plain = (refl, refl)
 
+pub all_kept_edit : IsEditText (first all_kept_text)
+unfolding first everything
+all_kept_edit = tt
+
 all_kept_gone : (c : Content) (old new : State) (n : ℕ) → Holds c old.now → Writes old new None (Delete 7 (picking 10 [])) (statement_of all_kept_text
     (understood store_schema all_kept_text)) [] n → Holds (without_all_kept c) new.now
 all_kept_gone c old new n at w =
@@ -42,7 +48,7 @@ all_kept_gone c old new n at w =
 
 pub removes_all_kept : (old new : State) (r : Result (Unit {0}) Error) → (HasCleanDisk new → Ran all_kept_text [] old new r)
     → Survives old new (CommitsBy all_kept_text [] old) → Makes without_all_kept old new r
-removes_all_kept = makes Holds store_schema (λ c d h. h.schema) all_kept_text [] (Delete 7 (picking 10 [])) all_kept_is all_kept_plain refl
+removes_all_kept = makes Holds store_schema (λ c d h. h.schema) all_kept_text [] (Delete 7 (picking 10 [])) all_kept_is all_kept_plain refl all_kept_edit
     (λ c. Holds (without_all_kept c)) all_kept_gone
 
 -- ---- every lot
@@ -58,6 +64,10 @@ lots_plain : IsPlain (understood store_schema lots_text)
 unfolding understood everything
 lots_plain = (refl, refl)
 
+pub lots_edit : IsEditText (first lots_text)
+unfolding first everything
+lots_edit = tt
+
 lots_gone : (c : Content) (old new : State) (n : ℕ) → Holds c old.now → Writes old new None (Delete 6 (picking 9 []))
     (statement_of lots_text (understood store_schema lots_text)) [] n → Holds (without_lots c) new.now
 lots_gone c old new n at w =
@@ -68,7 +78,7 @@ lots_gone c old new n at w =
 
 pub removes_all_lots : (old new : State) (r : Result (Unit {0}) Error) → (HasCleanDisk new → Ran lots_text [] old new r)
     → Survives old new (CommitsBy lots_text [] old) → Makes without_lots old new r
-removes_all_lots = makes Holds store_schema (λ c d h. h.schema) lots_text [] (Delete 6 (picking 9 [])) lots_is lots_plain refl (λ c. Holds (without_lots c))
+removes_all_lots = makes Holds store_schema (λ c d h. h.schema) lots_text [] (Delete 6 (picking 9 [])) lots_is lots_plain refl lots_edit (λ c. Holds (without_lots c))
     lots_gone
 
 -- ---- every handle
@@ -84,6 +94,10 @@ handles_plain : IsPlain (understood store_schema handles_text)
 unfolding understood everything
 handles_plain = (refl, refl)
 
+pub handles_edit : IsEditText (first handles_text)
+unfolding first everything
+handles_edit = tt
+
 handles_gone : (c : Content) (old new : State) (n : ℕ) → Holds c old.now → Writes old new None (Delete 4 (picking 7 [])) (statement_of handles_text
     (understood store_schema handles_text)) [] n → Holds (without_handles c) new.now
 handles_gone c old new n at w =
@@ -94,7 +108,7 @@ handles_gone c old new n at w =
 
 pub removes_all_handles : (old new : State) (r : Result (Unit {0}) Error) → (HasCleanDisk new → Ran handles_text [] old new r)
     → Survives old new (CommitsBy handles_text [] old) → Makes without_handles old new r
-removes_all_handles = makes Holds store_schema (λ c d h. h.schema) handles_text [] (Delete 4 (picking 7 [])) handles_is handles_plain refl
+removes_all_handles = makes Holds store_schema (λ c d h. h.schema) handles_text [] (Delete 4 (picking 7 [])) handles_is handles_plain refl handles_edit
     (λ c. Holds (without_handles c)) handles_gone
 
 -- ---- the records of version 1
@@ -110,6 +124,10 @@ answers_plain : IsPlain (understood store_schema answers_text)
 unfolding understood everything
 answers_plain = (refl, refl)
 
+pub answers_edit : IsEditText (first answers_text)
+unfolding first everything
+answers_edit = tt
+
 answers_gone : (c : Content) (old new : State) (n : ℕ) → Holds c old.now → Writes old new None (Delete 5 (picking 8 [])) (statement_of answers_text
     (understood store_schema answers_text)) [] n → Holds (without_answers c) new.now
 answers_gone c old new n at w =
@@ -121,5 +139,5 @@ answers_gone c old new n at w =
 
 pub removes_answers : (old new : State) (r : Result (Unit {0}) Error) → (HasCleanDisk new → Ran answers_text [] old new r)
     → Survives old new (CommitsBy answers_text [] old) → Makes without_answers old new r
-removes_answers = makes Holds store_schema (λ c d h. h.schema) answers_text [] (Delete 5 (picking 8 [])) answers_is answers_plain refl
+removes_answers = makes Holds store_schema (λ c d h. h.schema) answers_text [] (Delete 5 (picking 8 [])) answers_is answers_plain refl answers_edit
     (λ c. Holds (without_answers c)) answers_gone

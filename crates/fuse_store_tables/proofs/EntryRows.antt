@@ -37,6 +37,9 @@ use Rattle.fuse_store_tables.proofs.Ordered.{ordered_query, answered_in_order, r
 use Rattle.sqlite_value.proofs.OrderLemmas.{value_cmp-Blob}
 use Rattle.std.specs.Cmp.Lexicographic.{slice_cmp}
 use Rattle.fuse_tree.specs.declared.rows.EntryRow.{EntryRow}
+use Rattle.sqlite_resolve.specs.Compile.{first}
+use Rattle.fuse_store_tables.proofs.Edits.{IsEditText}
+use Rattle.fuse_store_tables.proofs.Queries.{IsSelectText}
 
 -- ---- a new row
 
@@ -53,6 +56,10 @@ insert_is = refl
 insert_plain : IsPlain (understood store_schema insert_text)
 unfolding understood everything
 insert_plain = (refl, refl)
+
+pub insert_edit : IsEditText (first insert_text)
+unfolding first everything
+insert_edit = tt
 
 abbrev pub given : EntryRow → Row
 given x = Int (pos x.cookie) ∷ Int (pos x.dir) ∷ Blob x.name ∷ Int (pos x.child) ∷ []
@@ -73,7 +80,7 @@ inserts x c old new n at w =
 
 pub adds : (x : EntryRow) (old new : State) (r : Result (Unit {0}) Error) → (HasCleanDisk new → Ran insert_text (given x) old new r)
     → Survives old new (CommitsBy insert_text (given x) old) → Makes (with_entry x) old new r
-adds x = makes Holds store_schema (λ c d h. h.schema) insert_text (given x) (Insert 2 (Values insert_terms 5)) insert_is insert_plain refl
+adds x = makes Holds store_schema (λ c d h. h.schema) insert_text (given x) (Insert 2 (Values insert_terms 5)) insert_is insert_plain refl insert_edit
     (λ c. Holds (with_entry x c)) (inserts x)
 
 -- ---- by the key
@@ -98,6 +105,10 @@ delete_plain : IsPlain (understood store_schema delete_text)
 unfolding understood everything
 delete_plain = (refl, refl)
 
+pub delete_edit : IsEditText (first delete_text)
+unfolding first everything
+delete_edit = tt
+
 gone : (k : ℕ) (c : Content) (old new : State) (n : ℕ) → Holds c old.now → Writes old new None (Delete 2 (picking 2 key_terms)) (statement_of delete_text
     (understood store_schema delete_text)) (Int (pos k) ∷ []) n
     → Holds (with_entry_gone k c) new.now
@@ -109,7 +120,7 @@ gone k c old new n at w =
 
 pub removes : (k : ℕ) (old new : State) (r : Result (Unit {0}) Error) → (HasCleanDisk new → Ran delete_text (Int (pos k) ∷ []) old new r)
     → Survives old new (CommitsBy delete_text (Int (pos k) ∷ []) old) → Makes (with_entry_gone k) old new r
-removes k = makes Holds store_schema (λ c d h. h.schema) delete_text (Int (pos k) ∷ []) (Delete 2 (picking 2 key_terms)) delete_is delete_plain refl
+removes k = makes Holds store_schema (λ c d h. h.schema) delete_text (Int (pos k) ∷ []) (Delete 2 (picking 2 key_terms)) delete_is delete_plain refl delete_edit
     (λ c. Holds (with_entry_gone k c)) (gone k)
 
 -- ---- by its name: the one with the lowest cookie
@@ -141,6 +152,10 @@ named_plain : IsPlain (understood store_schema named_text)
 unfolding understood everything
 named_plain = (refl, refl)
 
+pub named_reads : IsSelectText (first named_text)
+unfolding first everything
+named_reads = (_, refl)
+
 named_unlisted : reads_listing store_schema named_text ≡ false
 unfolding understood everything
 named_unlisted = refl
@@ -160,7 +175,7 @@ pub named_makes : {X : Type 0} (items : X → List Row) (dir : ℕ) (name : List
     → (HasCleanDisk new → IfOk r (λ x. Shown named_text (Int (pos dir) ∷ Blob name ∷ []) old new (items x)))
     → (HasCleanDisk new → IfErr r (FailsToQuery named_text (Int (pos dir) ∷ Blob name ∷ []) old new))
     → Survives old new (CommitsShowing named_text (Int (pos dir) ∷ Blob name ∷ []) old) → Makes (λ c. c) old new r
-named_makes items dir name = looks Holds store_schema (λ c d h. h.schema) named_text (Int (pos dir) ∷ Blob name ∷ []) _ named_is named_plain items
+named_makes items dir name = looks Holds store_schema (λ c d h. h.schema) named_text (Int (pos dir) ∷ Blob name ∷ []) _ named_is named_plain named_reads items
 
 pub named_shows : {X : Type 0} (items : X → List Row) (dir : ℕ) (name : List ℕ) (old new : State) (r : Result X Error)
     → (HasCleanDisk new → IfOk r (λ x. Shown named_text (Int (pos dir) ∷ Blob name ∷ []) old new (items x)))
@@ -197,6 +212,10 @@ after_plain : IsPlain (understood store_schema after_text)
 unfolding understood everything
 after_plain = (refl, refl)
 
+pub after_reads : IsSelectText (first after_text)
+unfolding first everything
+after_reads = (_, refl)
+
 after_unlisted : reads_listing store_schema after_text ≡ false
 unfolding understood everything
 after_unlisted = refl
@@ -217,7 +236,7 @@ pub after_makes : {X : Type 0} (items : X → List Row) (dir cookie limit : ℕ)
     → (HasCleanDisk new → IfErr r (FailsToQuery after_text (Int (pos dir) ∷ Int (pos cookie) ∷ Int (pos limit) ∷ []) old new))
     → Survives old new (CommitsShowing after_text (Int (pos dir) ∷ Int (pos cookie) ∷ Int (pos limit) ∷ []) old) → Makes (λ c. c) old new r
 after_makes items dir cookie limit = looks Holds store_schema (λ c d h. h.schema) after_text (Int (pos dir) ∷ Int (pos cookie) ∷ Int (pos limit)
-    ∷ []) _ after_is after_plain items
+    ∷ []) _ after_is after_plain after_reads items
 
 pub after_shows : {X : Type 0} (items : X → List Row) (dir cookie limit : ℕ) (old new : State) (r : Result X Error)
     → (HasCleanDisk new → IfOk r (λ x. Shown after_text (Int (pos dir) ∷ Int (pos cookie) ∷ Int (pos limit) ∷ []) old new (items x)))

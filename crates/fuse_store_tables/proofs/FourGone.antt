@@ -27,6 +27,8 @@ use Rattle.fuse_store_tables.proofs.Writing.{makes}
 use Rattle.fuse_store_tables.proofs.Tables.{wrote, only_kept}
 use Rattle.fuse_store_tables.proofs.Keyed.{row_cmp_nat}
 use Rattle.fuse_store_tables.proofs.Deletes.{picking, picks}
+use Rattle.sqlite_resolve.specs.Compile.{first}
+use Rattle.fuse_store_tables.proofs.Edits.{IsEditText}
 
 -- ---- the statement
 
@@ -48,6 +50,10 @@ four_is = refl
 four_plain : IsPlain (understood store_schema four_text)
 unfolding understood everything
 four_plain = (refl, refl)
+
+pub four_edit : IsEditText (first four_text)
+unfolding first everything
+four_edit = tt
 
 -- ---- its test
 
@@ -134,5 +140,5 @@ module _ (first second third last : ℕ) where
 
     pub removes_four : (old new : State) (r : Result (Unit {0}) Error) → (HasCleanDisk new → Ran four_text params old new r)
         → Survives old new (CommitsBy four_text params old) → Makes (without_four first second third last) old new r
-    removes_four = makes Holds store_schema (λ c d h. h.schema) four_text params (Delete 7 (picking 10 four_terms)) four_is four_plain refl
+    removes_four = makes Holds store_schema (λ c d h. h.schema) four_text params (Delete 7 (picking 10 four_terms)) four_is four_plain refl four_edit
         (λ c. Holds (without_four first second third last c)) gone

@@ -36,6 +36,9 @@ use Rattle.fuse_store_tables.proofs.Reading.{plain_query, answered, looks, read,
 use Rattle.fuse_store_tables.proofs.Deletes.{picking, picks}
 use Rattle.fuse_store_tables.proofs.Ordered.{ordered_query, answered_in_order, rises_from}
 use Rattle.fuse_tree.specs.declared.rows.HandleRow.{HandleRow}
+use Rattle.sqlite_resolve.specs.Compile.{first}
+use Rattle.fuse_store_tables.proofs.Edits.{IsEditText}
+use Rattle.fuse_store_tables.proofs.Queries.{IsSelectText}
 
 -- ---- a new row
 
@@ -52,6 +55,10 @@ insert_is = refl
 insert_plain : IsPlain (understood store_schema insert_text)
 unfolding understood everything
 insert_plain = (refl, refl)
+
+pub insert_edit : IsEditText (first insert_text)
+unfolding first everything
+insert_edit = tt
 
 abbrev pub given : HandleRow → Row
 given x = Int (pos x.fh) ∷ Int (pos x.node) ∷ Int (pos (access_code x.access)) ∷ []
@@ -72,7 +79,7 @@ inserts x c old new n at w =
 
 pub adds : (x : HandleRow) (old new : State) (r : Result (Unit {0}) Error) → (HasCleanDisk new → Ran insert_text (given x) old new r)
     → Survives old new (CommitsBy insert_text (given x) old) → Makes (with_handle x) old new r
-adds x = makes Holds store_schema (λ c d h. h.schema) insert_text (given x) (Insert 4 (Values insert_terms 4)) insert_is insert_plain refl
+adds x = makes Holds store_schema (λ c d h. h.schema) insert_text (given x) (Insert 4 (Values insert_terms 4)) insert_is insert_plain refl insert_edit
     (λ c. Holds (with_handle x c)) (inserts x)
 
 -- ---- by the key
@@ -97,6 +104,10 @@ delete_plain : IsPlain (understood store_schema delete_text)
 unfolding understood everything
 delete_plain = (refl, refl)
 
+pub delete_edit : IsEditText (first delete_text)
+unfolding first everything
+delete_edit = tt
+
 gone : (k : ℕ) (c : Content) (old new : State) (n : ℕ) → Holds c old.now → Writes old new None (Delete 4 (picking 7 key_terms)) (statement_of delete_text
     (understood store_schema delete_text)) (Int (pos k) ∷ []) n
     → Holds (without_handle k c) new.now
@@ -108,7 +119,7 @@ gone k c old new n at w =
 
 pub removes : (k : ℕ) (old new : State) (r : Result (Unit {0}) Error) → (HasCleanDisk new → Ran delete_text (Int (pos k) ∷ []) old new r)
     → Survives old new (CommitsBy delete_text (Int (pos k) ∷ []) old) → Makes (without_handle k) old new r
-removes k = makes Holds store_schema (λ c d h. h.schema) delete_text (Int (pos k) ∷ []) (Delete 4 (picking 7 key_terms)) delete_is delete_plain refl
+removes k = makes Holds store_schema (λ c d h. h.schema) delete_text (Int (pos k) ∷ []) (Delete 4 (picking 7 key_terms)) delete_is delete_plain refl delete_edit
     (λ c. Holds (without_handle k c)) (gone k)
 
 -- ---- a row read
@@ -127,6 +138,10 @@ select_is = refl
 select_plain : IsPlain (understood store_schema select_text)
 unfolding understood everything
 select_plain = (refl, refl)
+
+pub select_reads : IsSelectText (first select_text)
+unfolding first everything
+select_reads = (_, refl)
 
 select_unlisted : reads_listing store_schema select_text ≡ false
 unfolding understood everything
@@ -147,7 +162,7 @@ pub look_makes : {X : Type 0} (items : X → List Row) (k : ℕ) (old new : Stat
     → (HasCleanDisk new → IfOk r (λ x. Shown select_text (Int (pos k) ∷ []) old new (items x)))
     → (HasCleanDisk new → IfErr r (FailsToQuery select_text (Int (pos k) ∷ []) old new)) → Survives old new (CommitsShowing select_text (Int (pos k) ∷ []) old)
     → Makes (λ c. c) old new r
-look_makes items k = looks Holds store_schema (λ c d h. h.schema) select_text (Int (pos k) ∷ []) _ select_is select_plain items
+look_makes items k = looks Holds store_schema (λ c d h. h.schema) select_text (Int (pos k) ∷ []) _ select_is select_plain select_reads items
 
 pub look_finds : {X : Type 0} (items : X → List Row) (k : ℕ) (old new : State) (r : Result X Error)
     → (HasCleanDisk new → IfOk r (λ x. Shown select_text (Int (pos k) ∷ []) old new (items x)))
@@ -177,6 +192,10 @@ of_plain : IsPlain (understood store_schema of_text)
 unfolding understood everything
 of_plain = (refl, refl)
 
+pub of_reads : IsSelectText (first of_text)
+unfolding first everything
+of_reads = (_, refl)
+
 of_unlisted : reads_listing store_schema of_text ≡ false
 unfolding understood everything
 of_unlisted = refl
@@ -195,7 +214,7 @@ pub of_makes : {X : Type 0} (items : X → List Row) (node limit : ℕ) (old new
     → (HasCleanDisk new → IfOk r (λ x. Shown of_text (Int (pos node) ∷ Int (pos limit) ∷ []) old new (items x)))
     → (HasCleanDisk new → IfErr r (FailsToQuery of_text (Int (pos node) ∷ Int (pos limit) ∷ []) old new))
     → Survives old new (CommitsShowing of_text (Int (pos node) ∷ Int (pos limit) ∷ []) old) → Makes (λ c. c) old new r
-of_makes items node limit = looks Holds store_schema (λ c d h. h.schema) of_text (Int (pos node) ∷ Int (pos limit) ∷ []) _ of_is of_plain items
+of_makes items node limit = looks Holds store_schema (λ c d h. h.schema) of_text (Int (pos node) ∷ Int (pos limit) ∷ []) _ of_is of_plain of_reads items
 
 pub of_shows : {X : Type 0} (items : X → List Row) (node limit : ℕ) (old new : State) (r : Result X Error)
     → (HasCleanDisk new → IfOk r (λ x. Shown of_text (Int (pos node) ∷ Int (pos limit) ∷ []) old new (items x)))

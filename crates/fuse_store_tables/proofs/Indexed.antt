@@ -64,12 +64,13 @@ module _ (a b : State) (s : Schema) (same : s ≡ a.now.schema) (v : ℕ) (two :
 pub stays_as : {C X E : Type 0} (P Q : C → Database → Type 0) → ((c : C) (d : Database) → P c d → Q c d) → (a b : State) (r : Result X E) → Takes Q Q a b r
     → OnlyReads a b r → Takes P P a b r
 stays_as P Q to a b (Ok x) p reads = record {
-  stays = (sub_from P Q Q to a b (Ok x) p).stays;
+  stays = p.stays;
+  within = p.within;
   turns = λ clean c at.
       let on = p.turns clean c (record { is_open = at.is_open; in_transaction = at.in_transaction; holds = to c a.now at.holds }) in
       record { is_open = on.is_open; in_transaction = on.in_transaction; holds = subst (P c) (sym (reads.same clean)) at.holds };
 }
-stays_as P Q to a b (Err e) p reads = record { stays = (sub_from P Q Q to a b (Err e) p).stays; turns = tt }
+stays_as P Q to a b (Err e) p reads = record { stays = p.stays; within = tt; turns = tt }
 
 pub second_opened : {X E : Type 0} (a b : State) (r : Result X E) → Takes IsSecond IsSecond a b r → Takes IsSecond IsOpened a b r
 second_opened a b r p =

@@ -18,16 +18,16 @@ use Rattle.fuse_store_tables.specs.inner.Performing.{IsSure}
 -- a call that failed makes nothing, so it may stand for any
 pub fails_as : {C X Y E F : Type 0} (P Q R : C → Database → Type 0) (a b : State) (e : E) (d : F) → Takes {X = X} P Q a b (Err e)
     → Takes {X = Y} P R a b (Err d)
-fails_as P Q R a b e d p = record { stays = p.stays; turns = tt }
+fails_as P Q R a b e d p = record { stays = p.stays; within = tt; turns = tt }
 
 pub makes_none : {X Y E F : Type 0} (f g : Content → Content) (a b : State) (e : E) (d : F) → Makes {X = X} f a b (Err e) → Makes {X = Y} g a b (Err d)
-makes_none f g a b e d p = record { stays = p.stays; turns = tt }
+makes_none f g a b e d p = record { stays = p.stays; within = tt; turns = tt }
 
 -- a look that gave a value, and a fault that came of it
 pub fails_looked : {X Y E F : Type 0} (f : Content → Content) (a b : State) (x : X) (r : Result Y F) → Makes {E = E} (λ c. c) a b (Ok x) → IsErr r
     → Makes f a b r
 fails_looked f a b x (Ok y) p is = absurd cc
-fails_looked f a b x (Err e) p is = record { stays = p.stays; turns = tt }
+fails_looked f a b x (Err e) p is = record { stays = p.stays; within = tt; turns = tt }
 
 -- what `?` returns of a fault that says nothing of the tables
 pub outside_back : {Y : Type 0} (e : StoreFault) (r : Result Y StoreFault) → IsErrAnd r (λ f. f ≡ e) → IsOutside e → IfErr r IsOutside
@@ -41,10 +41,11 @@ makes_as_too f g a b d x (Ok y) p same q =
     let both = makes_then (λ c. c) f a b d x (Ok y) p q in
     record {
       stays = both.stays;
+      within = both.within;
       turns = λ clean c at. subst (λ k. InsideAs (Holds k) d) (same c (earlier b d _ q.stays.survives clean) at)
           (both.turns clean c at);
     }
-makes_as_too f g a b d x (Err e) p same q = record { stays = (makes_then (λ c. c) f a b d x (Err e) p q).stays; turns = tt }
+makes_as_too f g a b d x (Err e) p same q = record { stays = (makes_then (λ c. c) f a b d x (Err e) p q).stays; within = tt; turns = tt }
 
 -- a step that failed after one that succeeded, and what `?` returns
 pub fails_next : {C X Y Z E F G : Type 0} (P Q R S : C → Database → Type 0) (a b d : State) (x : X) (e : F) (r : Result Z G)
@@ -108,12 +109,12 @@ on_err P (Err e) is all = all e
 -- the same meaning, and any value
 pub makes_same : {X Y E F : Type 0} (f g : Content → Content) (a b : State) (x : X) (y : Y) → ((c : Content) → f c ≡ g c) → Makes {E = E} f a b (Ok x)
     → Makes {E = F} g a b (Ok y)
-makes_same f g a b x y same p = record { stays = p.stays; turns = λ clean c at. subst (λ k. InsideAs (Holds k) b) (same c) (p.turns clean c at) }
+makes_same f g a b x y same p = record { stays = p.stays; within = p.within; turns = λ clean c at. subst (λ k. InsideAs (Holds k) b) (same c) (p.turns clean c at) }
 
 -- a meaning that is the same for what was found
 pub makes_known : {X Y E F : Type 0} (f g : Content → Content) (a b : State) (x : X) (y : Y) → Makes {E = E} f a b (Ok x) → ((c : Content) → HasCleanDisk b
     → InsideAs (Holds c) a → f c ≡ g c) → Makes {E = F} g a b (Ok y)
-makes_known f g a b x y p same = record { stays = p.stays; turns = λ clean c at. subst (λ k. InsideAs (Holds k) b) (same c clean at) (p.turns clean c at) }
+makes_known f g a b x y p same = record { stays = p.stays; within = p.within; turns = λ clean c at. subst (λ k. InsideAs (Holds k) b) (same c clean at) (p.turns clean c at) }
 
 -- ---- a change that says whether there was a row, and an addition where there was none
 
@@ -122,6 +123,7 @@ module _ (f g h : Content → Content) (found : Content → Bool) (a b : State) 
   pub put_there : {X : Type 0} (x : X) → any ≡ true → ((c : Content) → Holds c a.now → found c ≡ true → f c ≡ h c) → Makes {E = Error} h a b (Ok x)
   put_there x is same = record {
     stays = p.stays;
+    within = p.within;
     turns = λ clean c at. subst (λ k. InsideAs (Holds k) b) (same c at.holds (sym (says clean c at) ∙ is)) (p.turns clean c at);
   }
 
@@ -131,7 +133,8 @@ module _ (f g h : Content → Content) (found : Content → Bool) (a b : State) 
       let both = makes_then f g a b d any (Ok x) p q in
       record {
         stays = both.stays;
+        within = both.within;
         turns = λ clean c at. subst (λ k. InsideAs (Holds k) d) (same c at.holds (sym (says (earlier b d _ q.stays.survives clean) c at) ∙ is))
             (both.turns clean c at);
       }
-  put_anew d (Err e) is q same = record { stays = (makes_then f g a b d any (Err e) p q).stays; turns = tt }
+  put_anew d (Err e) is q same = record { stays = (makes_then f g a b d any (Err e) p q).stays; within = tt; turns = tt }

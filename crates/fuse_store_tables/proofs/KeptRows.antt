@@ -34,6 +34,9 @@ use Rattle.fuse_store_tables.proofs.RowLemmas.{cast_int, cast_null, inserted}
 use Rattle.fuse_store_tables.proofs.Reading.{plain_query, answered, looks, read_held, only, truth_of}
 use Rattle.fuse_store_tables.proofs.Resting.{peeks}
 use Rattle.fuse_store_tables.proofs.Deletes.{picking, picks}
+use Rattle.sqlite_resolve.specs.Compile.{first}
+use Rattle.fuse_store_tables.proofs.Edits.{IsEditText}
+use Rattle.fuse_store_tables.proofs.Queries.{IsSelectText}
 
 -- ---- a new row
 
@@ -50,6 +53,10 @@ insert_is = refl
 insert_plain : IsPlain (understood store_schema insert_text)
 unfolding understood everything
 insert_plain = (refl, refl)
+
+pub insert_edit : IsEditText (first insert_text)
+unfolding first everything
+insert_edit = tt
 
 abbrev pub given : Kept → Row
 given x = Int (pos x.id) ∷ Int (pos x.lot) ∷ Int (pos x.said.errno) ∷ Blob x.said.body ∷ []
@@ -70,7 +77,7 @@ inserts x c old new n at w =
 
 pub adds : (x : Kept) (old new : State) (r : Result (Unit {0}) Error) → (HasCleanDisk new → Ran insert_text (given x) old new r)
     → Survives old new (CommitsBy insert_text (given x) old) → Makes (with_kept x) old new r
-adds x = makes Holds store_schema (λ c d h. h.schema) insert_text (given x) (Insert 7 (Values insert_terms 5)) insert_is insert_plain refl
+adds x = makes Holds store_schema (λ c d h. h.schema) insert_text (given x) (Insert 7 (Values insert_terms 5)) insert_is insert_plain refl insert_edit
     (λ c. Holds (with_kept x c)) (inserts x)
 
 -- ---- by the key
@@ -95,6 +102,10 @@ delete_plain : IsPlain (understood store_schema delete_text)
 unfolding understood everything
 delete_plain = (refl, refl)
 
+pub delete_edit : IsEditText (first delete_text)
+unfolding first everything
+delete_edit = tt
+
 gone : (k : ℕ) (c : Content) (old new : State) (n : ℕ) → Holds c old.now → Writes old new None (Delete 7 (picking 10 key_terms)) (statement_of delete_text
     (understood store_schema delete_text)) (Int (pos k) ∷ []) n
     → Holds (without_kept k c) new.now
@@ -106,7 +117,7 @@ gone k c old new n at w =
 
 pub removes : (k : ℕ) (old new : State) (r : Result (Unit {0}) Error) → (HasCleanDisk new → Ran delete_text (Int (pos k) ∷ []) old new r)
     → Survives old new (CommitsBy delete_text (Int (pos k) ∷ []) old) → Makes (without_kept k) old new r
-removes k = makes Holds store_schema (λ c d h. h.schema) delete_text (Int (pos k) ∷ []) (Delete 7 (picking 10 key_terms)) delete_is delete_plain refl
+removes k = makes Holds store_schema (λ c d h. h.schema) delete_text (Int (pos k) ∷ []) (Delete 7 (picking 10 key_terms)) delete_is delete_plain refl delete_edit
     (λ c. Holds (without_kept k c)) (gone k)
 
 -- ---- a row read
@@ -125,6 +136,10 @@ select_is = refl
 select_plain : IsPlain (understood store_schema select_text)
 unfolding understood everything
 select_plain = (refl, refl)
+
+pub select_reads : IsSelectText (first select_text)
+unfolding first everything
+select_reads = (_, refl)
 
 select_unlisted : reads_listing store_schema select_text ≡ false
 unfolding understood everything
@@ -146,7 +161,7 @@ pub look_makes : {X : Type 0} (items : X → List Row) (k : ℕ) (old new : Stat
     → (HasCleanDisk new → IfOk r (λ x. Shown select_text (Int (pos k) ∷ []) old new (items x)))
     → (HasCleanDisk new → IfErr r (FailsToQuery select_text (Int (pos k) ∷ []) old new)) → Survives old new (CommitsShowing select_text (Int (pos k) ∷ []) old)
     → Makes (λ c. c) old new r
-look_makes items k = looks Holds store_schema (λ c d h. h.schema) select_text (Int (pos k) ∷ []) _ select_is select_plain items
+look_makes items k = looks Holds store_schema (λ c d h. h.schema) select_text (Int (pos k) ∷ []) _ select_is select_plain select_reads items
 
 pub look_finds : {X : Type 0} (items : X → List Row) (k : ℕ) (old new : State) (r : Result X Error)
     → (HasCleanDisk new → IfOk r (λ x. Shown select_text (Int (pos k) ∷ []) old new (items x)))

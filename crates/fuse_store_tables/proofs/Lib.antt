@@ -1,5 +1,7 @@
 pub mod Lifting
 pub mod Control
+pub mod Edits
+pub mod Queries
 pub mod Writing
 pub mod RowLemmas
 pub mod Reading

@@ -5,7 +5,7 @@ use Rattle.sqlite.specs.declared.error.Error.{Error}
 use Rattle.fuse_store_tables.specs.Moves.{Makes, Looked, Stays}
 
 pub looked : {X : Type 0} (a b : State) (r : Result X Error) → Makes (λ c. c) a b r → OnOk r (Looked a b)
-looked a b (Ok x) p = record { stays = p.stays; same = p.turns }
+looked a b (Ok x) p = record { stays = p.stays; within = p.within; same = p.turns }
 looked a b (Err e) p = tt
 
 pub failed : {X : Type 0} (a b : State) (r : Result X Error) → Makes (λ c. c) a b r → OnErr r (Stays a b)

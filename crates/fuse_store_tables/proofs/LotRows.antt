@@ -22,6 +22,8 @@ use Rattle.fuse_store_tables.proofs.Writing.{makes}
 use Rattle.fuse_store_tables.proofs.Tables.{wrote, quiet, only_lots}
 use Rattle.fuse_store_tables.proofs.Keyed.{put_rows}
 use Rattle.fuse_store_tables.proofs.RowLemmas.{cast_int, cast_null, inserted}
+use Rattle.sqlite_resolve.specs.Compile.{first}
+use Rattle.fuse_store_tables.proofs.Edits.{IsEditText}
 
 -- ---- a new row
 
@@ -38,6 +40,10 @@ insert_is = refl
 insert_plain : IsPlain (understood store_schema insert_text)
 unfolding understood everything
 insert_plain = (refl, refl)
+
+pub insert_edit : IsEditText (first insert_text)
+unfolding first everything
+insert_edit = tt
 
 abbrev pub given : ℕ → Row
 given x = Int (pos x) ∷ []
@@ -58,5 +64,5 @@ inserts x c old new n at w =
 
 pub adds : (x : ℕ) (old new : State) (r : Result (Unit {0}) Error) → (HasCleanDisk new → Ran insert_text (given x) old new r)
     → Survives old new (CommitsBy insert_text (given x) old) → Makes (with_lot x) old new r
-adds x = makes Holds store_schema (λ c d h. h.schema) insert_text (given x) (Insert 6 (Values insert_terms 2)) insert_is insert_plain refl
+adds x = makes Holds store_schema (λ c d h. h.schema) insert_text (given x) (Insert 6 (Values insert_terms 2)) insert_is insert_plain refl insert_edit
     (λ c. Holds (with_lot x c)) (inserts x)

@@ -25,6 +25,8 @@ use Rattle.fuse_store_tables.proofs.Writing.{makes}
 use Rattle.fuse_store_tables.proofs.Tables.{wrote, quiet}
 use Rattle.fuse_store_tables.proofs.Keyed.{put_all_rows, numbered_rows, IsTable-put_all}
 use Rattle.fuse_store_tables.proofs.RowLemmas.{cast_int, cast_null, inserted_all}
+use Rattle.sqlite_resolve.specs.Compile.{first}
+use Rattle.fuse_store_tables.proofs.Edits.{IsEditText}
 
 abbrev pub fill_text : List ℕ
 fill_text = codes "INSERT INTO meta (k, v) VALUES (1, 2), (2, 2), (3, 1), (4, 3), (5, 1), (6, 0), (7, 0), (8, 0), (9, 0), (10, 0), (11, 1)"
@@ -43,6 +45,10 @@ fill_is = refl
 fill_plain : IsPlain (understood store_schema fill_text)
 unfolding understood everything
 fill_plain = (refl, refl)
+
+pub fill_edit : IsEditText (first fill_text)
+unfolding first everything
+fill_edit = tt
 
 cast_counter : (c : Counter) → cast_row meta (counter_row c) ≡ counter_row c
 cast_counter c = rw (cast_int (pos c.key), cast_int (pos c.value), cast_null)
@@ -69,4 +75,4 @@ fills c old new n at w =
 
 pub fill : (old new : State) (r : Result (Unit {0}) Error) → (HasCleanDisk new → Ran fill_text [] old new r) → Survives old new (CommitsBy fill_text [] old)
     → Takes (IsBare store_schema) HasCounters old new r
-fill = makes (IsBare store_schema) store_schema (λ c d h. h.schema) fill_text [] (Insert 0 (Values terms 3)) fill_is fill_plain refl HasCounters fills
+fill = makes (IsBare store_schema) store_schema (λ c d h. h.schema) fill_text [] (Insert 0 (Values terms 3)) fill_is fill_plain refl fill_edit HasCounters fills

@@ -39,7 +39,7 @@ lots_more c old new n h w = record {
 
 pub adds_lots : (old new : State) (r : Result (Unit {0}) Error) → (HasCleanDisk new → Ran lots_text [] old new r)
     → Survives old new (CommitsBy lots_text [] old) → Takes IsFirst HasLots old new r
-adds_lots = makes IsFirst with_answers (λ c d h. h.holds.schema) lots_text [] CreateTable lots_made.command lots_made.plain refl HasLots lots_more
+adds_lots = makes IsFirst with_answers (λ c d h. h.holds.schema) lots_text [] CreateTable lots_made.command lots_made.plain refl lots_made.edit HasLots lots_more
 
 kept_more : (c : Content) (old new : State) (n : ℕ) → HasLots c old.now
     → Writes old new None CreateTable (statement_of kept_text (understood with_lots kept_text)) [] n → HasKept c new.now
@@ -50,7 +50,7 @@ kept_more c old new n h w = record {
 
 pub adds_kept_table : (old new : State) (r : Result (Unit {0}) Error) → (HasCleanDisk new → Ran kept_text [] old new r)
     → Survives old new (CommitsBy kept_text [] old) → Takes HasLots HasKept old new r
-adds_kept_table = makes HasLots with_lots (λ c d h. h.holds.schema) kept_text [] CreateTable kept_made.command kept_made.plain refl HasKept kept_more
+adds_kept_table = makes HasLots with_lots (λ c d h. h.holds.schema) kept_text [] CreateTable kept_made.command kept_made.plain refl kept_made.edit HasKept kept_more
 
 index_made : (c : Content) (old new : State) (n : ℕ) → HoldsUnindexed c old.now
     → Writes old new None (CreateIndex 2) (statement_of entries_in_order_text (understood with_kept entries_in_order_text)) [] n → Holds c new.now
@@ -60,6 +60,7 @@ pub adds_index : (old new : State) (r : Result (Unit {0}) Error) → (HasCleanDi
     → Survives old new (CommitsBy entries_in_order_text [] old) → Takes HoldsUnindexed Holds old new r
 adds_index =
     makes HoldsUnindexed with_kept (λ c d h. h.schema) entries_in_order_text [] (CreateIndex 2) entries_in_order_made.command entries_in_order_made.plain refl
+    entries_in_order_made.edit
     Holds index_made
 
 pub indexes_kept : {X E : Type 0} (a b : State) (r : Result X E) → Takes HoldsUnindexed Holds a b r → Takes HasKept HasTables a b r

@@ -39,6 +39,9 @@ use Rattle.fuse_store_tables.proofs.Updating.{changing, changes, changes_some}
 use Rattle.fuse_store_tables.proofs.Deletes.{picking, picks}
 use Rattle.std.specs.Int.{w64, cast_signed}
 use Rattle.fuse_tree.specs.declared.rows.NodeRow.{NodeRow}
+use Rattle.sqlite_resolve.specs.Compile.{first}
+use Rattle.fuse_store_tables.proofs.Edits.{IsEditText}
+use Rattle.fuse_store_tables.proofs.Queries.{IsSelectText}
 
 -- ---- a new row
 
@@ -56,6 +59,10 @@ insert_is = refl
 insert_plain : IsPlain (understood store_schema insert_text)
 unfolding understood everything
 insert_plain = (refl, refl)
+
+pub insert_edit : IsEditText (first insert_text)
+unfolding first everything
+insert_edit = tt
 
 abbrev pub given : NodeRow → Row
 given x = given_node x
@@ -94,7 +101,7 @@ inserts x c old new n at w =
 
 pub adds : (x : NodeRow) (old new : State) (r : Result (Unit {0}) Error) → (HasCleanDisk new → Ran insert_text (given x) old new r)
     → Survives old new (CommitsBy insert_text (given x) old) → Makes (with_node x) old new r
-adds x = makes Holds store_schema (λ c d h. h.schema) insert_text (given x) (Insert 1 (Values insert_terms 15)) insert_is insert_plain refl
+adds x = makes Holds store_schema (λ c d h. h.schema) insert_text (given x) (Insert 1 (Values insert_terms 15)) insert_is insert_plain refl insert_edit
     (λ c. Holds (with_node x c)) (inserts x)
 
 -- ---- by the key
@@ -119,6 +126,10 @@ delete_plain : IsPlain (understood store_schema delete_text)
 unfolding understood everything
 delete_plain = (refl, refl)
 
+pub delete_edit : IsEditText (first delete_text)
+unfolding first everything
+delete_edit = tt
+
 gone : (k : ℕ) (c : Content) (old new : State) (n : ℕ) → Holds c old.now → Writes old new None (Delete 1 (picking 1 key_terms)) (statement_of delete_text
     (understood store_schema delete_text)) (Int (pos k) ∷ []) n
     → Holds (without_node k c) new.now
@@ -130,7 +141,7 @@ gone k c old new n at w =
 
 pub removes : (k : ℕ) (old new : State) (r : Result (Unit {0}) Error) → (HasCleanDisk new → Ran delete_text (Int (pos k) ∷ []) old new r)
     → Survives old new (CommitsBy delete_text (Int (pos k) ∷ []) old) → Makes (without_node k) old new r
-removes k = makes Holds store_schema (λ c d h. h.schema) delete_text (Int (pos k) ∷ []) (Delete 1 (picking 1 key_terms)) delete_is delete_plain refl
+removes k = makes Holds store_schema (λ c d h. h.schema) delete_text (Int (pos k) ∷ []) (Delete 1 (picking 1 key_terms)) delete_is delete_plain refl delete_edit
     (λ c. Holds (without_node k c)) (gone k)
 
 -- ---- a row read
@@ -151,6 +162,10 @@ select_plain : IsPlain (understood store_schema select_text)
 unfolding understood everything
 select_plain = (refl, refl)
 
+pub select_reads : IsSelectText (first select_text)
+unfolding first everything
+select_reads = (_, refl)
+
 select_unlisted : reads_listing store_schema select_text ≡ false
 unfolding understood everything
 select_unlisted = refl
@@ -170,7 +185,7 @@ pub look_makes : {X : Type 0} (items : X → List Row) (k : ℕ) (old new : Stat
     → (HasCleanDisk new → IfOk r (λ x. Shown select_text (Int (pos k) ∷ []) old new (items x)))
     → (HasCleanDisk new → IfErr r (FailsToQuery select_text (Int (pos k) ∷ []) old new)) → Survives old new (CommitsShowing select_text (Int (pos k) ∷ []) old)
     → Makes (λ c. c) old new r
-look_makes items k = looks Holds store_schema (λ c d h. h.schema) select_text (Int (pos k) ∷ []) _ select_is select_plain items
+look_makes items k = looks Holds store_schema (λ c d h. h.schema) select_text (Int (pos k) ∷ []) _ select_is select_plain select_reads items
 
 pub look_finds : {X : Type 0} (items : X → List Row) (k : ℕ) (old new : State) (r : Result X Error)
     → (HasCleanDisk new → IfOk r (λ x. Shown select_text (Int (pos k) ∷ []) old new (items x)))
@@ -197,6 +212,10 @@ update_plain : IsPlain (understood store_schema update_text)
 unfolding understood everything
 update_plain = (refl, refl)
 
+pub update_edit : IsEditText (first update_text)
+unfolding first everything
+update_edit = tt
+
 changed : (x : NodeRow) (c : Content) (old new : State) (n : ℕ) → Holds c old.now → Writes old new None (Update 1 (changing 1 key_terms update_terms))
     (statement_of update_text (understood store_schema update_text)) (given x) n
     → Holds (set_node x c) new.now
@@ -218,7 +237,7 @@ changed_some x c old new n at w =
 
 pub sets : (x : NodeRow) (old new : State) (r : Result Bool Error) → (HasCleanDisk new → RanAny update_text (given x) old new r)
     → Survives old new (CommitsBy update_text (given x) old) → Makes (set_node x) old new r
-sets x = makes_any Holds store_schema (λ c d h. h.schema) update_text (given x) (Update 1 (changing 1 key_terms update_terms)) update_is update_plain refl
+sets x = makes_any Holds store_schema (λ c d h. h.schema) update_text (given x) (Update 1 (changing 1 key_terms update_terms)) update_is update_plain refl update_edit
     (λ c. Holds (set_node x c)) (changed x)
 
 pub sets_some : (x : NodeRow) (old new : State) (r : Result Bool Error) → (HasCleanDisk new → RanAny update_text (given x) old new r)

@@ -22,7 +22,6 @@ use Rattle.sqlite_tied.specs.Compute.{everything}
 use Rattle.sqlite.specs.declared.error.Error.{Error}
 use Rattle.sqlite.specs.Listing.{understood, listing_schema}
 use Rattle.sqlite.specs.State.{State, HasCleanDisk, Survives, Shown, FailsToQuery, CommitsShowing}
-use Rattle.sqlite.proofs.StateLemmas.{survives_weaker}
 use Rattle.fuse_keeper.specs.declared.fault.StoreFault.{StoreFault}
 use Rattle.fuse_keeper.specs.Faults.{fault_of}
 use Rattle.fuse_store_tables.specs.Faults.{IsPlain as IsPlainFault, IsOutside}
@@ -32,7 +31,7 @@ use Rattle.fuse_store_tables.specs.Content.{node_key, cookie_of, fh_of, value_at
 use Rattle.fuse_store_tables.specs.Opening.{IsLaid, HoldsUnindexed, AllBelow}
 use Rattle.fuse_store_tables.specs.inner.Columns.{shown_number, shown_meta}
 use Rattle.fuse_store_tables.specs.inner.Checking.{ChecksIf, IsMetaIn}
-use Rattle.fuse_store_tables.specs.inner.Performing.{OnlyReads}
+use Rattle.fuse_store_tables.specs.inner.Performing.{StaysWithin}
 use Rattle.fuse_store_tables.specs.Moves.{InsideAs, Takes}
 use Rattle.fuse_store_tables.proofs.Either.{Both, both_looks}
 use Rattle.fuse_store_tables.proofs.Keyed.{row_cmp_nat}
@@ -213,9 +212,9 @@ module _ {X Z : Type 0} (key : X → ℕ) (cells : X → Row) (rows_in : Content
     (reads : IsRead text (from_query tree) names)
     (has : (c : Content) (d : Database) → HasFirstRows c d → (overlay d.trees [] tree ≡ map (row_of key cells) (rows_in c)) × IsTable (overlay d.trees [] tree)) (next : ℕ)
     (items : Z → List Row) where
-  asks_table : IsSelectText (first text) → Asks key rows_in text next items
-  asks_table selects = record {
-    selects = selects;
+  asks_table : Asks key rows_in text next items
+  asks_table = record {
+    selects = reads.selects;
     looks = looks_in text (Int (pos next) ∷ []) (from_query tree) names reads (λ c. HoldsAs with_answers (stored c)) Holds HoldsUnindexed any_rows items;
     finds =
         finds_in text (Int (pos next) ∷ []) (from_query tree) names reads (λ c. HoldsAs with_answers (stored c)) Holds HoldsUnindexed any_rows items
@@ -228,25 +227,30 @@ module _ {X Z : Type 0} (key : X → ℕ) (cells : X → Row) (rows_in : Content
 abbrev pub nodes_text : List ℕ
 nodes_text = codes "SELECT node FROM nodes WHERE node >= ?1 ORDER BY node LIMIT 1"
 
+nodes_select : IsSelectText (first nodes_text)
+unfolding first everything
+nodes_select = (_, refl)
+
 nodes_read : IsRead nodes_text (from_query 1) (codes "node" ∷ [])
 unfolding understood everything
 nodes_read = record {
   first = record { is = refl; plain = (refl, refl); unlisted = refl };
   second = record { is = refl; plain = (refl, refl); unlisted = refl };
   unindexed = record { is = refl; plain = (refl, refl); unlisted = refl };
+  selects = nodes_select;
 }
 
-nodes_select : IsSelectText (first nodes_text)
-unfolding first everything
-nodes_select = (_, refl)
-
 pub asks_nodes : {Z : Type 0} (next : ℕ) (items : Z → List Row) → Asks node_key (λ c. c.nodes) nodes_text next items
-asks_nodes next items = asks_table node_key (λ n. Null ∷ node_columns n) (λ c. c.nodes) 1 nodes_text (codes "node" ∷ []) nodes_read (λ c d h. h.1.0) next items nodes_select
+asks_nodes next items = asks_table node_key (λ n. Null ∷ node_columns n) (λ c. c.nodes) 1 nodes_text (codes "node" ∷ []) nodes_read (λ c d h. h.1.0) next items
 
 -- ---- handles
 
 abbrev pub handles_text : List ℕ
 handles_text = codes "SELECT fh FROM handles WHERE fh >= ?1 ORDER BY fh LIMIT 1"
+
+handles_select : IsSelectText (first handles_text)
+unfolding first everything
+handles_select = (_, refl)
 
 handles_read : IsRead handles_text (from_query 7) (codes "fh" ∷ [])
 unfolding understood everything
@@ -254,19 +258,20 @@ handles_read = record {
   first = record { is = refl; plain = (refl, refl); unlisted = refl };
   second = record { is = refl; plain = (refl, refl); unlisted = refl };
   unindexed = record { is = refl; plain = (refl, refl); unlisted = refl };
+  selects = handles_select;
 }
 
-handles_select : IsSelectText (first handles_text)
-unfolding first everything
-handles_select = (_, refl)
-
 pub asks_handles : {Z : Type 0} (next : ℕ) (items : Z → List Row) → Asks fh_of (λ c. c.handles) handles_text next items
-asks_handles next items = asks_table fh_of (λ h. Null ∷ Int (pos h.node) ∷ Int (pos (access_code h.access)) ∷ []) (λ c. c.handles) 7 handles_text (codes "fh" ∷ []) handles_read (λ c d h. h.1.1.1.1.0) next items handles_select
+asks_handles next items = asks_table fh_of (λ h. Null ∷ Int (pos h.node) ∷ Int (pos (access_code h.access)) ∷ []) (λ c. c.handles) 7 handles_text (codes "fh" ∷ []) handles_read (λ c d h. h.1.1.1.1.0) next items
 
 -- ---- entries
 
 abbrev pub entries_text : List ℕ
 entries_text = codes "SELECT cookie FROM entries WHERE cookie >= ?1 ORDER BY cookie LIMIT 1"
+
+entries_select : IsSelectText (first entries_text)
+unfolding first everything
+entries_select = (_, refl)
 
 entries_read : IsRead entries_text (from_query 2) (codes "cookie" ∷ [])
 unfolding understood everything
@@ -274,14 +279,11 @@ entries_read = record {
   first = record { is = refl; plain = (refl, refl); unlisted = refl };
   second = record { is = refl; plain = (refl, refl); unlisted = refl };
   unindexed = record { is = refl; plain = (refl, refl); unlisted = refl };
+  selects = entries_select;
 }
 
-entries_select : IsSelectText (first entries_text)
-unfolding first everything
-entries_select = (_, refl)
-
 pub asks_entries : {Z : Type 0} (next : ℕ) (items : Z → List Row) → Asks cookie_of (λ c. c.entries) entries_text next items
-asks_entries next items = asks_table cookie_of (λ e. Null ∷ Int (pos e.dir) ∷ Blob e.name ∷ Int (pos e.child) ∷ []) (λ c. c.entries) 2 entries_text (codes "cookie" ∷ []) entries_read (λ c d h. h.1.1.0) next items entries_select
+asks_entries next items = asks_table cookie_of (λ e. Null ∷ Int (pos e.dir) ∷ Blob e.name ∷ Int (pos e.child) ∷ []) (λ c. c.entries) 2 entries_text (codes "cookie" ∷ []) entries_read (λ c d h. h.1.1.0) next items
 
 -- ---- lots, of which version 1 has none
 
@@ -314,13 +316,15 @@ module _ (next : ℕ) where
       absurd (let clash = sym (ap is_ok h.1.is) ∙ ap (λ (s : Schema). is_ok (understood s lots_text)) at.schema ∙ lots_first in cc)
 
   first_looks : {Z : Type 0} (items : Z → List Row) (a b : State) (r : Result Z Error)
-      → (HasCleanDisk b → IfOk r (λ x. Shown lots_text (Int (pos next) ∷ []) a b (items x))) → OnlyReads a b r → Takes First First a b r
-  first_looks items a b (Ok x) ok reads = record {
-    stays = record { survives = survives_weaker a b _ _ (λ _ db none. absurd none) reads.commits.survives; kept = λ clean at. reads.commits.kept clean };
+      → (HasCleanDisk b → IfOk r (λ x. Shown lots_text (Int (pos next) ∷ []) a b (items x))) → StaysWithin a b r → Takes First First a b r
+  first_looks items a b (Ok x) ok within = record {
+    stays = record { survives = within.survives; kept = within.kept };
+    within = within.within;
     turns = λ clean c at. never_first c a b (items x) at.holds (ok clean);
   }
-  first_looks items a b (Err e) ok reads = record {
-    stays = record { survives = survives_weaker a b _ _ (λ _ db none. absurd none) reads.commits.survives; kept = λ clean at. reads.commits.kept clean };
+  first_looks items a b (Err e) ok within = record {
+    stays = record { survives = within.survives; kept = within.kept };
+    within = tt;
     turns = tt;
   }
 
@@ -330,9 +334,9 @@ module _ (next : ℕ) where
         → Takes IsLaid IsLaid a b r
     lots_looks a b r ok err survives =
         both_looks (Both First Holds) HoldsUnindexed a b r
-        (both_looks First Holds a b r (first_looks items a b r ok (only_reads lots_text (Int (pos next) ∷ []) lots_select items a b r ok err survives))
-        (looks Holds store_schema (λ c d h. h.schema) lots_text (Int (pos next) ∷ []) _ lots_second.is lots_second.plain items a b r ok err survives))
-        (looks HoldsUnindexed with_kept (λ c d h. h.schema) lots_text (Int (pos next) ∷ []) _ lots_unindexed.is lots_unindexed.plain items a b r ok err survives)
+        (both_looks First Holds a b r (first_looks items a b r ok (reads_within lots_text (Int (pos next) ∷ []) lots_select items a b r ok err survives))
+        (looks Holds store_schema (λ c d h. h.schema) lots_text (Int (pos next) ∷ []) _ lots_second.is lots_second.plain lots_select items a b r ok err survives))
+        (looks HoldsUnindexed with_kept (λ c d h. h.schema) lots_text (Int (pos next) ∷ []) _ lots_unindexed.is lots_unindexed.plain lots_select items a b r ok err survives)
 
     found_lots : (c : Content) (d : Database) (rows : List Row) → (d.trees 9 ≡ map lot_row c.lots) × IsTable (d.trees 9)
         → Answers d (from_query 9) (Int (pos next) ∷ []) rows → rows ≡ shown_from (λ lot. lot) next c.lots

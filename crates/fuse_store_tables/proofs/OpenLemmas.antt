@@ -37,6 +37,8 @@ use Rattle.fuse_store_tables.proofs.Reading.{looks, read, plain_query, answered,
 use Rattle.fuse_store_tables.proofs.Ordered.{ordered_query, answered_in_order, rises_from}
 use Rattle.fuse_store_tables.proofs.CounterRows.{all_of}
 use Rattle.fuse_store_tables.proofs.Either.{Both, both_looks}
+use Rattle.sqlite_resolve.specs.Compile.{first as first_of}
+use Rattle.fuse_store_tables.proofs.Queries.{IsSelectText}
 
 -- families of databases of the two versions, and of version 2 without the index
 pub record Versions (First Second Unindexed : Content → Database → Type 0) : Type 0 where
@@ -79,6 +81,7 @@ pub record IsRead (sql : List ℕ) (q : Program) (names : List (List ℕ)) : Typ
   pub first : IsReadIn with_answers sql q names
   pub second : IsReadIn store_schema sql q names
   pub unindexed : IsReadIn with_kept sql q names
+  pub selects : IsSelectText (first_of sql)
 
 module _ (sql : List ℕ) (params : Row) (q : Program) (names : List (List ℕ)) (reads : IsRead sql q names)
     (First Second Unindexed : Content → Database → Type 0) (are : Versions First Second Unindexed) where
@@ -88,7 +91,7 @@ module _ (sql : List ℕ) (params : Row) (q : Program) (names : List (List ℕ))
     looks_by : {X : Type 0} (items : X → List Row) (old new : State) (r : Result X Error)
         → (HasCleanDisk new → IfOk r (λ x. Shown sql params old new (items x)))
         → (HasCleanDisk new → IfErr r (FailsToQuery sql params old new)) → Survives old new (CommitsShowing sql params old) → Takes P P old new r
-    looks_by items old new r ok err survives = looks P layout known sql params _ is.is is.plain items old new r ok err survives
+    looks_by items old new r ok err survives = looks P layout known sql params _ is.is is.plain reads.selects items old new r ok err survives
 
     read_by : (c : Content) (old new : State) (rows : List Row) → InsideAs (P c) old → Shown sql params old new rows → Answers old.now q params rows
     read_by c old new rows at h = read P layout known sql params _ is.is is.plain is.unlisted c old new rows at h
@@ -138,12 +141,17 @@ version_terms = op2 (Compare Eq Binary) (col 1 0) (lit (Int (pos 1))) ∷ []
 abbrev version_query : Program
 version_query = record { lets = []; body = plain_query 0 version_terms (col 1 2 ∷ []) }
 
+pub version_select : IsSelectText (first_of version_text)
+unfolding first_of everything
+version_select = (_, refl)
+
 pub version_read : IsRead version_text version_query (codes "v" ∷ [])
 unfolding understood everything
 version_read = record {
   first = record { is = refl; plain = (refl, refl); unlisted = refl };
   second = record { is = refl; plain = (refl, refl); unlisted = refl };
   unindexed = record { is = refl; plain = (refl, refl); unlisted = refl };
+  selects = version_select;
 }
 
 tests_version : (c : Counter) → list_all (holds ([] ∷ counter_row c ∷ [])) version_terms ≡ has_by counter_key 1 c
@@ -182,12 +190,17 @@ meta_text = codes "SELECT k, v FROM meta ORDER BY k"
 abbrev meta_query : Program
 meta_query = record { lets = []; body = ordered_query 0 [] (col 1 0 ∷ col 1 2 ∷ []) no_limit }
 
+pub meta_select : IsSelectText (first_of meta_text)
+unfolding first_of everything
+meta_select = (_, refl)
+
 pub meta_read : IsRead meta_text meta_query (codes "k" ∷ codes "v" ∷ [])
 unfolding understood everything
 meta_read = record {
   first = record { is = refl; plain = (refl, refl); unlisted = refl };
   second = record { is = refl; plain = (refl, refl); unlisted = refl };
   unindexed = record { is = refl; plain = (refl, refl); unlisted = refl };
+  selects = meta_select;
 }
 
 abbrev pub FoundMeta : Content → List Row → Type 0

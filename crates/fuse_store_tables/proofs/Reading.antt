@@ -5,6 +5,7 @@ use Rattle.std.specs.List.{flat_map, list_all}
 use Rattle.std.specs.List.Sorted.{IsPermutation}
 use Rattle.std.specs.Option.{option_to_list}
 use Rattle.std.proofs.lemmas.List.Sorted.{IsPermutation-map, length_permutation}
+use Rattle.sqlite_resolve.specs.Compile.{first}
 use Rattle.sqlite.specs.declared.types.Value.{Value}
 use Rattle.sqlite.specs.declared.types.Value.TheVariants.{Int}
 use Rattle.sqlite.specs.Schema.{Schema}
@@ -16,23 +17,12 @@ use Rattle.sqlite.specs.Query.{Query, inner, end, IsAnswerAs, matches_as, output
 use Rattle.sqlite_schema.specs.declared.command.Command.{Command}
 use Rattle.sqlite.specs.Listing.{understood, reads_listing}
 use Rattle.sqlite.specs.Effect.{Database, Reads}
-use Rattle.sqlite.specs.State.{State, HasCleanDisk, Survives, KeepsCommit, Shown, FailsToQuery, FailsToShow, CommitsShowing, IsUnchanged}
-use Rattle.sqlite.specs.Clock.{timed}
-use Rattle.sqlite.proofs.StateLemmas.{survives_weaker}
-use Rattle.sqlite.proofs.Callers.{IsPlain, command_of, reads_as, never_commits, one_permutation}
+use Rattle.sqlite.specs.State.{State, HasCleanDisk, Survives, Shown, FailsToQuery, CommitsShowing, IsUnchanged}
+use Rattle.sqlite.proofs.Callers.{IsPlain, command_of, reads_as, one_permutation}
 use Rattle.sqlite_sql.specs.Ops.{is_true, from_truth}
 use Rattle.sqlite_trees.proofs.ListLemmas.{map-map}
 use Rattle.fuse_store_tables.specs.Moves.{InsideAs, IsReady, Takes}
-use Rattle.fuse_store_tables.proofs.Control.{keeps_unchanged, keeps_not_run, keeps_command}
-
-pub keeps_query : (old new : State) (sql : List ℕ) (params : Row) (e : Error) → FailsToQuery sql params old new e → KeepsCommit old new
-unfolding FailsToQuery
-keeps_query old new sql params e (inl h) = keeps_not_run old new sql params e h
-keeps_query old new sql params e (inr h) = shown h.0.returning h.2
-  where
-    shown : (r : _) → FailsToShow old new sql h.0 (timed params h.0.formats h.1.now) e r → KeepsCommit old new
-    shown None it = keeps_unchanged old new it.3
-    shown (Some what) it = keeps_command old new sql _ e h.0 it
+use Rattle.fuse_store_tables.proofs.Queries.{IsSelectText, reads_within}
 
 module _ {C : Type 0} (P : C → Database → Type 0) (layout : Schema) (known : (c : C) (d : Database) → P c d → d.schema ≡ layout) (sql : List ℕ) (params : Row)
     (command : Command)
@@ -44,30 +34,21 @@ module _ {C : Type 0} (P : C → Database → Type 0) (layout : Schema) (known :
       let bare = subst IsPlain (sym heard) plain in
       (rw (bare.0) at h.2).3
 
-  none : (s : State) (db : Trees) → CommitsShowing sql params s db → ¬ IsReady P s
-  none s db h at = never_commits sql params s db (subst (λ (t : Schema). IsPlain (understood t sql)) (sym (known at.0 s.now at.1.holds)) plain) h
-
-  kept : (old new : State) (x : State) → IsUnchanged old new → KeepsCommit old new
-  kept old new x same = keeps_unchanged old new same
-
-  pub looks : {X : Type 0} (items : X → List Row) (old new : State) (r : Result X Error) → (HasCleanDisk new → IfOk r (λ x. Shown sql params old new (items x)))
+  pub looks : IsSelectText (first sql) → {X : Type 0} (items : X → List Row) (old new : State) (r : Result X Error)
+      → (HasCleanDisk new → IfOk r (λ x. Shown sql params old new (items x)))
       → (HasCleanDisk new → IfErr r (FailsToQuery sql params old new)) → Survives old new (CommitsShowing sql params old) → Takes P P old new r
-  looks items old new (Ok x) ok err survives = record {
-    stays = record {
-      survives = survives_weaker old new _ _ (λ _ db. none old db) survives;
-      kept = λ clean at. keeps_unchanged old new (unchanged old new (items x) at (ok clean));
-    };
-    turns = λ clean c at.
-        let same = unchanged old new (items x) (c, at) (ok clean) in
-        record { is_open = same.0.is_open; in_transaction = same.0.mode ∙ at.in_transaction; holds = subst (P c) (sym same.0.now_is) at.holds };
-  }
-  looks items old new (Err e) ok err survives = record {
-    stays = record {
-      survives = survives_weaker old new _ _ (λ _ db. none old db) survives;
-      kept = λ clean at. keeps_query old new sql params e (err clean);
-    };
-    turns = tt;
-  }
+  looks selects items old new (Ok x) ok err survives =
+      let within = reads_within sql params selects items old new (Ok x) ok err survives in
+      record {
+        stays = record { survives = within.survives; kept = within.kept };
+        within = within.within;
+        turns = λ clean c at.
+            let same = unchanged old new (items x) (c, at) (ok clean) in
+            record { is_open = same.0.is_open; in_transaction = same.0.mode ∙ at.in_transaction; holds = subst (P c) (sym same.0.now_is) at.holds };
+      }
+  looks selects items old new (Err e) ok err survives =
+      let within = reads_within sql params selects items old new (Err e) ok err survives in
+      record { stays = record { survives = within.survives; kept = within.kept }; within = tt; turns = tt }
 
   -- what is read, of the tables as they are
   pub read_held : reads_listing layout sql ≡ false → (c : C) (old new : State) (rows : List Row) → P c old.now → Shown sql params old new rows

@@ -32,6 +32,8 @@ use Rattle.fuse_store_tables.proofs.Ordered.{ordered_query, answered_in_order, r
 use Rattle.fuse_store_tables.proofs.CounterRows.{all_of}
 use Rattle.fuse_store_tables.proofs.KeptRows.{cast_as}
 use Rattle.fuse_store_tables.proofs.RowLemmas.{cast_int, cast_null, inserted, inserted_from}
+use Rattle.sqlite_resolve.specs.Compile.{first}
+use Rattle.fuse_store_tables.proofs.Edits.{IsEditText}
 
 -- ---- a row of `meta` more
 
@@ -48,6 +50,10 @@ counter_is = refl
 counter_plain : IsPlain (understood store_schema counter_text)
 unfolding understood everything
 counter_plain = (refl, refl)
+
+pub counter_edit : IsEditText (first counter_text)
+unfolding first everything
+counter_edit = tt
 
 abbrev given_counter : ℕ → ℕ → Row
 given_counter key value = Int (pos key) ∷ Int (pos value) ∷ []
@@ -75,7 +81,7 @@ pub adds_counter : (key value : ℕ) (old new : State) (r : Result (Unit {0}) Er
     → Survives old new (CommitsBy counter_text (given_counter key value) old)
     → Makes (with_counter key value) old new r
 adds_counter key value = makes Holds store_schema (λ c d h. h.schema) counter_text (given_counter key value) (Insert 0 (Values counter_terms 3)) counter_is
-    counter_plain refl (λ c. Holds (with_counter key value c)) (counter_in key value)
+    counter_plain refl counter_edit (λ c. Holds (with_counter key value c)) (counter_in key value)
 
 -- ---- the records of version 1
 
@@ -101,6 +107,10 @@ copy_is = refl
 copy_plain : IsPlain (understood store_schema copy_text)
 unfolding understood everything
 copy_plain = (refl, refl)
+
+pub copy_edit : IsEditText (first copy_text)
+unfolding first everything
+copy_edit = tt
 
 abbrev copied : List Answer → List Row
 copied all = map kept_row (map (under 0) all)
@@ -143,4 +153,4 @@ copies c old new n at w =
 
 pub copies_all : (old new : State) (r : Result (Unit {0}) Error) → (HasCleanDisk new → Ran copy_text [] old new r)
     → Survives old new (CommitsBy copy_text [] old) → Makes with_copies old new r
-copies_all = makes Holds store_schema (λ c d h. h.schema) copy_text [] (Insert 7 (Query copy_query)) copy_is copy_plain refl (λ c. Holds (with_copies c)) copies
+copies_all = makes Holds store_schema (λ c d h. h.schema) copy_text [] (Insert 7 (Query copy_query)) copy_is copy_plain refl copy_edit (λ c. Holds (with_copies c)) copies

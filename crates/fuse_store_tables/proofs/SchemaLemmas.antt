@@ -26,6 +26,8 @@ use Rattle.fuse_store_tables.specs.Moves.{Takes}
 use Rattle.fuse_store_tables.specs.inner.Performing.{Ran}
 use Rattle.fuse_store_tables.proofs.RowLemmas.{went, same_value}
 use Rattle.fuse_store_tables.proofs.Writing.{makes}
+use Rattle.sqlite_resolve.specs.Compile.{first}
+use Rattle.fuse_store_tables.proofs.Edits.{IsEditText}
 
 same_table : {E : Type 0} {a b : Table} → ◌≡◌ {A = Result Table E} (Ok a) (Ok b) → a ≡ b
 same_table e = cc
@@ -87,6 +89,7 @@ pub record IsTextOf (s : Schema) (table : Table) (text : List ℕ) : Type 0 wher
   pub command : command_of (understood s text) ≡ CreateTable
   pub plain : IsPlain (understood s text)
   pub lacks : lacks_sequence (created s table) ≡ false
+  pub edit : IsEditText (first text)
 
 same_rows : (held old new : Trees) (tables : List Table) → AllByRecursion (HasRows held old) tables → KeepsRows tables old new
     → AllByRecursion (HasRows held new) tables
@@ -117,40 +120,72 @@ pub creates : (s : Schema) (table : Table) (text : List ℕ) → IsTextOf s tabl
     → (HasCleanDisk new → Ran text [] old new r) → Survives old new (CommitsBy text [] old)
     → Takes (IsBare s) (IsBare (created s table)) old new r
 creates s table text made =
-    makes (IsBare s) s (λ c d h. h.schema) text [] CreateTable made.command made.plain refl (IsBare (created s table))
+    makes (IsBare s) s (λ c d h. h.schema) text [] CreateTable made.command made.plain refl made.edit (IsBare (created s table))
     (λ c. table_more s table text made no_trees refl)
+
+pub meta_edit : IsEditText (first meta_text)
+unfolding first everything
+meta_edit = tt
 
 pub meta_made : IsTextOf no_schema meta meta_text
 unfolding understood everything
-meta_made = record { defines = refl; statement = refl; command = refl; plain = (refl, refl); lacks = refl }
+meta_made = record { defines = refl; statement = refl; command = refl; plain = (refl, refl); lacks = refl; edit = meta_edit }
+
+pub nodes_edit : IsEditText (first nodes_text)
+unfolding first everything
+nodes_edit = tt
 
 pub nodes_made : IsTextOf with_meta nodes nodes_text
 unfolding understood everything
-nodes_made = record { defines = refl; statement = refl; command = refl; plain = (refl, refl); lacks = refl }
+nodes_made = record { defines = refl; statement = refl; command = refl; plain = (refl, refl); lacks = refl; edit = nodes_edit }
+
+pub entries_edit : IsEditText (first entries_text)
+unfolding first everything
+entries_edit = tt
 
 pub entries_made : IsTextOf with_nodes entries entries_text
 unfolding understood everything
-entries_made = record { defines = refl; statement = refl; command = refl; plain = (refl, refl); lacks = refl }
+entries_made = record { defines = refl; statement = refl; command = refl; plain = (refl, refl); lacks = refl; edit = entries_edit }
+
+pub blocks_edit : IsEditText (first blocks_text)
+unfolding first everything
+blocks_edit = tt
 
 pub blocks_made : IsTextOf with_entries blocks blocks_text
 unfolding understood everything
-blocks_made = record { defines = refl; statement = refl; command = refl; plain = (refl, refl); lacks = refl }
+blocks_made = record { defines = refl; statement = refl; command = refl; plain = (refl, refl); lacks = refl; edit = blocks_edit }
+
+pub handles_edit : IsEditText (first handles_text)
+unfolding first everything
+handles_edit = tt
 
 pub handles_made : IsTextOf with_blocks handles handles_text
 unfolding understood everything
-handles_made = record { defines = refl; statement = refl; command = refl; plain = (refl, refl); lacks = refl }
+handles_made = record { defines = refl; statement = refl; command = refl; plain = (refl, refl); lacks = refl; edit = handles_edit }
+
+pub answers_edit : IsEditText (first answers_text)
+unfolding first everything
+answers_edit = tt
 
 pub answers_made : IsTextOf with_handles answers answers_text
 unfolding understood everything
-answers_made = record { defines = refl; statement = refl; command = refl; plain = (refl, refl); lacks = refl }
+answers_made = record { defines = refl; statement = refl; command = refl; plain = (refl, refl); lacks = refl; edit = answers_edit }
+
+pub lots_edit : IsEditText (first lots_text)
+unfolding first everything
+lots_edit = tt
 
 pub lots_made : IsTextOf with_answers lots lots_text
 unfolding understood everything
-lots_made = record { defines = refl; statement = refl; command = refl; plain = (refl, refl); lacks = refl }
+lots_made = record { defines = refl; statement = refl; command = refl; plain = (refl, refl); lacks = refl; edit = lots_edit }
+
+pub kept_edit : IsEditText (first kept_text)
+unfolding first everything
+kept_edit = tt
 
 pub kept_made : IsTextOf with_lots kept kept_text
 unfolding understood everything
-kept_made = record { defines = refl; statement = refl; command = refl; plain = (refl, refl); lacks = refl }
+kept_made = record { defines = refl; statement = refl; command = refl; plain = (refl, refl); lacks = refl; edit = kept_edit }
 
 -- ---- an index
 
@@ -181,6 +216,7 @@ pub record IsIndexTextOf (s : Schema) (at : ℕ) (table : Table) (index : Index)
   pub statement : statement_of text (understood s text) ≡ text
   pub command : command_of (understood s text) ≡ CreateIndex at
   pub plain : IsPlain (understood s text)
+  pub edit : IsEditText (first text)
 
 -- the tables keep their rows, whatever they are
 pub index_more : (s : Schema) (at : ℕ) (table : Table) (index : Index) (text : List ℕ) → IsIndexTextOf s at table index text → (held : Trees)
@@ -191,14 +227,18 @@ index_more s at table index text made held old new n was w =
     let all = indexed_as s text at table (record index { tree = 0 }) made.listed made.defines old new [] n was.schema wrote in
     record { schema = all.0; sound = w.sound; rows = same_rows held old.now.trees new.now.trees s.tables was.rows all.1 }
 
+pub entries_in_order_edit : IsEditText (first entries_in_order_text)
+unfolding first everything
+entries_in_order_edit = tt
+
 pub entries_in_order_made : IsIndexTextOf with_kept 2 entries entries_in_order entries_in_order_text
 unfolding understood everything
-entries_in_order_made = record { listed = refl; defines = refl; statement = refl; command = refl; plain = (refl, refl) }
+entries_in_order_made = record { listed = refl; defines = refl; statement = refl; command = refl; plain = (refl, refl); edit = entries_in_order_edit }
 
 -- the index, in a store without a row
 pub orders : (old new : State) (r : Result (Unit {0}) Error) → (HasCleanDisk new → Ran entries_in_order_text [] old new r)
     → Survives old new (CommitsBy entries_in_order_text [] old) → Takes (IsBare with_kept) (IsBare store_schema) old new r
 orders =
     makes (IsBare with_kept) with_kept (λ c d h. h.schema) entries_in_order_text [] (CreateIndex 2) entries_in_order_made.command entries_in_order_made.plain
-    refl
+    refl entries_in_order_edit
     (IsBare store_schema) (λ c. index_more with_kept 2 entries entries_in_order entries_in_order_text entries_in_order_made no_trees)

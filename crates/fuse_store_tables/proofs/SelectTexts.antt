@@ -3,17 +3,9 @@ use Rattle.std.proofs.Common.{refl}
 use Rattle.sqlite_resolve.specs.Compile.{first}
 use Rattle.sqlite_tied.specs.Compute.{everything}
 use Rattle.fuse_store_tables.proofs.Selects.{IsSelectText}
-use Rattle.fuse_store_tables.proofs.CounterRows.{select_text as counters_text}
-use Rattle.fuse_store_tables.proofs.KeptRows.{select_text as record_text}
+pub use Rattle.fuse_store_tables.proofs.CounterRows.{select_reads as counters_select}
+pub use Rattle.fuse_store_tables.proofs.KeptRows.{select_reads as record_select}
 use Rattle.fuse_store_tables.proofs.RecordCounts.{kept_text, lots_text}
-
-pub counters_select : IsSelectText (first counters_text)
-unfolding first everything
-counters_select = (_, refl)
-
-pub record_select : IsSelectText (first record_text)
-unfolding first everything
-record_select = (_, refl)
 
 pub kept_count_select : IsSelectText (first kept_text)
 unfolding first everything

@@ -35,6 +35,9 @@ use Rattle.fuse_store_tables.proofs.Ordered.{ordered_query, answered_in_order, r
 use Rattle.fuse_store_tables.proofs.CounterRows.{all_of}
 use Rattle.fuse_store_tables.proofs.Counting.{count_query, counted_all}
 use Rattle.fuse_store_tables.proofs.Deletes.{picking, picks}
+use Rattle.sqlite_resolve.specs.Compile.{first}
+use Rattle.fuse_store_tables.proofs.Edits.{IsEditText}
+use Rattle.fuse_store_tables.proofs.Queries.{IsSelectText}
 
 -- ---- the unnamed nodes
 
@@ -51,6 +54,10 @@ gone_is = refl
 gone_plain : IsPlain (understood store_schema gone_text)
 unfolding understood everything
 gone_plain = (refl, refl)
+
+pub gone_edit : IsEditText (first gone_text)
+unfolding first everything
+gone_edit = tt
 
 pub tests_unnamed : (n : NodeRow) → list_all (holds ([] ∷ node_row n ∷ [])) unnamed_terms ≡ is_unnamed n
 unfolding binary
@@ -70,7 +77,7 @@ unnamed_gone c old new n at w =
 
 pub removes_unnamed : (old new : State) (r : Result (Unit {0}) Error) → (HasCleanDisk new → Ran gone_text [] old new r)
     → Survives old new (CommitsBy gone_text [] old) → Makes without_unnamed old new r
-removes_unnamed = makes Holds store_schema (λ c d h. h.schema) gone_text [] (Delete 1 (picking 1 unnamed_terms)) gone_is gone_plain refl
+removes_unnamed = makes Holds store_schema (λ c d h. h.schema) gone_text [] (Delete 1 (picking 1 unnamed_terms)) gone_is gone_plain refl gone_edit
     (λ c. Holds (without_unnamed c)) unnamed_gone
 
 -- ---- in order
@@ -89,6 +96,10 @@ unnamed_is = refl
 unnamed_plain : IsPlain (understood store_schema unnamed_text)
 unfolding understood everything
 unnamed_plain = (refl, refl)
+
+pub unnamed_select : IsSelectText (first unnamed_text)
+unfolding first everything
+unnamed_select = (_, refl)
 
 unnamed_unlisted : reads_listing store_schema unnamed_text ≡ false
 unfolding understood everything
@@ -111,7 +122,7 @@ unnamed_found c old new rows at h =
 pub unnamed_makes : {X : Type 0} (items : X → List Row) (old new : State) (r : Result X Error)
     → (HasCleanDisk new → IfOk r (λ x. Shown unnamed_text [] old new (items x)))
     → (HasCleanDisk new → IfErr r (FailsToQuery unnamed_text [] old new)) → Survives old new (CommitsShowing unnamed_text [] old) → Makes (λ c. c) old new r
-unnamed_makes items = looks Holds store_schema (λ c d h. h.schema) unnamed_text [] _ unnamed_is unnamed_plain items
+unnamed_makes items = looks Holds store_schema (λ c d h. h.schema) unnamed_text [] _ unnamed_is unnamed_plain unnamed_select items
 
 pub unnamed_finds : {X : Type 0} (items : X → List Row) (old new : State) (r : Result X Error)
     → (HasCleanDisk new → IfOk r (λ x. Shown unnamed_text [] old new (items x)))
@@ -132,6 +143,10 @@ unnamed_sizes_is = refl
 unnamed_sizes_plain : IsPlain (understood store_schema unnamed_sizes_text)
 unfolding understood everything
 unnamed_sizes_plain = (refl, refl)
+
+pub unnamed_sizes_select : IsSelectText (first unnamed_sizes_text)
+unfolding first everything
+unnamed_sizes_select = (_, refl)
 
 unnamed_sizes_unlisted : reads_listing store_schema unnamed_sizes_text ≡ false
 unfolding understood everything
@@ -156,7 +171,7 @@ pub unnamed_sizes_make : {X : Type 0} (items : X → List Row) (old new : State)
     → (HasCleanDisk new → IfOk r (λ x. Shown unnamed_sizes_text [] old new (items x)))
     → (HasCleanDisk new → IfErr r (FailsToQuery unnamed_sizes_text [] old new)) → Survives old new (CommitsShowing unnamed_sizes_text [] old)
     → Makes (λ c. c) old new r
-unnamed_sizes_make items = looks Holds store_schema (λ c d h. h.schema) unnamed_sizes_text [] _ unnamed_sizes_is unnamed_sizes_plain items
+unnamed_sizes_make items = looks Holds store_schema (λ c d h. h.schema) unnamed_sizes_text [] _ unnamed_sizes_is unnamed_sizes_plain unnamed_sizes_select items
 
 pub unnamed_sizes_find : {X : Type 0} (items : X → List Row) (old new : State) (r : Result X Error)
     → (HasCleanDisk new → IfOk r (λ x. Shown unnamed_sizes_text [] old new (items x)))
@@ -177,6 +192,10 @@ count_plain : IsPlain (understood store_schema count_text)
 unfolding understood everything
 count_plain = (refl, refl)
 
+pub count_select : IsSelectText (first count_text)
+unfolding first everything
+count_select = (_, refl)
+
 count_unlisted : reads_listing store_schema count_text ≡ false
 unfolding understood everything
 count_unlisted = refl
@@ -191,7 +210,7 @@ count_found c old new rows at h =
 pub count_makes : {X : Type 0} (items : X → List Row) (old new : State) (r : Result X Error)
     → (HasCleanDisk new → IfOk r (λ x. Shown count_text [] old new (items x)))
     → (HasCleanDisk new → IfErr r (FailsToQuery count_text [] old new)) → Survives old new (CommitsShowing count_text [] old) → Makes (λ c. c) old new r
-count_makes items = looks Holds store_schema (λ c d h. h.schema) count_text [] _ count_is count_plain items
+count_makes items = looks Holds store_schema (λ c d h. h.schema) count_text [] _ count_is count_plain count_select items
 
 pub count_finds : {X : Type 0} (items : X → List Row) (old new : State) (r : Result X Error)
     → (HasCleanDisk new → IfOk r (λ x. Shown count_text [] old new (items x)))

@@ -1,5 +1,5 @@
 -- The effect of a call on a store, by the state of the connection before and after it (defined by this project).
-use Rattle.std.specs.Prelude.{◌≡◌, true, false, IsTrue, Result, OnOk, OnErr, IfErr}
+use Rattle.std.specs.Prelude.{◌≡◌, ◌≢◌, true, false, IsTrue, Result, OnOk, OnErr, IfErr}
 use Rattle.sqlite.specs.Effect.{Database}
 use Rattle.sqlite.specs.State.{State, HasCleanDisk, Survives, KeepsCommit}
 use Rattle.fuse_store_tables.specs.Content.{Content, Holds, LeftAs}
@@ -29,13 +29,14 @@ Inside c = InsideAs (Holds c)
 abbrev pub IsReady : {C : Type 0} → (C → Database → Type 0) → State → Type 0
 IsReady {C} P s = (c : C) × InsideAs (P c) s
 
--- nothing is committed, whether the call succeeded or not
-pub record StaysIn {C : Type 0} (P : C → Database → Type 0) (old new : State) : Type 0 where
-  pub survives : Survives old new (λ _. ¬ IsReady P old)
-  pub kept : HasCleanDisk new → IsReady P old → KeepsCommit old new
+-- nothing is committed of a transaction that is open, whatever its tables are, and whether the call succeeded or not
+pub record Stays (old new : State) : Type 0 where
+  pub survives : Survives old new (λ _. old.in_transaction ≢ true)
+  pub kept : HasCleanDisk new → old.in_transaction ≡ true → KeepsCommit old new
 
-abbrev pub Stays : State → State → Type 0
-Stays = StaysIn Holds
+-- the transaction stays open
+abbrev pub StaysInside : State → State → Type 0
+StaysInside old new = HasCleanDisk new → old.in_transaction ≡ true → new.in_transaction ≡ true
 
 abbrev pub TurnsTo : {C : Type 0} → (P Q : C → Database → Type 0) → State → State → Type 0
 TurnsTo {C} P Q old new = HasCleanDisk new → (c : C) → InsideAs (P c) old → InsideAs (Q c) new
@@ -45,7 +46,8 @@ Turns f = TurnsTo Holds (λ c. Holds (f c))
 
 -- a call within a transaction
 pub record Takes {C X E : Type 0} (P Q : C → Database → Type 0) (old new : State) (result : Result X E) : Type 0 where
-  pub stays : StaysIn P old new
+  pub stays : Stays old new
+  pub within : OnOk result (StaysInside old new)
   pub turns : OnOk result (TurnsTo P Q old new)
 
 abbrev pub Makes : {X E : Type 0} → (Content → Content) → State → State → Result X E → Type 0
@@ -74,6 +76,10 @@ pub record LeavesAlone (old new : State) : Type 0 where
   pub autocommit : HasCleanDisk new → new.in_transaction ≡ false
   pub same : HasCleanDisk new → IsTrue new.is_open → IsTrue old.is_open × (new.committed ≡ old.committed) × (new.now ≡ new.committed)
 
+-- what was committed before is seen, whatever the database is
+abbrev pub RollsBack : State → State → Type 0
+RollsBack old new = HasCleanDisk new → IsTrue new.is_open → (new.now ≡ old.committed) × (new.committed ≡ old.committed)
+
 -- nothing is committed, whatever the database is
 pub record CommitsNothing (old new : State) : Type 0 where
   pub survives : Survives old new (λ _. ⊥)
@@ -96,6 +102,7 @@ Serves f = ServesAs Holds (λ c. Holds (f c))
 -- only reads that succeeded lie between the two states
 pub record Looked (old new : State) : Type 0 where
   pub stays : Stays old new
+  pub within : StaysInside old new
   pub same : Turns (λ c. c) old new
 
 -- a call never opens a connection, and where it succeeds one that was open is open

@@ -1,5 +1,5 @@
 // The begin of a mount: all state of the last mount is deleted, in one transaction.
-ghost use Rattle.std.specs.Prelude.{◌≡◌, map, false, List, ℕ, IsTrue, IfErr, OnOk, OnErr};
+ghost use Rattle.std.specs.Prelude.{◌≡◌, map, false, List, ℕ, IfErr, OnOk, OnErr};
 ghost use Rattle.sqlite.specs.State.{HasCleanDisk, KeepsCommit};
 ghost use Rattle.sqlite.specs.Held.{state};
 ghost use Rattle.fuse_store_tables.specs.Content.{Holds};
@@ -14,7 +14,7 @@ ghost use Rattle.fuse_store_tables.specs.Opening.{IsSecond};
 ghost use Rattle.fuse_store_tables.specs.Moves.{Makes, Serves, ServesAs, IsSafe};
 ghost use Rattle.fuse_store_tables.specs.inner.Performing.{Performs, IsSure, StaysWithin};
 ghost use Rattle.fuse_store_tables.specs.inner.Performing.{CommitsNothing};
-ghost use Rattle.fuse_store_tables.specs.Moves.{StaysOpen, LeavesAlone};
+ghost use Rattle.fuse_store_tables.specs.Moves.{StaysOpen, LeavesAlone, RollsBack};
 ghost use Rattle.fuse_store_tables.specs.Saying.{IsRefusal};
 
 use crate::blocks::remove_blocks_from;
@@ -170,10 +170,7 @@ pub fn begin_mount<S: Alter>(conn: &mut Connection<S>) -> Result<(), StoreFault>
     ensures ended { HasCleanDisk (state S.Store conn.new)
         → (state S.Store conn.new).in_transaction ≡ false }
     // Where the call fails, what was committed before is seen, whatever the database.
-    ensures undone { OnErr result (HasCleanDisk (state S.Store conn.new)
-        → IsTrue (state S.Store conn.new).is_open
-        → ((state S.Store conn.new).now ≡ (state S.Store conn.old).committed)
-        × ((state S.Store conn.new).committed ≡ (state S.Store conn.old).committed)) }
+    ensures undone { OnErr result (RollsBack (state S.Store conn.old) (state S.Store conn.new)) }
 {
     match transact(conn) {
         Ok(()) => Ok(()),

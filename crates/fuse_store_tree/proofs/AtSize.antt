@@ -12,13 +12,13 @@ use Rattle.fuse_tree.specs.State.{State as TreeState, Tree}
 use Rattle.fuse_tree.specs.Rows.{IsRowed, rowed, at_node, sized}
 use Rattle.fuse_store_tables.specs.Content.{Content, node_key, at_by}
 use Rattle.fuse_store_tables.specs.Moves.{Inside, InsideAs, Looked}
-use Rattle.fuse_store_tables.specs.inner.Following.{earlier}
+use Rattle.fuse_store_tables.specs.inner.Following.{earlier, inside_then}
 use Rattle.fuse_store_tree.specs.Fits.{Fits}
 use Rattle.fuse_store_tree.specs.Store.{Store, Held}
 use Rattle.fuse_store_tree.specs.inner.Changing.{Changed, LeavesTrees}
 use Rattle.fuse_store_tree.specs.inner.Writing.{with_change}
 use Rattle.fuse_store_tree.proofs.Described.{Rises, rows_rise, rows_full, row_told, inside_of, IsFull}
-use Rattle.fuse_store_tree.proofs.Steps.{keeps_of, looked_keeps}
+use Rattle.fuse_store_tree.specs.inner.Laws.{looked_fails}
 
 no_more : (xs : List ℕ) → take (length xs) xs ++ [] ≡ xs
 no_more [] = refl
@@ -64,7 +64,8 @@ looked_held a b p clean x at =
 
 pub looked_trees : (a b : State) → Looked a b → LeavesTrees a b
 looked_trees a b p = record {
-  stays = keeps_of a b p.stays;
+  stays = p.stays;
+  within = p.within;
   held = λ clean at. (at.0, looked_held a b p clean at.0 at.1);
   same = λ clean x is_rowed at. looked_held a b p clean x at;
 }
@@ -73,7 +74,8 @@ pub sized_trees : (a b d : State) (node : ℕ) (row : NodeRow) (o : Option NodeR
     → (HasCleanDisk b → (c : Content) → Inside c a → Fits c → o ≡ at_by node_key node c.nodes) → o ≡ Some row
     → Changed (with_change (changes.Sized node row.size)) b d → LeavesTrees a d
 sized_trees a b d node row o p value is q = record {
-  stays = looked_keeps a b d p q.stays;
+  stays = looked_fails a b d p q.stays;
+  within = inside_then a b d p.within q.stays.survives q.within;
   held = λ clean at. (
     with_change (changes.Sized node row.size) at.0,
     q.turns clean at.0 (looked_held a b p (earlier b d _ q.stays.survives clean) at.0 at.1),
@@ -87,7 +89,8 @@ sized_trees a b d node row o p value is q = record {
 
 pub trees_then : (a b d : State) → Looked a b → LeavesTrees b d → LeavesTrees a d
 trees_then a b d p q = record {
-  stays = looked_keeps a b d p q.stays;
+  stays = looked_fails a b d p q.stays;
+  within = inside_then a b d p.within q.stays.survives q.within;
   held = λ clean at. q.held clean (at.0, looked_held a b p (earlier b d _ q.stays.survives clean) at.0 at.1);
   same = λ clean x is_rowed at. q.same clean x is_rowed (looked_held a b p (earlier b d _ q.stays.survives clean) x at);
 }

@@ -13,18 +13,18 @@ use Rattle.fuse_store_tree.specs.Looking.{sees_in, sees_known}
 use Rattle.fuse_store_tree.specs.Store.{Held}
 use Rattle.fuse_store_tree.specs.Holding.{store_of}
 use Rattle.fuse_store_tree.specs.Knowing.{Knows, HeldForKnown}
-use Rattle.fuse_store_tree.specs.inner.Knowing.{ChangedKnown, HeldKnown, KeepsKnown}
+use Rattle.fuse_store_tree.specs.inner.Knowing.{ChangedKnown, HeldKnown}
 use Rattle.fuse_store_tree.specs.inner.Writing.{made_one, made_all, with_changes, with_change}
 use Rattle.fuse_tree.specs.declared.rows.Change.{Change}
 use Rattle.sqlite.specs.State.{State, HasCleanDisk}
-use Rattle.fuse_store_tables.specs.Moves.{InsideAs, IsReady, StaysIn}
+use Rattle.fuse_store_tables.specs.Moves.{InsideAs, IsReady, Stays}
 use Rattle.fuse_store_tree.specs.inner.Changing.{LeavesTrees}
 use Rattle.fuse_store_tables.specs.inner.Following.{earlier, stays_then}
 use Rattle.fuse_store_tree.proofs.AtSize.{tree_rowed}
-use Rattle.fuse_store_tree.proofs.KnownSteps.{held_in, known_in, held_for, keeps_for_known, known_then}
+use Rattle.fuse_store_tree.proofs.KnownSteps.{held_in, known_in, held_for, known_then}
 use Rattle.fuse_store_tree.proofs.Rooms.{capacity_in, capacity_told, changes_made}
 use Rattle.fuse_store_tree.proofs.Sure.{fault_next}
-use Rattle.fuse_store_tree.proofs.Turning.{told_in, keeps_for}
+use Rattle.fuse_store_tree.proofs.Turning.{told_in}
 
 made_last : (rows : Rows) (cs : List Change) (c : Change) → made_all rows (cs ++ c ∷ []) ≡ made_one (made_all rows cs) c
 made_last rows [] c = refl
@@ -37,6 +37,7 @@ known_more m n o cs c a b d p q =
     let both = known_then m n o (with_changes cs) (with_change c) a b d p q in
     record {
       stays = both.stays;
+      within = both.within;
       turns = λ clean x at. subst (λ r. InsideAs (HeldKnown o (record x { rows = r })) d) (sym (made_last x.rows cs c))
           (both.turns clean x at);
     }
@@ -69,9 +70,9 @@ module _ (m n : Option Meta) (a b : State) (leaves : LeavesTrees a b) (knows : H
       let held = told_in y a (held_for m y a at) in
       (x, known_in n x b (leaves.same clean x (tree_rowed y.tree at.holds.0.tree) held) (knows clean x.rows (x, held, refl) at.holds.1))
 
-  pub acted_keeps : (d : State) → StaysIn (HeldKnown n) b d → KeepsKnown m a d
-  acted_keeps d q = stays_then (HeldForKnown m) (HeldKnown n) a b d (keeps_for_known m a b (keeps_for a b leaves.stays)) ready_then q
+  pub acted_keeps : (d : State) → Stays b d → Stays a d
+  acted_keeps d q = stays_then a b d leaves.stays leaves.within q
 
-  pub acted_sure : (d : State) (f : StoreFault) → StaysIn (HeldKnown n) b d → (HasCleanDisk d → IsReady (HeldKnown n) b → IsOutside f)
+  pub acted_sure : (d : State) (f : StoreFault) → Stays b d → (HasCleanDisk d → IsReady (HeldKnown n) b → IsOutside f)
       → HasCleanDisk d → IsReady (HeldForKnown m) a → IsOutside f
   acted_sure d f q sure = fault_next (HeldForKnown m) (HeldKnown n) a b d f q ready_then sure

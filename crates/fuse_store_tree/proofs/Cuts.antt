@@ -13,21 +13,19 @@ use Rattle.fuse_tree.specs.Rows.{sized, full_at, content_of}
 use Rattle.fuse_tree.specs.declared.rows.Change.TheVariants as changes
 use Rattle.fuse_store_tables.specs.Blocks.{Block, block_at, is_at, is_from}
 use Rattle.fuse_store_tables.specs.Content.{Content, without_blocks_from, node_key}
-use Rattle.fuse_store_tables.specs.Moves.{Makes}
-use Rattle.fuse_store_tables.specs.inner.Following.{earlier}
+use Rattle.fuse_store_tables.specs.Moves.{Makes, Stays}
+use Rattle.fuse_store_tables.specs.inner.Following.{earlier, inside_then, stays_then}
 use Rattle.fuse_store_tree.specs.Fits.{IsWhole}
 use Rattle.fuse_store_tree.specs.Store.{Store, DescribesAs, byte_at, bytes_of, byte_in, rows_bytes, rows_ends, bodies_of, AreWithin, in_order}
 use Rattle.fuse_store_tree.specs.inner.Reading.{Describes}
 use Rattle.fuse_store_tree.specs.inner.Writing.{cut, overlay, cut_in, zeros_in, shortened, with_change}
-use Rattle.fuse_store_tree.specs.inner.Changing.{Changed, Cut, Zeroed, KeepsBytes}
+use Rattle.fuse_store_tree.specs.inner.Changing.{Changed, Cut, Zeroed}
 use Rattle.fuse_store_tree.proofs.Orders.{all_filter}
 use Rattle.fuse_store_tree.proofs.Within.{within_more, within_left, left_short, shorter}
 use Rattle.fuse_store_tree.proofs.BlockBytes.{lower, upper, others_left}
 use Rattle.fuse_store_tree.proofs.Overlays.{byte_sized, sized_length, zero_at, beyond, low_test, high_test}
-use Rattle.fuse_store_tree.proofs.Steps.{bytes_keep, bytes_then}
 use Rattle.fuse_store_tree.proofs.Writes.{describes_same, rows_same, content_other, content_here, none_changed, none_there}
 use Rattle.fuse_store_tree.proofs.RowChanges.{same_number}
-use Rattle.fuse_store_tree.proofs.Steps.{held_of}
 
 -- ---- blocks taken out
 
@@ -83,7 +81,8 @@ same_cut node at g h same n i = ap (λ b. cond ((n == node) && not (nat_lt i at)
 pub blocks_cut : {X : Type 0} (a b : State) (x : X) (node k : ℕ) → Makes {X = X} {E = Error} (without_blocks_from node k) a b (Ok x)
     → Cut node (k * block_bytes) a b
 blocks_cut a b x node k p = record {
-  stays = bytes_keep a b p.stays;
+  stays = p.stays;
+  within = p.within;
   turns = λ clean w at.
       let c = at.holds.0 in
       let was = at.holds.2 in
@@ -118,8 +117,8 @@ blocks_cut a b x node k p = record {
       };
 }
 
-pub cut_keeps : (node at : ℕ) (a b d : State) → Cut node at a b → KeepsBytes b d → KeepsBytes a d
-cut_keeps node at a b d p q = bytes_then a b d p.stays (λ clean w now. ((w.0, cut_in node at w.1), p.turns clean w now)) q
+pub cut_keeps : (node at : ℕ) (a b d : State) → Cut node at a b → Stays b d → Stays a d
+cut_keeps node at a b d p q = stays_then a b d p.stays p.within q
 
 -- ---- the rest of a block set to 0
 
@@ -152,6 +151,7 @@ cut_then node size end zeros a b d p are high none q =
     let second : Zeroed node size (replicate (end - size) 0) b d = subst (λ z. Zeroed node size z b d) are q in
     record {
       stays = cut_keeps node end a b d p second.stays;
+      within = inside_then a b d p.within second.stays.survives second.within;
       turns = λ clean w now.
           let mid = p.turns (earlier b d _ second.stays.survives clean) w now in
           let last = second.turns clean (w.0, cut_in node end w.1) mid in
@@ -241,7 +241,8 @@ sized_told x node size c told = record {
 
 pub sized_changed : (node size : ℕ) (a d : State) → Cut node size a d → Changed (with_change (changes.Sized node size)) a d
 sized_changed node size a d p = record {
-  stays = held_of a d p.stays;
+  stays = p.stays;
+  within = p.within;
   turns = λ clean s now.
       let w = p.turns clean (s, bodies_of s.rows) now in
       record {

@@ -11,7 +11,7 @@ use Rattle.fuse_tree.specs.declared.rows.Change.TheVariants as changes
 use Rattle.fuse_tree.specs.Rows.{content_of}
 use Rattle.fuse_store_tables.specs.Content.{Content, node_key, without_by, without_node}
 use Rattle.fuse_store_tables.specs.Moves.{Makes}
-use Rattle.fuse_store_tables.specs.inner.Following.{earlier}
+use Rattle.fuse_store_tables.specs.inner.Following.{earlier, inside_then}
 use Rattle.fuse_store_tree.specs.Fits.{KeepsNode}
 use Rattle.fuse_store_tree.specs.Store.{Store, DescribesAs, byte_at, rows_bytes, rows_ends, bodies_of, in_order}
 use Rattle.fuse_store_tree.specs.inner.Reading.{Describes}
@@ -20,7 +20,6 @@ use Rattle.fuse_store_tree.specs.inner.Changing.{Changed, Cut}
 use Rattle.fuse_store_tree.proofs.Described.{same_test, filter_same}
 use Rattle.fuse_store_tree.proofs.Orders.{all_filter, one_gone}
 use Rattle.fuse_store_tree.proofs.Within.{within_more}
-use Rattle.fuse_store_tree.proofs.Steps.{bytes_keep, held_of}
 use Rattle.fuse_store_tree.proofs.Cuts.{cut_keeps}
 
 module _ (node : ℕ) where
@@ -104,7 +103,8 @@ module _ (node : ℕ) where
 pub node_goes : {X : Type 0} (a b d : State) (x : X) (node : ℕ) → Cut node 0 a b → Makes {X = X} {E = Error} (without_node node) b d (Ok x)
     → Changed (with_change (changes.NodeGone node)) a d
 node_goes a b d x node p q = record {
-  stays = held_of a d (cut_keeps node 0 a b d p (bytes_keep b d q.stays));
+  stays = cut_keeps node 0 a b d p q.stays;
+  within = inside_then a b d p.within q.stays.survives q.within;
   turns = λ clean s at.
       let mid = p.turns (earlier b d _ q.stays.survives clean) (s, bodies_of s.rows) at in
       let now = q.turns clean mid.holds.0 (record { is_open = mid.is_open; in_transaction = mid.in_transaction; holds = mid.holds.1 }) in

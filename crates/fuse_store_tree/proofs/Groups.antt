@@ -11,9 +11,10 @@ use Rattle.fuse_store_tables.specs.inner.Following.{earlier}
 use Rattle.fuse_store_tree.specs.Holding.{Holding}
 use Rattle.fuse_store_tree.specs.declared.meta.Meta.{Meta}
 use Rattle.fuse_store_tree.specs.inner.Changing.{InsideFor, Turned}
-use Rattle.fuse_store_tree.specs.inner.Knowing.{InsideKnown, KeepsKnown, TurnedKnown}
+use Rattle.fuse_store_tree.specs.inner.Knowing.{InsideKnown, TurnedKnown}
 use Rattle.fuse_store_tree.specs.Group.{without_record, without_settled, lot_for, with_lot_for, taken, with_group, dones_of, prepared, performed, all_dones, HasLotLeft}
 use Rattle.fuse_store_tree.proofs.KnownSteps.{held_for, turned_so, turned_known_same, turned_known_then}
+use Rattle.fuse_store_tables.specs.Moves.{Stays}
 
 -- ---- one more request
 
@@ -93,7 +94,7 @@ grouped m o lot n ids es a b d p value q =
     (turned_known_then m m o (prepared lot ids) (with_group n es) a b d (prepared_known m lot ids a b p) q)
 
 pub dones_are : (m : Option Meta) (lot : Option ℕ) (n : ℕ) (ids : List ℕ) (es : List Entry) (a b d : State) (dones : List Done) → Turned (prepared lot ids) a b
-    → (HasCleanDisk b → (y : Holding) → InsideFor y a → n ≡ lot_for lot y) → KeepsKnown m b d → AreDones m n es b d dones
+    → (HasCleanDisk b → (y : Holding) → InsideFor y a → n ≡ lot_for lot y) → Stays b d → AreDones m n es b d dones
     → HasCleanDisk d → (y : Holding) → InsideKnown m y a → dones ≡ all_dones lot ids es y
 dones_are m lot n ids es a b d dones p value keeps are clean y at =
     let mid = earlier b d _ keeps.survives clean in

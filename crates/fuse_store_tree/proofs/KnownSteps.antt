@@ -1,16 +1,14 @@
 -- Steps where what is known of the table `meta` was right, one after another.
 use Rattle.std.proofs.Common.{◌≡◌, Option, Some, None, Result, Ok, Err, OnOk, OnErr, refl, sym, subst}
-use Rattle.sqlite.specs.Effect.{Database}
 use Rattle.sqlite.specs.State.{State, HasCleanDisk}
-use Rattle.sqlite.proofs.StateLemmas.{survives_weaker}
 use Rattle.sqlite.specs.declared.error.Error.{Error}
 use Rattle.fuse_tree.specs.Rows.{Rows, rowed}
 use Rattle.fuse_tree.specs.declared.rows.Change.{Change}
 use Rattle.fuse_tree.specs.declared.rows.Change.TheVariants as changes
 use Rattle.fuse_keeper.specs.declared.fault.StoreFault.{StoreFault}
 use Rattle.fuse_store_tables.specs.Content.{Content}
-use Rattle.fuse_store_tables.specs.Moves.{InsideAs, IsReady, Looked, StaysIn, Makes}
-use Rattle.fuse_store_tables.specs.inner.Following.{earlier, stays_then}
+use Rattle.fuse_store_tables.specs.Moves.{InsideAs, IsReady, Looked, Makes, Stays}
+use Rattle.fuse_store_tables.specs.inner.Following.{earlier, inside_then, stays_then}
 use Rattle.fuse_store_tables.specs.inner.Performing.{IsSure}
 use Rattle.fuse_store_tree.specs.declared.meta.Meta.{Meta}
 use Rattle.fuse_store_tree.specs.Store.{Store, Held}
@@ -18,20 +16,12 @@ use Rattle.fuse_store_tree.specs.Holding.{Holding, HeldFor}
 use Rattle.fuse_store_tree.specs.Knowing.{Knows, HeldForKnown}
 use Rattle.fuse_store_tree.specs.inner.Reading.{Describes}
 use Rattle.fuse_store_tree.specs.inner.Writing.{with_change, made_one}
-use Rattle.fuse_store_tree.specs.inner.Changing.{Changed, Keeps, InsideFor, KeepsFor, Turned}
-use Rattle.fuse_store_tree.specs.inner.Knowing.{HeldKnown, ChangedKnown, InsideKnown, KeepsKnown, TurnedKnown, known_after}
+use Rattle.fuse_store_tree.specs.inner.Changing.{Changed, InsideFor, Turned}
+use Rattle.fuse_store_tree.specs.inner.Knowing.{HeldKnown, ChangedKnown, InsideKnown, TurnedKnown, known_after}
 use Rattle.fuse_store_tree.proofs.Described.{inside_of}
-use Rattle.fuse_store_tree.proofs.Steps.{keeps_of}
 use Rattle.fuse_store_tree.proofs.Turning.{looked_for}
 
 -- ---- the databases of a step
-
--- the same step, begun with fewer databases
-pub stays_less : {C D : Type 0} (P : C → Database → Type 0) (Q : D → Database → Type 0) (a b : State) → (IsReady Q a → IsReady P a) → StaysIn P a b → StaysIn Q a b
-stays_less P Q a b less p = record {
-  survives = survives_weaker a b _ _ (λ _ db none at. none (less at)) p.survives;
-  kept = λ clean at. p.kept clean (less at);
-}
 
 -- what is held, where what is known of it is right
 pub held_in : (m : Option Meta) (x : Store) (a : State) → InsideAs (HeldKnown m x) a → InsideAs (Held x) a
@@ -51,12 +41,6 @@ ready_known m a (x, at) = (x, held_in m x a at)
 
 pub ready_for_known : (m : Option Meta) (a : State) → IsReady (HeldForKnown m) a → IsReady HeldFor a
 ready_for_known m a (y, at) = (y, held_for m y a at)
-
-pub keeps_known : (m : Option Meta) (a b : State) → Keeps a b → StaysIn (HeldKnown m) a b
-keeps_known m a b = stays_less Held (HeldKnown m) a b (ready_known m a)
-
-pub keeps_for_known : (m : Option Meta) (a b : State) → KeepsFor a b → KeepsKnown m a b
-keeps_for_known m a b = stays_less HeldFor (HeldForKnown m) a b (ready_for_known m a)
 
 -- ---- changes
 
@@ -81,7 +65,8 @@ knows_after (Some m) change rows k = knows_meta m change rows k
 pub changed_so : (m : Option Meta) (change : Change) (a b : State) → Changed (with_change change) a b
     → ChangedKnown m (known_after m change) (with_change change) a b
 changed_so m change a b p = record {
-  stays = keeps_known m a b p.stays;
+  stays = p.stays;
+  within = p.within;
   turns = λ clean x at. known_in (known_after m change) (with_change change x) b (p.turns clean x (held_in m x a at))
       (knows_after m change x.rows at.holds.1);
 }
@@ -96,7 +81,8 @@ pub changed_where : {X : Type 0} (m : Option Meta) (change : Change) (f : Conten
     → ((s : Store) (c : Content) → Knows m s.rows → Describes s c → Describes (with_change change s) (f c))
     → Makes {X = X} {E = Error} f a b (Ok x) → ChangedKnown m (known_after m change) (with_change change) a b
 changed_where m change f a b x tells p = record {
-  stays = keeps_known m a b (keeps_of a b p.stays);
+  stays = p.stays;
+  within = p.within;
   turns = λ clean s at.
       let held = held_in m s a at in
       let now = p.turns clean held.holds.0 (inside_of s a held) in
@@ -105,25 +91,26 @@ changed_where m change f a b x tells p = record {
       (knows_after m change s.rows at.holds.1);
 }
 
-pub known_keeps : (m n : Option Meta) (f : Store → Store) (a b d : State) → ChangedKnown m n f a b → StaysIn (HeldKnown n) b d → StaysIn (HeldKnown m) a d
-known_keeps m n f a b d p q = stays_then (HeldKnown m) (HeldKnown n) a b d p.stays (λ clean at. (f at.0, p.turns clean at.0 at.1)) q
+pub known_keeps : (m n : Option Meta) (f : Store → Store) (a b d : State) → ChangedKnown m n f a b → Stays b d → Stays a d
+known_keeps m n f a b d p q = stays_then a b d p.stays p.within q
 
 pub known_then : (m n o : Option Meta) (f g : Store → Store) (a b d : State) → ChangedKnown m n f a b → ChangedKnown n o g b d → ChangedKnown m o (λ x. g (f x)) a d
 known_then m n o f g a b d p q = record {
   stays = known_keeps m n f a b d p q.stays;
+  within = inside_then a b d p.within q.stays.survives q.within;
   turns = λ clean x at. q.turns clean (f x) (p.turns (earlier b d _ q.stays.survives clean) x at);
 }
 
 -- ---- what is held
 
-pub turned_known_keeps : (m n : Option Meta) (f : Holding → Holding) (a b d : State) → TurnedKnown m n f a b → KeepsKnown n b d → KeepsKnown m a d
-turned_known_keeps m n f a b d p q =
-    stays_then (HeldForKnown m) (HeldForKnown n) a b d p.stays (λ clean at. (f at.0, p.turns clean at.0 at.1)) q
+pub turned_known_keeps : (m n : Option Meta) (f : Holding → Holding) (a b d : State) → TurnedKnown m n f a b → Stays b d → Stays a d
+turned_known_keeps m n f a b d p q = stays_then a b d p.stays p.within q
 
 pub turned_known_then : (m n o : Option Meta) (f g : Holding → Holding) (a b d : State) → TurnedKnown m n f a b → TurnedKnown n o g b d
     → TurnedKnown m o (λ y. g (f y)) a d
 turned_known_then m n o f g a b d p q = record {
   stays = turned_known_keeps m n f a b d p q.stays;
+  within = inside_then a b d p.within q.stays.survives q.within;
   turns = λ clean y at. q.turns clean (f y) (p.turns (earlier b d _ q.stays.survives clean) y at);
 }
 
@@ -131,13 +118,15 @@ pub turned_known_same : (m n : Option Meta) (f g : Holding → Holding) (a b : S
     → TurnedKnown m n f a b → TurnedKnown m n g a b
 turned_known_same m n f g a b same p = record {
   stays = p.stays;
+  within = p.within;
   turns = λ clean y at. subst (λ z. InsideKnown n z b) (same clean y at) (p.turns clean y at);
 }
 
 -- a step that leaves the tree
 pub turned_so : (m : Option Meta) (f : Holding → Holding) (a b : State) → ((y : Holding) → (f y).tree ≡ y.tree) → Turned f a b → TurnedKnown m m f a b
 turned_so m f a b same p = record {
-  stays = keeps_for_known m a b p.stays;
+  stays = p.stays;
+  within = p.within;
   turns = λ clean y at.
       known_for m (f y) b (p.turns clean y (held_for m y a at)) (subst (λ t. Knows m (rowed t)) (sym (same y)) at.holds.1);
 }
@@ -147,6 +136,6 @@ looked_known m a b p = turned_so m (λ y. y) a b (λ y. refl) (looked_for a b p)
 
 -- a fault after a step
 pub known_sure : {X : Type 0} (m n : Option Meta) (f : Holding → Holding) (a b d : State) (r : Result X StoreFault) → TurnedKnown m n f a b
-    → OnErr r (KeepsKnown n b d) → IsSure (HeldForKnown n) b d r → IsSure (HeldForKnown m) a d r
+    → OnErr r (Stays b d) → IsSure (HeldForKnown n) b d r → IsSure (HeldForKnown m) a d r
 known_sure m n f a b d (Ok x) p keeps sure clean = tt
 known_sure m n f a b d (Err e) p keeps sure clean = λ (y, at). sure clean (f y, p.turns (earlier b d _ keeps.survives clean) y at)

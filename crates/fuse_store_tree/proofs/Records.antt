@@ -14,7 +14,7 @@ use Rattle.fuse_keeper.specs.History.{Entry, entry_id}
 use Rattle.fuse_keeper.specs.Group.{ids_of}
 use Rattle.fuse_keeper.specs.declared.keeper.Done.{Done}
 use Rattle.fuse_store_tables.specs.Content.{Content, Kept, kept_key, put_by, without_by, with_kept, without_kept, without_four, with_lot, set_counter}
-use Rattle.fuse_store_tables.specs.Moves.{Makes, Inside, Looked}
+use Rattle.fuse_store_tables.specs.Moves.{Makes, Inside, Looked, Stays, StaysInside}
 use Rattle.fuse_store_tables.specs.inner.Following.{earlier}
 use Rattle.fuse_store_tree.specs.Fits.{Fits, KeepsRecord}
 use Rattle.fuse_store_tree.specs.Store.{Store, records_of, counters_of}
@@ -22,7 +22,7 @@ use Rattle.fuse_store_tree.specs.inner.Reading.{Describes, value_of}
 use Rattle.fuse_store_tree.specs.inner.Acting.{ActsInside}
 use Rattle.fuse_store_tree.specs.declared.meta.Meta.{Meta}
 use Rattle.fuse_store_tree.specs.inner.Changing.{InsideFor, Turned}
-use Rattle.fuse_store_tree.specs.inner.Knowing.{InsideKnown, KeepsKnown, TurnedKnown}
+use Rattle.fuse_store_tree.specs.inner.Knowing.{InsideKnown, TurnedKnown}
 use Rattle.fuse_store_tree.specs.inner.Laws.{looked_still}
 use Rattle.fuse_store_tree.proofs.Steps.{made, made_known}
 use Rattle.fuse_store_tree.proofs.Looks.{key_differs, all_map}
@@ -113,10 +113,11 @@ recorded id lot said a b x low fits small p =
 
 -- ---- a request acts
 
-pub acts : (m n : Option Meta) (e : Entry) (a b : State) (answer : Said) → KeepsKnown m a b
+pub acts : (m n : Option Meta) (e : Entry) (a b : State) (answer : Said) → Stays a b → StaysInside a b
     → ((s : TreeState) → Tree s → ActsInside m n a b s (done s e.asked e.moment) answer) → TurnedKnown m n (with_act e) a b
-acts m n e a b answer keeps acted = record {
+acts m n e a b answer keeps within acted = record {
   stays = keeps;
+  within = within;
   turns = λ clean y at.
       let held = held_for m y a at in
       let did = acted y.tree held.holds.tree clean (store_of y) refl (told_in y a held) at.holds.1 in
@@ -241,14 +242,14 @@ said_is m n e a b answer acted clean y at =
     let held = held_for m y a at in
     (acted y.tree held.holds.tree clean (store_of y) refl (told_in y a held) at.holds.1).answer_is
 
-pub acted_recorded : (m n : Option Meta) (id lot : ℕ) (e : Entry) (a b d : State) (answer : Said) → id ≡ entry_id e → KeepsKnown m a b
+pub acted_recorded : (m n : Option Meta) (id lot : ℕ) (e : Entry) (a b d : State) (answer : Said) → id ≡ entry_id e → Stays a b → StaysInside a b
     → ((s : TreeState) → Tree s → ActsInside m n a b s (done s e.asked e.moment) answer) → Turned (with_record id lot answer) b d
     → TurnedKnown m n (acted_on lot e) a d
-acted_recorded m n id lot e a b d answer same keeps acted p =
+acted_recorded m n id lot e a b d answer same keeps within acted p =
     turned_known_same m n (λ y. with_record id lot answer (with_act e y)) (acted_on lot e) a d
     (λ clean y at. ap (λ i. with_record i lot answer (with_act e y)) same
     ∙ ap (λ said. with_record (entry_id e) lot said (with_act e y)) (said_is m n e a b answer acted (earlier b d _ p.stays.survives clean) y at))
-    (turned_known_then m n n (with_act e) (with_record id lot answer) a b d (acts m n e a b answer keeps acted)
+    (turned_known_then m n n (with_act e) (with_record id lot answer) a b d (acts m n e a b answer keeps within acted)
     (turned_so n (with_record id lot answer) b d (λ y. refl) p))
 
 pub answer_told : (m n : Option Meta) (id lot : ℕ) (e : Entry) (a b d : State) (answer : Said)

@@ -13,7 +13,7 @@ use Rattle.fuse_tree.specs.declared.planning.fault.PlanFault.{PlanFault}
 use Rattle.fuse_tree.specs.declared.planning.fault.PlanFault.TheVariants as plans
 use Rattle.fuse_store_tables.specs.Faults.{IsOutside, IsPlain}
 use Rattle.fuse_store_tables.specs.Content.{Content}
-use Rattle.fuse_store_tables.specs.Moves.{Inside, IsReady, Stays, StaysIn}
+use Rattle.fuse_store_tables.specs.Moves.{Inside, IsReady, Stays}
 use Rattle.fuse_store_tables.specs.inner.Performing.{IsSure}
 use Rattle.fuse_store_tables.specs.inner.Following.{earlier}
 use Rattle.fuse_store_tree.specs.Fits.{Fits}
@@ -23,17 +23,17 @@ use Rattle.fuse_store_tree.specs.Knowing.{HeldForKnown}
 use Rattle.fuse_store_tree.specs.Looking.{look_fault, sees_known, MayFail}
 use Rattle.fuse_store_tree.specs.inner.Acting.{why_no_plan}
 use Rattle.fuse_store_tree.specs.Holding.{Holding, HeldFor, store_of}
-use Rattle.fuse_store_tree.specs.inner.Changing.{InsideFor, KeepsFor, Turned, IsSureFor}
+use Rattle.fuse_store_tree.specs.inner.Changing.{InsideFor, Turned, IsSureFor}
 use Rattle.fuse_store_tree.specs.Group.{HasLotLeft}
 use Rattle.fuse_store_tree.proofs.Turning.{told_in}
 
 -- a fault after a step: it begins with what the step makes
-pub fault_next : {C D : Type 0} (P : C → Database → Type 0) (Q : D → Database → Type 0) (a b d : State) (f : StoreFault) → StaysIn Q b d
+pub fault_next : {C D : Type 0} (P : C → Database → Type 0) (Q : D → Database → Type 0) (a b d : State) (f : StoreFault) → Stays b d
     → (HasCleanDisk b → IsReady P a → IsReady Q b) → (HasCleanDisk d → IsReady Q b → IsOutside f) → HasCleanDisk d → IsReady P a → IsOutside f
 fault_next P Q a b d f stays on sure clean at = sure clean (on (earlier b d _ stays.survives clean) at)
 
 -- the same of a call
-pub sure_next : {C D X : Type 0} (P : C → Database → Type 0) (Q : D → Database → Type 0) (a b d : State) (r : Result X StoreFault) → OnErr r (StaysIn Q b d)
+pub sure_next : {C D X : Type 0} (P : C → Database → Type 0) (Q : D → Database → Type 0) (a b d : State) (r : Result X StoreFault) → OnErr r (Stays b d)
     → (HasCleanDisk b → IsReady P a → IsReady Q b) → IsSure Q b d r → IsSure P a d r
 sure_next P Q a b d (Ok x) stays on sure clean = tt
 sure_next P Q a b d (Err f) stays on sure clean = fault_next P Q a b d f stays on sure clean
@@ -109,7 +109,7 @@ ready_held a (y, at) = (store_of y, told_in y a at)
 -- ---- a group
 
 -- the same where no lot may be left
-pub left_sure : {X : Type 0} (lot : Option ℕ) (f : Holding → Holding) (a b d : State) (r : Result X StoreFault) → Turned f a b → OnErr r (KeepsFor b d)
+pub left_sure : {X : Type 0} (lot : Option ℕ) (f : Holding → Holding) (a b d : State) (r : Result X StoreFault) → Turned f a b → OnErr r (Stays b d)
     → ((y : Holding) → HasLotLeft lot y → HasLotLeft lot (f y)) → IsSureFor lot b d r → IsSureFor lot a d r
 left_sure lot f a b d (Ok x) p keeps on sure clean = tt
 left_sure lot f a b d (Err e) p keeps on sure clean = λ y at left. sure clean (f y) (p.turns (earlier b d _ keeps.survives clean) y at) (on y left)

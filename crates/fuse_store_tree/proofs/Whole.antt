@@ -1,21 +1,23 @@
 -- A group as a whole transaction.
-use Rattle.std.proofs.Common.{◌≡◌, ◌∙◌, Option, None, Ok, Err, Bool, true, false, cond, sym, subst}
-use Rattle.sqlite.specs.State.{State, HasCleanDisk}
+use Rattle.std.proofs.Common.{◌≡◌, ◌∙◌, Option, None, Ok, Err, Bool, true, false, cond, sym, ap, subst}
+use Rattle.sqlite.specs.State.{State, HasCleanDisk, KeepsCommit}
 use Rattle.sqlite.proofs.StateLemmas.{survives_then, survives_weaker}
 use Rattle.sqlite.proofs.InsideLemmas.{keeps_then}
 use Rattle.sqlite.specs.declared.error.Error.{Error}
 use Rattle.fuse_keeper.specs.declared.fault.StoreFault.{StoreFault}
 use Rattle.fuse_keeper.specs.declared.fault.StoreFault.TheVariants.{Memory, Sql}
 use Rattle.fuse_keeper.specs.Faults.{fault_of, is_memory}
-use Rattle.fuse_store_tables.specs.Moves.{RestsAs, Begins, Ends, Takes, ServesAs, Undoes, LeavesAlone}
+use Rattle.fuse_store_tables.specs.Moves.{RestsAs, Begins, Ends, Takes, ServesAs, Undoes, LeavesAlone, RollsBack, Stays}
 use Rattle.fuse_store_tables.specs.Saying.{IsRefusal}
 use Rattle.fuse_store_tables.specs.inner.Performing.{CommitsNothing}
 use Rattle.fuse_store_tables.specs.inner.Following.{earlier}
+use Rattle.sqlite.specs.Effect.{Database}
+use Rattle.fuse_store_tree.specs.Committing.{CommitsOnce}
 use Rattle.fuse_store_tree.specs.Holding.{Holding, HeldFor, ReportsAfter}
 use Rattle.fuse_store_tree.specs.declared.meta.Meta.{Meta}
 use Rattle.fuse_store_tree.specs.Knowing.{HeldForKnown, ReportsKnown}
 use Rattle.fuse_store_tree.specs.inner.Changing.{InsideFor}
-use Rattle.fuse_store_tree.specs.inner.Knowing.{InsideKnown, KeepsKnown, TurnedKnown}
+use Rattle.fuse_store_tree.specs.inner.Knowing.{InsideKnown, TurnedKnown}
 
 -- what was held before the transaction, when it has begun
 pub begun_for : {X : Type 0} (m : Option Meta) (a b : State) (x : X) → Begins {E = Error} a b (Ok x) → HasCleanDisk b → (y : Holding)
@@ -27,15 +29,15 @@ begun_for m a b x p clean y at =
 -- what was made, as a call within a transaction
 pub takes_for : {X : Type 0} (m n : Option Meta) (f : Holding → Holding) (a b : State) (x : X) → TurnedKnown m n f a b
     → Takes {E = StoreFault} (HeldForKnown m) (λ y. HeldForKnown n (f y)) a b (Ok x)
-takes_for m n f a b x p = record { stays = p.stays; turns = p.turns }
+takes_for m n f a b x p = record { stays = p.stays; within = p.within; turns = p.turns }
 
 -- what failed made nothing
-pub fails_for : {X : Type 0} (m n : Option Meta) (f : Holding → Holding) (a b : State) (e : StoreFault) → KeepsKnown m a b
+pub fails_for : {X : Type 0} (m n : Option Meta) (f : Holding → Holding) (a b : State) (e : StoreFault) → Stays a b
     → Takes {X = X} (HeldForKnown m) (λ y. HeldForKnown n (f y)) a b (Err e)
-fails_for m n f a b e keeps = record { stays = keeps; turns = tt }
+fails_for m n f a b e keeps = record { stays = keeps; within = tt; turns = tt }
 
 -- facts within the transaction hold after it
-pub told_after : {X Y : Type 0} (m : Option Meta) (P : Holding → Type 0) (a b d e : State) (x : X) (y : Y) → Begins {E = Error} a b (Ok x) → KeepsKnown m b d
+pub told_after : {X Y : Type 0} (m : Option Meta) (P : Holding → Type 0) (a b d e : State) (x : X) (y : Y) → Begins {E = Error} a b (Ok x) → Stays b d
     → (HasCleanDisk d → (z : Holding) → InsideKnown m z b → P z) → Ends {E = Error} d e (Ok y) → ReportsKnown m a e P
 told_after m P a b d e x y p keeps told q clean z at =
     let last = earlier d e _ q.survives clean in
@@ -43,7 +45,7 @@ told_after m P a b d e x y p keeps told q clean z at =
     told last z (begun_for m a b x p first z at)
 
 -- the same of what is held, whatever is known of it
-pub lot_after : {X Y : Type 0} (m : Option Meta) (P : Holding → Type 0) (a b d e : State) (x : X) (y : Y) → Begins {E = Error} a b (Ok x) → KeepsKnown m b d
+pub lot_after : {X Y : Type 0} (m : Option Meta) (P : Holding → Type 0) (a b d e : State) (x : X) (y : Y) → Begins {E = Error} a b (Ok x) → Stays b d
     → (HasCleanDisk d → (z : Holding) → InsideFor z b → P z) → Ends {E = Error} d e (Ok y) → ReportsAfter a e P
 lot_after m P a b d e x y p keeps told q clean z at =
     let last = earlier d e _ q.survives clean in
@@ -61,15 +63,20 @@ unrefusing e f is refused = told (is_memory e) (subst IsRefusal is refused)
     told false none = none
 
 -- what failed within the transaction committed nothing
-pub nothing_for : {X : Type 0} (m : Option Meta) (a b d : State) (x : X) → Begins {E = Error} a b (Ok x) → KeepsKnown m b d → (y : Holding)
-    → RestsAs (HeldForKnown m y) a → CommitsNothing a d
-nothing_for m a b d x p keeps y at = record {
+pub nothing_for : {X : Type 0} (a b d : State) (x : X) → Begins {E = Error} a b (Ok x) → Stays b d → CommitsNothing a d
+nothing_for a b d x p stays = record {
   survives = survives_then a b d _ _ _ (λ _ db none. none)
-      (λ clean db none. absurd (none (y, begun_for m a b x p (earlier b d _ keeps.survives clean) y at))) p.survives keeps.survives;
+      (λ clean db none. absurd (none (p.begun (earlier b d _ stays.survives clean)).1)) p.survives stays.survives;
   kept = λ clean.
-      let mid = earlier b d _ keeps.survives clean in
-      keeps_then a b d (p.kept mid) (keeps.kept clean (y, begun_for m a b x p mid y at));
+      let mid = earlier b d _ stays.survives clean in
+      keeps_then a b d (p.kept mid) (stays.kept clean (p.begun mid).1);
 }
+
+-- what was committed is so after a commit that failed
+pub keeps_commit : {X Y : Type 0} (a b d e : State) (x : X) (f : Error) → Begins {E = Error} a b (Ok x) → Stays b d → Ends {X = Y} d e (Err f) → HasCleanDisk e
+    → KeepsCommit a e
+keeps_commit a b d e x f p stays q clean =
+    keeps_then a d e ((nothing_for a b d x p stays).kept (earlier d e _ q.survives clean)) (q.kept clean)
 
 -- and what is then rolled back is left alone
 pub rolled_back : (a b d : State) → CommitsNothing a b → Undoes b d → LeavesAlone a d
@@ -81,6 +88,42 @@ rolled_back a b d p u = record {
       let kept = p.kept (earlier b d _ u.survives clean) in
       (kept.was_open back.0, back.2 ∙ kept.committed back.0, back.1 ∙ sym back.2);
 }
+
+-- what is rolled back is as it was committed
+pub undone_for : (a b d : State) → (HasCleanDisk b → KeepsCommit a b) → Undoes b d → RollsBack a d
+undone_for a b d kept u clean is_open =
+    let back = u.undone clean is_open in
+    let same = (kept (earlier b d _ u.survives clean)).committed back.0 in
+    (back.1 ∙ same, back.2 ∙ same)
+
+-- ---- what a crash leaves
+
+pub once_first : {X Y : Type 0} (a b : State) (e : Error) (f : StoreFault) → Begins {X = X} a b (Err e) → CommitsOnce {X = Y} a b (Err f)
+once_first a b e f p = record { trees = a.now.trees; survives = survives_weaker a b _ _ (λ _ db none. absurd none) p.survives; made = tt }
+
+pub once_inside : {X Y : Type 0} (a b d : State) (x : X) (f : StoreFault) → Begins {E = Error} a b (Ok x) → Stays b d → CommitsOnce {X = Y} a d (Err f)
+once_inside a b d x f p stays =
+    record { trees = a.now.trees; survives = survives_weaker a d _ _ (λ _ db none. absurd none) (nothing_for a b d x p stays).survives; made = tt }
+
+pub once_failed : {X Y Z : Type 0} (a b d e : State) (x : X) (f : Error) (h : StoreFault) → Begins {E = Error} a b (Ok x) → Stays b d → Ends {X = Y} d e (Err f)
+    → CommitsOnce {X = Z} a e (Err h)
+once_failed a b d e x f h p stays q = record {
+  trees = d.now.trees;
+  survives = survives_then a d e _ _ _ (λ _ db none. absurd none) (λ clean db is. is) (nothing_for a b d x p stays).survives q.survives;
+  made = tt;
+}
+
+pub once_committed : {X Y Z : Type 0} (a b d e : State) (x : X) (y : Y) (z : Z) → Begins {E = Error} a b (Ok x) → Stays b d → Ends {E = Error} d e (Ok y)
+    → CommitsOnce {E = StoreFault} a e (Ok z)
+once_committed a b d e x y z p stays q = record {
+  trees = d.now.trees;
+  survives = survives_then a d e _ _ _ (λ _ db none. absurd none) (λ clean db is. is) (nothing_for a b d x p stays).survives q.survives;
+  made = λ clean. ap (λ (k : Database). k.trees) (sym (q.ended clean).2);
+}
+
+pub once_undone : {X Y : Type 0} (a b d : State) (e f : StoreFault) → CommitsOnce {X = X} a b (Err e) → Undoes b d → CommitsOnce {X = Y} a d (Err f)
+once_undone a b d e f p u =
+    record { trees = p.trees; survives = survives_then a b d _ _ _ (λ _ db is. is) (λ _ db none. absurd none) p.survives u.survives; made = tt }
 
 -- ---- what is known
 

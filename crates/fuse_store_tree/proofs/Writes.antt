@@ -15,14 +15,14 @@ use Rattle.fuse_store_tree.specs.Store.{byte_in, bytes_of, rows_bytes, rows_ends
 use Rattle.fuse_store_tree.specs.inner.Writing.{overlay, overlay_in, grown, spliced, put_found, with_change}
 use Rattle.fuse_store_tree.specs.inner.Reading.{whole_of, Describes}
 use Rattle.fuse_store_tree.specs.Store.{Store, DescribesAs, in_order, byte_at}
-use Rattle.fuse_store_tree.specs.inner.Changing.{Overlaid, Changed, KeepsBytes}
+use Rattle.fuse_store_tree.specs.inner.Changing.{Overlaid, Changed}
 use Rattle.fuse_store_tree.proofs.Keys.{slots_rise}
 use Rattle.fuse_store_tree.proofs.BlockBytes.{part_put, all_put_at}
 use Rattle.fuse_store_tree.proofs.Overlays.{overlay_none, overlay_more, byte_written, written_length}
 use Rattle.fuse_store_tree.proofs.Looks.{key_is, both_are, block_is}
 use Rattle.fuse_store_tree.proofs.Parents.{blocks_owned}
 use Rattle.fuse_tree.specs.Rows.{at_node, written, content_of, full_at}
-use Rattle.fuse_store_tree.specs.inner.Laws.{looked_still}
+use Rattle.fuse_store_tree.specs.inner.Laws.{looked_still, looked_fails}
 use Rattle.fuse_store_tree.proofs.Ranges.{drop_length}
 use Rattle.sqlite.specs.Effect.{Database}
 use Rattle.std.proofs.lemmas.Bool.{cases_Bool}
@@ -32,11 +32,10 @@ use Rattle.fuse_tree.specs.declared.rows.NodeRow.{NodeRow}
 use Rattle.sqlite.specs.State.{State, HasCleanDisk}
 use Rattle.sqlite.specs.declared.error.Error.{Error}
 use Rattle.fuse_tree.specs.declared.rows.Change.TheVariants as changes
-use Rattle.fuse_store_tables.specs.Moves.{Inside, Makes, Looked}
-use Rattle.fuse_store_tables.specs.inner.Following.{earlier}
+use Rattle.fuse_store_tables.specs.Moves.{Inside, Makes, Looked, Stays}
+use Rattle.fuse_store_tables.specs.inner.Following.{earlier, inside_then, stays_then}
 use Rattle.fuse_store_tree.proofs.Described.{Rises, same_test}
 use Rattle.fuse_store_tree.proofs.Orders.{all_in_order}
-use Rattle.fuse_store_tree.proofs.Steps.{bytes_keep, held_of, bytes_then, looked_bytes}
 use Rattle.fuse_store_tree.proofs.RowChanges.{same_number}
 use Rattle.fuse_store_tree.proofs.Within.{within_known, within_more, grown_more, grown_here, grown_twice}
 
@@ -106,7 +105,8 @@ pub piece_written : {X : Type 0} (a b d : State) (r : Result X StoreFault) (node
     → here % block_bytes + length part ≤ block_bytes → 1 ≤ length part → OnOk r (Overlaid node here part a d)
 piece_written a b d (Err e) node here part old stored p q found there whole within some = tt
 piece_written a b d (Ok x) node here part old stored p q found there whole within some = record {
-  stays = looked_bytes a b d p (bytes_keep b d q.stays);
+  stays = looked_fails a b d p q.stays;
+  within = inside_then a b d p.within q.stays.survives q.within;
   turns = λ clean w at.
       let mid = earlier b d _ q.stays.survives clean in
       let c = at.holds.0 in
@@ -125,9 +125,9 @@ piece_written a b d (Ok x) node here part old stored p q found there whole withi
       };
 }
 
-pub piece_keeps : {X : Type 0} (f : Content → Content) (a b d : State) (r : Result X StoreFault) → Looked a b → Makes f b d r → OnErr r (KeepsBytes a d)
+pub piece_keeps : {X : Type 0} (f : Content → Content) (a b d : State) (r : Result X StoreFault) → Looked a b → Makes f b d r → OnErr r (Stays a d)
 piece_keeps f a b d (Ok x) p q = tt
-piece_keeps f a b d (Err e) p q = looked_bytes a b d p (bytes_keep b d q.stays)
+piece_keeps f a b d (Err e) p q = looked_fails a b d p q.stays
 
 whole_spliced : (old part : List ℕ) → length part ≡ length old → part ≡ spliced old 0 part
 whole_spliced old part same = sym (ap (λ rest. part ++ rest) (drop_all (0 + length part) old (omega (arith, same))) ∙ append-nil part)
@@ -141,7 +141,8 @@ pub whole_written : {X : Type 0} (a d : State) (x : X) (node here : ℕ) (part :
     → Makes {X = X} {E = Error} (put_block node (here / block_bytes) part) a d (Ok x) → length part ≡ block_bytes
     → here % block_bytes + length part ≤ block_bytes → Overlaid node here part a d
 whole_written a d x node here part q full within = record {
-  stays = bytes_keep a d q.stays;
+  stays = q.stays;
+  within = q.within;
   turns = λ clean w at.
       let c = at.holds.0 in
       let now = q.turns clean c (record { is_open = at.is_open; in_transaction = at.in_transaction; holds = at.holds.1 }) in
@@ -179,7 +180,8 @@ describes_same x g h c same more at = record {
 
 pub nothing_overlaid : (node at : ℕ) (a : State) → Overlaid node at [] a a
 nothing_overlaid node at a = record {
-  stays = bytes_keep a a (looked_still a).stays;
+  stays = (looked_still a).stays;
+  within = (looked_still a).within;
   turns = λ clean p now. record {
     is_open = now.is_open;
     in_transaction = now.in_transaction;
@@ -192,12 +194,13 @@ nothing_overlaid node at a = record {
   };
 }
 
-pub overlaid_keeps : (node at : ℕ) (p : List ℕ) (a b d : State) → Overlaid node at p a b → KeepsBytes b d → KeepsBytes a d
-overlaid_keeps node at p a b d first second = bytes_then a b d first.stays (λ clean w now. ((w.0, overlay_in node at p w.1), first.turns clean w now)) second
+pub overlaid_keeps : (node at : ℕ) (p : List ℕ) (a b d : State) → Overlaid node at p a b → Stays b d → Stays a d
+overlaid_keeps node at p a b d first second = stays_then a b d first.stays first.within second
 
 pub overlaid_then : (node at : ℕ) (p q : List ℕ) (a b d : State) → Overlaid node at p a b → Overlaid node (at + length p) q b d → Overlaid node at (p ++ q) a d
 overlaid_then node at p q a b d first second = record {
   stays = overlaid_keeps node at p a b d first second.stays;
+  within = inside_then a b d first.within second.stays.survives second.within;
   turns = λ clean w now.
       let mid = first.turns (earlier b d _ second.stays.survives clean) w now in
       let last = second.turns clean (w.0, overlay_in node at p w.1) mid in
@@ -370,7 +373,8 @@ written_told x node at bytes c d holds told = record {
 
 pub written_changed : (node at : ℕ) (bytes : List ℕ) (a d : State) → Overlaid node at bytes a d → Changed (with_change (changes.Written node at bytes)) a d
 written_changed node at bytes a d p = record {
-  stays = held_of a d p.stays;
+  stays = p.stays;
+  within = p.within;
   turns = λ clean s now.
       let w = p.turns clean (s, bodies_of s.rows) now in
       record {

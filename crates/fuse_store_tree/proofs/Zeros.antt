@@ -14,7 +14,6 @@ use Rattle.fuse_store_tree.specs.inner.Writing.{overlay, overlay_in, zeros_in, g
 use Rattle.fuse_store_tree.proofs.BlockBytes.{lower, upper}
 use Rattle.fuse_store_tree.proofs.Overlays.{zero_at}
 use Rattle.fuse_store_tree.proofs.RowChanges.{same_number}
-use Rattle.fuse_store_tree.proofs.Steps.{bytes_keep}
 use Rattle.fuse_store_tree.proofs.Within.{within_found}
 use Rattle.fuse_store_tree.proofs.Writes.{same_overlay, describes_same}
 
@@ -57,7 +56,8 @@ pub zeros_there : (node here : ℕ) (zeros : List ℕ) (a b : State) → Looked 
     → (HasCleanDisk b → (c : Content) → Inside c a → false ≡ is_some (block_at node (here / block_bytes) c.blocks)) → ((i : ℕ) → byte_at zeros i ≡ 0)
     → here % block_bytes + length zeros ≤ block_bytes → Zeroed node here zeros a b
 zeros_there node here zeros a b p none zero within = record {
-  stays = bytes_keep a b p.stays;
+  stays = p.stays;
+  within = p.within;
   turns = λ clean w at.
       let c = at.holds.0 in
       let was = at.holds.2 in
@@ -85,6 +85,7 @@ pub zeros_over : (node here : ℕ) (zeros : List ℕ) (a d : State)
     → here % block_bytes + length zeros ≤ block_bytes → Overlaid node here zeros a d → Zeroed node here zeros a d
 zeros_over node here zeros a d found within q = record {
   stays = q.stays;
+  within = q.within;
   turns = λ clean w at.
       let c = at.holds.0 in
       let inside : Inside c a = record { is_open = at.is_open; in_transaction = at.in_transaction; holds = at.holds.1 } in

@@ -5,8 +5,7 @@ use Rattle.sqlite.specs.State.{State, HasCleanDisk}
 use Rattle.fuse_tree.specs.Rows.{Rows, IsRowed, rowed, row_at}
 use Rattle.fuse_keeper.specs.declared.fault.StoreFault.{StoreFault}
 use Rattle.fuse_store_tables.specs.Faults.{IsOutside}
-use Rattle.fuse_store_tables.specs.Moves.{RestsAs, LeavesAlone}
-use Rattle.fuse_store_tables.specs.Saying.{IsRefusal}
+use Rattle.fuse_store_tables.specs.Moves.{RestsAs}
 use Rattle.fuse_store_tree.specs.declared.look.LastNode.{LastNode}
 use Rattle.fuse_store_tree.specs.declared.meta.Meta.{Meta}
 use Rattle.fuse_store_tree.specs.Holding.{Holding, HeldFor}
@@ -35,7 +34,3 @@ ReportsKnown known old new P = HasCleanDisk new → (y : Holding) → RestsAs (H
 -- where it was right, a fault of a whole transaction says nothing of the store, unless no lot number is left
 abbrev pub IsSafeKnown : {X : Type 0} → Option Meta → Option ℕ → State → State → Result X StoreFault → Type 0
 IsSafeKnown known lot old new r = HasCleanDisk new → IfErr r (λ f. (y : Holding) → RestsAs (HeldForKnown known y) old → HasLotLeft lot y → IsOutside f)
-
--- a refusal of what was held leaves it alone
-abbrev pub RefusesKnown : {X : Type 0} → Option Meta → State → State → Result X StoreFault → Type 0
-RefusesKnown known old new r = IfErr r (λ f. IsRefusal f → (y : Holding) → RestsAs (HeldForKnown known y) old → LeavesAlone old new)

@@ -1,5 +1,5 @@
 // The action of a request, within the open transaction.
-ghost use Rattle.std.specs.Prelude.{◌≡◌, None, IfOk, IfErr};
+ghost use Rattle.std.specs.Prelude.{◌≡◌, None, IfOk, IfErr, OnOk};
 ghost use Rattle.sqlite.specs.Held.{state};
 ghost use Rattle.fuse_request.specs.Act.{asked};
 ghost use Rattle.fuse_tree.specs.Do.{done};
@@ -7,9 +7,9 @@ ghost use Rattle.fuse_tree.specs.State.{State, Tree};
 ghost use Rattle.fuse_store_tables.specs.Faults.{IsPlain};
 ghost use Rattle.fuse_store_tables.specs.inner.Performing.{IsSure};
 ghost use Rattle.fuse_store_tree.specs.inner.Acting.{ActsInside, why_no_plan};
-ghost use Rattle.fuse_store_tree.specs.inner.Knowing.{KeepsKnown};
 ghost use Rattle.fuse_store_tree.specs.Knowing.{HeldForKnown};
 ghost use Rattle.fuse_store_tree.specs.Looking.{look_fault};
+ghost use Rattle.fuse_store_tables.specs.Moves.{Stays, StaysInside};
 
 use crate::gaps::clear_gap;
 use crate::look::TableLook;
@@ -48,8 +48,10 @@ pub(crate) fn act<S: Alter>(
         → ActsInside look.old.known look.new.known (state S.Store look.old.conn)
         (state S.Store look.new.conn) s (done s (asked request.now) now) answer) }
     // Nothing is committed, whether it succeeds or not.
-    ensures keeps { KeepsKnown look.old.known (state S.Store look.old.conn)
-        (state S.Store look.new.conn) }
+    ensures keeps { Stays (state S.Store look.old.conn) (state S.Store look.new.conn) }
+    // And the transaction stays open where it succeeds.
+    ensures within { OnOk result (StaysInside (state S.Store look.old.conn)
+        (state S.Store look.new.conn)) }
     ensures fault { look_fault look.new.fault ≡ None }
     ensures sure { IsSure (HeldForKnown look.old.known) (state S.Store look.old.conn)
         (state S.Store look.new.conn) result }

@@ -5,12 +5,12 @@ ghost use Rattle.sqlite.specs.State.{HasCleanDisk};
 ghost use Rattle.sqlite.specs.Held.{state};
 ghost use Rattle.fuse_tree.specs.Bounds.{block_bytes};
 ghost use Rattle.fuse_store_tables.specs.Faults.{IsOutside, IsPlain};
-ghost use Rattle.fuse_store_tree.specs.inner.Changing.{Changed, Keeps, KeepsBytes};
+ghost use Rattle.fuse_store_tree.specs.inner.Changing.{Changed};
 ghost use Rattle.fuse_store_tree.specs.inner.Changing.{Overlaid, Zeroed};
 ghost use Rattle.fuse_tree.specs.declared.rows.Change.TheVariants as changes;
 ghost use Rattle.fuse_store_tables.specs.Content.{Content};
 ghost use Rattle.fuse_store_tree.specs.Fits.{Fits};
-ghost use Rattle.fuse_store_tables.specs.Moves.{Inside, Makes};
+ghost use Rattle.fuse_store_tables.specs.Moves.{Inside, Makes, Stays};
 ghost use Rattle.fuse_store_tables.specs.inner.Performing.{IsSure};
 ghost use Rattle.fuse_store_tree.specs.Store.{Held, HeldAs, byte_at};
 ghost use Rattle.fuse_store_tree.specs.inner.Writing.{spliced, put_found, with_change};
@@ -111,7 +111,7 @@ fn write_part<S: Alter>(
     requires within { here % block_bytes + length part.now ≤ block_bytes }
     ensures overlaid { OnOk result (Overlaid node here part.now (state S.Store conn.old)
         (state S.Store conn.new)) }
-    ensures fails { OnErr result (KeepsBytes (state S.Store conn.old) (state S.Store conn.new)) }
+    ensures fails { OnErr result (Stays (state S.Store conn.old) (state S.Store conn.new)) }
     ensures fault { HasCleanDisk (state S.Store conn.new) → IfErr result (λ f. (c : Content)
         → Inside c (state S.Store conn.old) → Fits c → IsOutside f) }
     ensures plain { IfErr result IsPlain }
@@ -136,7 +136,7 @@ fn write_whole<S: Alter>(
     requires within { here % block_bytes + length bytes.now ≤ block_bytes }
     ensures overlaid { OnOk result (Overlaid node here bytes.now (state S.Store conn.old)
         (state S.Store conn.new)) }
-    ensures fails { OnErr result (KeepsBytes (state S.Store conn.old) (state S.Store conn.new)) }
+    ensures fails { OnErr result (Stays (state S.Store conn.old) (state S.Store conn.new)) }
     ensures fault { IfErr result IsOutside }
     ensures plain { IfErr result IsPlain }
 {
@@ -160,7 +160,7 @@ pub(crate) fn write_piece<S: Alter>(
     requires within { here % block_bytes + length part.now ≤ block_bytes }
     ensures overlaid { OnOk result (Overlaid node here part.now (state S.Store conn.old)
         (state S.Store conn.new)) }
-    ensures fails { OnErr result (KeepsBytes (state S.Store conn.old) (state S.Store conn.new)) }
+    ensures fails { OnErr result (Stays (state S.Store conn.old) (state S.Store conn.new)) }
     ensures fault { HasCleanDisk (state S.Store conn.new) → IfErr result (λ f. (c : Content)
         → Inside c (state S.Store conn.old) → Fits c → IsOutside f) }
     ensures plain { IfErr result IsPlain }
@@ -187,7 +187,7 @@ pub(crate) fn write_zeros<S: Alter>(
     requires zeros { (i : ℕ) → byte_at zeros.now i ≡ 0 }
     ensures zeroed { OnOk result (Zeroed node here zeros.now (state S.Store conn.old)
         (state S.Store conn.new)) }
-    ensures fails { OnErr result (KeepsBytes (state S.Store conn.old) (state S.Store conn.new)) }
+    ensures fails { OnErr result (Stays (state S.Store conn.old) (state S.Store conn.new)) }
     ensures fault { HasCleanDisk (state S.Store conn.new) → IfErr result (λ f. (c : Content)
         → Inside c (state S.Store conn.old) → Fits c → IsOutside f) }
     ensures plain { IfErr result IsPlain }
@@ -215,7 +215,7 @@ pub(crate) fn write_range<S: Alter>(
     requires end { at + length bytes.now < 2 ^ 63 }
     ensures overlaid { OnOk result (Overlaid node at bytes.now (state S.Store conn.old)
         (state S.Store conn.new)) }
-    ensures fails { OnErr result (KeepsBytes (state S.Store conn.old) (state S.Store conn.new)) }
+    ensures fails { OnErr result (Stays (state S.Store conn.old) (state S.Store conn.new)) }
     ensures fault { IsSure HeldAs (state S.Store conn.old) (state S.Store conn.new) result }
     ensures plain { IfErr result IsPlain }
 {
@@ -244,7 +244,7 @@ pub(crate) fn write_content<S: Alter>(
     requires end { at + length bytes.now < 2 ^ 63 }
     ensures changed { OnOk result (Changed (with_change (changes.Written node at bytes.now))
         (state S.Store conn.old) (state S.Store conn.new)) }
-    ensures fails { OnErr result (Keeps (state S.Store conn.old) (state S.Store conn.new)) }
+    ensures fails { OnErr result (Stays (state S.Store conn.old) (state S.Store conn.new)) }
     ensures fault { IsSure Held (state S.Store conn.old) (state S.Store conn.new) result }
     ensures plain { IfErr result IsPlain }
 {

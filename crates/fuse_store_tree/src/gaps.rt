@@ -3,8 +3,9 @@ ghost use Rattle.std.specs.Prelude.{◌≡◌, ◌<◌, ◌≤◌, ◌^◌, true
 ghost use Rattle.sqlite.specs.Held.{state};
 ghost use Rattle.fuse_store_tables.specs.Faults.{IsPlain};
 ghost use Rattle.fuse_store_tables.specs.inner.Performing.{IsSure};
-ghost use Rattle.fuse_store_tree.specs.inner.Changing.{Keeps, LeavesTrees};
+ghost use Rattle.fuse_store_tree.specs.inner.Changing.{LeavesTrees};
 ghost use Rattle.fuse_store_tree.specs.Store.{Held};
+ghost use Rattle.fuse_store_tables.specs.Moves.{Stays};
 
 use crate::bounds::END;
 use crate::look::LastNode;
@@ -55,7 +56,7 @@ fn clear_from_size<S: Alter>(
 ) -> Result<(), StoreFault>
     requires node { node < 2 ^ 63 }
     ensures same { OnOk result (LeavesTrees (state S.Store conn.old) (state S.Store conn.new)) }
-    ensures fails { OnErr result (Keeps (state S.Store conn.old) (state S.Store conn.new)) }
+    ensures fails { OnErr result (Stays (state S.Store conn.old) (state S.Store conn.new)) }
     ensures fault { IsSure Held (state S.Store conn.old) (state S.Store conn.new) result }
     ensures plain { IfErr result IsPlain }
 {
@@ -82,7 +83,7 @@ pub(crate) fn clear_gap<S: Alter>(
     changes: &[Change],
 ) -> Result<(), StoreFault>
     ensures same { OnOk result (LeavesTrees (state S.Store conn.old) (state S.Store conn.new)) }
-    ensures fails { OnErr result (Keeps (state S.Store conn.old) (state S.Store conn.new)) }
+    ensures fails { OnErr result (Stays (state S.Store conn.old) (state S.Store conn.new)) }
     ensures fault { IsSure Held (state S.Store conn.old) (state S.Store conn.new) result }
     ensures plain { IfErr result IsPlain }
 {

@@ -9,11 +9,12 @@ ghost use Rattle.fuse_store_tables.specs.Faults.{IsPlain};
 ghost use Rattle.fuse_store_tree.specs.Looking.{look_fault};
 ghost use Rattle.fuse_store_tree.specs.Holding.{Holding};
 ghost use Rattle.fuse_store_tree.specs.Knowing.{HeldForKnown};
-ghost use Rattle.fuse_store_tree.specs.inner.Changing.{InsideFor, KeepsFor, Turned, IsSureFor};
-ghost use Rattle.fuse_store_tree.specs.inner.Knowing.{InsideKnown, KeepsKnown, TurnedKnown};
+ghost use Rattle.fuse_store_tree.specs.inner.Changing.{InsideFor, Turned, IsSureFor};
+ghost use Rattle.fuse_store_tree.specs.inner.Knowing.{InsideKnown, TurnedKnown};
 ghost use Rattle.fuse_store_tree.specs.inner.Knowing.{IsSureKnown};
 ghost use Rattle.fuse_store_tree.specs.Group.{with_group, dones_of, prepared, lot_for};
 ghost use Rattle.fuse_store_tree.specs.Group.{performed, all_dones};
+ghost use Rattle.fuse_store_tables.specs.Moves.{Stays};
 
 use crate::look::TableLook;
 use crate::lots::take_lot;
@@ -48,7 +49,7 @@ fn take_all<S: Alter>(
     ensures dones { HasCleanDisk (state S.Store look.new.conn) → IfOk result (λ dones.
         (y : Holding) → InsideKnown look.old.known y (state S.Store look.old.conn)
         → dones.items ≡ dones_of lot (entries_of group.now) y) }
-    ensures fails { OnErr result (KeepsKnown look.old.known (state S.Store look.old.conn)
+    ensures fails { OnErr result (Stays (state S.Store look.old.conn)
         (state S.Store look.new.conn)) }
     ensures ready { look_fault look.new.fault ≡ None }
     ensures fault { IsSure (HeldForKnown look.old.known) (state S.Store look.old.conn)
@@ -78,7 +79,7 @@ fn prepare<S: Alter>(
     ensures value { HasCleanDisk (state S.Store conn.new) → IfOk result (λ n. (y : Holding)
         → InsideFor y (state S.Store conn.old) → n ≡ lot_for lot y) }
     ensures low { IfOk result (λ n. n < 2 ^ 62) }
-    ensures fails { OnErr result (KeepsFor (state S.Store conn.old) (state S.Store conn.new)) }
+    ensures fails { OnErr result (Stays (state S.Store conn.old) (state S.Store conn.new)) }
     ensures fault { IsSureFor lot (state S.Store conn.old) (state S.Store conn.new) result }
     ensures plain { IfErr result IsPlain }
 {
@@ -110,7 +111,7 @@ pub(crate) fn perform_in<S: Alter>(
         → InsideKnown look.old.known y (state S.Store look.old.conn)
         → p.dones.items ≡ all_dones lot (ids_of settled.now) (entries_of group.now) y) }
     // Nothing is committed, whether it succeeds or not.
-    ensures fails { OnErr result (KeepsKnown look.old.known (state S.Store look.old.conn)
+    ensures fails { OnErr result (Stays (state S.Store look.old.conn)
         (state S.Store look.new.conn)) }
     ensures ready { look_fault look.new.fault ≡ None }
     // Of a store that was sound, the fault is `Damaged` only where no lot number is left.

@@ -5,10 +5,10 @@ ghost use Rattle.sqlite.specs.State.{HasCleanDisk};
 ghost use Rattle.sqlite.specs.Held.{state};
 ghost use Rattle.fuse_store_tables.specs.Content.{Counter, shown_counter, set_counter, with_lot};
 ghost use Rattle.fuse_store_tables.specs.Faults.{IsOutside, IsPlain};
-ghost use Rattle.fuse_store_tables.specs.Moves.{Makes};
+ghost use Rattle.fuse_store_tables.specs.Moves.{Makes, Stays};
 ghost use Rattle.fuse_store_tree.specs.inner.Reading.{value_of};
 ghost use Rattle.fuse_store_tree.specs.Holding.{Holding};
-ghost use Rattle.fuse_store_tree.specs.inner.Changing.{InsideFor, KeepsFor, Turned, IsSureFor};
+ghost use Rattle.fuse_store_tree.specs.inner.Changing.{InsideFor, Turned, IsSureFor};
 ghost use Rattle.fuse_store_tree.specs.Group.{with_new_lot, with_lot_for, lot_for};
 
 use fuse_keeper::StoreFault;
@@ -46,7 +46,7 @@ fn add_lot<S: Alter>(conn: &mut Connection<S>, lot: u64) -> Result<(), Error>
 fn take_next<S: Alter>(conn: &mut Connection<S>) -> Result<u64, StoreFault>
     ensures turned { OnOk result (Turned with_new_lot (state S.Store conn.old)
         (state S.Store conn.new)) }
-    ensures fails { OnErr result (KeepsFor (state S.Store conn.old) (state S.Store conn.new)) }
+    ensures fails { OnErr result (Stays (state S.Store conn.old) (state S.Store conn.new)) }
     ensures value { HasCleanDisk (state S.Store conn.new) → IfOk result (λ lot. (y : Holding)
         → InsideFor y (state S.Store conn.old) → lot ≡ y.next_lot) }
     ensures low { IfOk result (λ lot. lot < 2 ^ 62) }
@@ -79,7 +79,7 @@ pub(crate) fn take_lot<S: Alter>(
     requires { IfSome lot (λ n. n < 2 ^ 62) }
     ensures turned { OnOk result (Turned (with_lot_for lot) (state S.Store conn.old)
         (state S.Store conn.new)) }
-    ensures fails { OnErr result (KeepsFor (state S.Store conn.old) (state S.Store conn.new)) }
+    ensures fails { OnErr result (Stays (state S.Store conn.old) (state S.Store conn.new)) }
     ensures value { HasCleanDisk (state S.Store conn.new) → IfOk result (λ n. (y : Holding)
         → InsideFor y (state S.Store conn.old) → n ≡ lot_for lot y) }
     ensures low { IfOk result (λ n. n < 2 ^ 62) }

@@ -4,11 +4,10 @@ ghost use Rattle.sqlite.specs.Held.{state};
 ghost use Rattle.fuse_tree.specs.Columns.{FitsChange, FitColumns};
 ghost use Rattle.fuse_store_tables.specs.inner.Performing.{IsSure};
 ghost use Rattle.fuse_store_tables.specs.Faults.{IsPlain};
-ghost use Rattle.fuse_store_tables.specs.Moves.{StaysIn};
-ghost use Rattle.fuse_store_tree.specs.inner.Changing.{Keeps};
 ghost use Rattle.fuse_store_tree.specs.inner.Knowing.{ChangedKnown, HeldKnown, known_after};
 ghost use Rattle.fuse_store_tree.specs.Store.{Held};
 ghost use Rattle.fuse_store_tree.specs.inner.Writing.{with_change, with_changes};
+ghost use Rattle.fuse_store_tables.specs.Moves.{Stays};
 
 use crate::block_writes::write_content;
 use crate::bounds::change_fits;
@@ -33,7 +32,7 @@ pub(crate) fn make_change<S: Alter>(
 ) -> Result<(), StoreFault>
     ensures changed { OnOk result (ChangedKnown known (known_after known change.now)
         (with_change change.now) (state S.Store conn.old) (state S.Store conn.new)) }
-    ensures fails { OnErr result (Keeps (state S.Store conn.old) (state S.Store conn.new)) }
+    ensures fails { OnErr result (Stays (state S.Store conn.old) (state S.Store conn.new)) }
     ensures fault { FitsChange change.now
         → IsSure Held (state S.Store conn.old) (state S.Store conn.new) result }
     ensures plain { IfErr result IsPlain }
@@ -68,7 +67,7 @@ pub(crate) fn make_all<S: Alter>(
 ) -> Result<Option<Meta>, StoreFault>
     ensures changed { IfOk result (λ is. ChangedKnown known is (with_changes changes.now)
         (state S.Store conn.old) (state S.Store conn.new)) }
-    ensures fails { OnErr result (StaysIn (HeldKnown known) (state S.Store conn.old)
+    ensures fails { OnErr result (Stays (state S.Store conn.old)
         (state S.Store conn.new)) }
     ensures fault { FitColumns changes.now → IsSure (HeldKnown known) (state S.Store conn.old)
         (state S.Store conn.new) result }

@@ -3,8 +3,9 @@ ghost use Rattle.std.specs.Prelude.{◌<◌, ◌^◌, OnOk, OnErr, IfErr};
 ghost use Rattle.sqlite.specs.Held.{state};
 ghost use Rattle.fuse_tree.specs.declared.rows.Change.TheVariants as changes;
 ghost use Rattle.fuse_store_tables.specs.Faults.{IsOutside, IsPlain};
-ghost use Rattle.fuse_store_tree.specs.inner.Changing.{Changed, Keeps};
+ghost use Rattle.fuse_store_tree.specs.inner.Changing.{Changed};
 ghost use Rattle.fuse_store_tree.specs.inner.Writing.{with_change};
+ghost use Rattle.fuse_store_tables.specs.Moves.{Stays};
 
 use crate::truncation::drop_blocks;
 use fuse_keeper::StoreFault;
@@ -17,7 +18,7 @@ pub(crate) fn remove_node<S: Alter>(conn: &mut Connection<S>, node: u64) -> Resu
     requires { node < 2 ^ 63 }
     ensures changed { OnOk result (Changed (with_change (changes.NodeGone node))
         (state S.Store conn.old) (state S.Store conn.new)) }
-    ensures fails { OnErr result (Keeps (state S.Store conn.old) (state S.Store conn.new)) }
+    ensures fails { OnErr result (Stays (state S.Store conn.old) (state S.Store conn.new)) }
     ensures fault { IfErr result (λ f. IsOutside f) }
     ensures plain { IfErr result IsPlain }
 {

@@ -9,10 +9,11 @@ ghost use Rattle.fuse_store_tables.specs.inner.Performing.{IsSure};
 ghost use Rattle.fuse_store_tree.specs.Looking.{look_fault};
 ghost use Rattle.fuse_store_tree.specs.Holding.{Holding};
 ghost use Rattle.fuse_store_tree.specs.Knowing.{HeldForKnown};
-ghost use Rattle.fuse_store_tree.specs.inner.Changing.{KeepsFor, Turned};
-ghost use Rattle.fuse_store_tree.specs.inner.Knowing.{InsideKnown, KeepsKnown, TurnedKnown};
+ghost use Rattle.fuse_store_tree.specs.inner.Changing.{Turned};
+ghost use Rattle.fuse_store_tree.specs.inner.Knowing.{InsideKnown, TurnedKnown};
 ghost use Rattle.fuse_store_tree.specs.Group.{acted_on, answered, taken, with_record};
 ghost use Rattle.fuse_store_tree.specs.Group.{said_of};
+ghost use Rattle.fuse_store_tables.specs.Moves.{Stays};
 
 use crate::action::act;
 use crate::look::TableLook;
@@ -45,7 +46,7 @@ fn record<S: Alter>(
     requires fits { FitsAnswer answer.now }
     ensures turned { OnOk result (Turned (with_record id lot answer.now) (state S.Store conn.old)
         (state S.Store conn.new)) }
-    ensures fails { OnErr result (KeepsFor (state S.Store conn.old) (state S.Store conn.new)) }
+    ensures fails { OnErr result (Stays (state S.Store conn.old) (state S.Store conn.new)) }
     ensures fault { IfErr result IsOutside }
     ensures plain { IfErr result IsPlain }
 {
@@ -72,7 +73,7 @@ fn act_and_record<S: Alter>(
     ensures done { HasCleanDisk (state S.Store look.new.conn) → IfOk result (λ done.
         (y : Holding) → InsideKnown look.old.known y (state S.Store look.old.conn)
         → done ≡ answered (said_of (entry_of (request.now, now)) y)) }
-    ensures fails { OnErr result (KeepsKnown look.old.known (state S.Store look.old.conn)
+    ensures fails { OnErr result (Stays (state S.Store look.old.conn)
         (state S.Store look.new.conn)) }
     ensures ready { look_fault look.new.fault ≡ None }
     ensures fault { IsSure (HeldForKnown look.old.known) (state S.Store look.old.conn)
@@ -109,7 +110,7 @@ pub(crate) fn take_one<S: Alter>(
     ensures done { HasCleanDisk (state S.Store look.new.conn) → IfOk result (λ done.
         (y : Holding) → InsideKnown look.old.known y (state S.Store look.old.conn)
         → done ≡ (taken lot (entry_of (request.now, now)) y).done) }
-    ensures fails { OnErr result (KeepsKnown look.old.known (state S.Store look.old.conn)
+    ensures fails { OnErr result (Stays (state S.Store look.old.conn)
         (state S.Store look.new.conn)) }
     ensures ready { look_fault look.new.fault ≡ None }
     ensures fault { IsSure (HeldForKnown look.old.known) (state S.Store look.old.conn)

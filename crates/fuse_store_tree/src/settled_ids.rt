@@ -3,8 +3,9 @@ ghost use Rattle.std.specs.Prelude.{◌<◌, ◌≤◌, ◌^◌, [], ◌∷◌, 
 ghost use Rattle.sqlite.specs.Held.{state};
 ghost use Rattle.fuse_keeper.specs.Group.{ids_of};
 ghost use Rattle.fuse_store_tables.specs.Faults.{IsOutside, IsPlain};
-ghost use Rattle.fuse_store_tree.specs.inner.Changing.{KeepsFor, Turned};
+ghost use Rattle.fuse_store_tree.specs.inner.Changing.{Turned};
 ghost use Rattle.fuse_store_tree.specs.Group.{without_record, without_settled};
+ghost use Rattle.fuse_store_tables.specs.Moves.{Stays};
 
 use crate::bounds::END;
 use fuse_keeper::StoreFault;
@@ -16,7 +17,7 @@ use sqlite::{Alter, Connection};
 fn forget<S: Alter>(conn: &mut Connection<S>, id: u64) -> Result<(), StoreFault>
     ensures turned { OnOk result (Turned (without_record id) (state S.Store conn.old)
         (state S.Store conn.new)) }
-    ensures fails { OnErr result (KeepsFor (state S.Store conn.old) (state S.Store conn.new)) }
+    ensures fails { OnErr result (Stays (state S.Store conn.old) (state S.Store conn.new)) }
     ensures fault { IfErr result IsOutside }
     ensures plain { IfErr result IsPlain }
 {
@@ -56,7 +57,7 @@ fn forget_four<S: Alter>(
     requires small { last < 2 ^ 63 }
     ensures turned { OnOk result (Turned (without_settled (first ∷ second ∷ third ∷ last ∷ []))
         (state S.Store conn.old) (state S.Store conn.new)) }
-    ensures fails { OnErr result (KeepsFor (state S.Store conn.old) (state S.Store conn.new)) }
+    ensures fails { OnErr result (Stays (state S.Store conn.old) (state S.Store conn.new)) }
     ensures fault { IfErr result IsOutside }
     ensures plain { IfErr result IsPlain }
 {
@@ -72,7 +73,7 @@ fn forget_first<S: Alter>(conn: &mut Connection<S>, ids: &[Id]) -> Result<usize,
     ensures count { IfOk result (λ n. (1 ≤ n) × (n ≤ length ids.now)) }
     ensures turned { IfOk result (λ n. Turned (without_settled (ids_of (take n ids.now)))
         (state S.Store conn.old) (state S.Store conn.new)) }
-    ensures fails { OnErr result (KeepsFor (state S.Store conn.old) (state S.Store conn.new)) }
+    ensures fails { OnErr result (Stays (state S.Store conn.old) (state S.Store conn.new)) }
     ensures fault { IfErr result IsOutside }
     ensures plain { IfErr result IsPlain }
 {
@@ -94,7 +95,7 @@ fn forget_first<S: Alter>(conn: &mut Connection<S>, ids: &[Id]) -> Result<usize,
 pub(crate) fn settle<S: Alter>(conn: &mut Connection<S>, ids: &[Id]) -> Result<(), StoreFault>
     ensures turned { OnOk result (Turned (without_settled (ids_of ids.now))
         (state S.Store conn.old) (state S.Store conn.new)) }
-    ensures fails { OnErr result (KeepsFor (state S.Store conn.old) (state S.Store conn.new)) }
+    ensures fails { OnErr result (Stays (state S.Store conn.old) (state S.Store conn.new)) }
     ensures fault { IfErr result IsOutside }
     ensures plain { IfErr result IsPlain }
 {

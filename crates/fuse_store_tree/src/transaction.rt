@@ -1,17 +1,17 @@
 // A group of requests as a whole transaction.
 ghost use Rattle.std.specs.Prelude.{◌≡◌, ◌<◌, ◌^◌, None, false, length};
 ghost use Rattle.std.specs.Prelude.{IfOk, IfErr, IfSome, OnOk, OnErr};
-ghost use Rattle.sqlite.specs.State.{HasCleanDisk};
+ghost use Rattle.sqlite.specs.State.{HasCleanDisk, KeepsCommit};
 ghost use Rattle.sqlite.specs.Held.{state};
 ghost use Rattle.fuse_keeper.specs.Group.{entries_of, ids_of};
-ghost use Rattle.fuse_store_tables.specs.Moves.{RestsAs, ServesAs, StaysOpen};
+ghost use Rattle.fuse_store_tables.specs.Moves.{ServesAs, StaysOpen, LeavesAlone, RollsBack};
 ghost use Rattle.fuse_store_tables.specs.Saying.{IsRefusal};
 ghost use Rattle.fuse_store_tables.specs.inner.Performing.{CommitsNothing, PerformsAs};
 ghost use Rattle.fuse_store_tables.specs.Faults.{IsPlain};
 ghost use Rattle.fuse_store_tree.specs.Looking.{look_fault};
-ghost use Rattle.fuse_store_tree.specs.Holding.{Holding, ReportsAfter};
+ghost use Rattle.fuse_store_tree.specs.Holding.{ReportsAfter};
+ghost use Rattle.fuse_store_tree.specs.Committing.{CommitsOnce};
 ghost use Rattle.fuse_store_tree.specs.Knowing.{HeldForKnown, ReportsKnown, IsSafeKnown};
-ghost use Rattle.fuse_store_tree.specs.Knowing.{RefusesKnown};
 ghost use Rattle.fuse_store_tree.specs.Group.{performed, all_dones, lot_for};
 
 use crate::group::{Performed, perform_in};
@@ -49,9 +49,11 @@ fn transact<S: Alter>(
     ensures ready { look_fault look.new.fault ≡ None }
     ensures fault { IsSafeKnown look.old.known lot (state S.Store look.old.conn)
         (state S.Store look.new.conn) result }
-    ensures refused { IfErr result (λ f. IsRefusal f → (y : Holding)
-        → RestsAs (HeldForKnown look.old.known y) (state S.Store look.old.conn)
+    ensures refused { IfErr result (λ f. IsRefusal f
         → CommitsNothing (state S.Store look.old.conn) (state S.Store look.new.conn)) }
+    ensures keeps { OnErr result (HasCleanDisk (state S.Store look.new.conn)
+        → KeepsCommit (state S.Store look.old.conn) (state S.Store look.new.conn)) }
+    ensures once { CommitsOnce (state S.Store look.old.conn) (state S.Store look.new.conn) result }
     ensures plain { IfErr result IsPlain }
 {
     match begin(&mut look.conn) {
@@ -99,9 +101,14 @@ pub fn perform<S: Alter>(
     // Of a store that was sound, the fault is `Damaged` only where no lot number is left.
     ensures fault { IsSafeKnown look.old.known lot (state S.Store look.old.conn)
         (state S.Store look.new.conn) result }
-    // Then the store is as it was, after a crash too.
-    ensures refused { RefusesKnown look.old.known (state S.Store look.old.conn)
-        (state S.Store look.new.conn) result }
+    // Then the store is as it was, after a crash too, whatever the database.
+    ensures refused { IfErr result (λ f. IsRefusal f
+        → LeavesAlone (state S.Store look.old.conn) (state S.Store look.new.conn)) }
+    // Where the call fails, what was committed before is seen, whatever the database.
+    ensures undone { OnErr result (RollsBack (state S.Store look.old.conn)
+        (state S.Store look.new.conn)) }
+    // It commits once at most: after a crash all of it is seen, or nothing.
+    ensures once { CommitsOnce (state S.Store look.old.conn) (state S.Store look.new.conn) result }
     // The fault is never `NotAStore` or `Version`.
     ensures plain { IfErr result IsPlain }
 {

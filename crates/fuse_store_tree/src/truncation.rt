@@ -6,9 +6,10 @@ ghost use Rattle.fuse_tree.specs.Bounds.{block_bytes, file_limit};
 ghost use Rattle.fuse_tree.specs.declared.rows.Change.TheVariants as changes;
 ghost use Rattle.fuse_store_tables.specs.Faults.{IsOutside, IsPlain};
 ghost use Rattle.fuse_store_tables.specs.inner.Performing.{IsSure};
-ghost use Rattle.fuse_store_tree.specs.inner.Changing.{Changed, Cut, Keeps, KeepsBytes};
+ghost use Rattle.fuse_store_tree.specs.inner.Changing.{Changed, Cut};
 ghost use Rattle.fuse_store_tree.specs.Store.{Held, HeldAs};
 ghost use Rattle.fuse_store_tree.specs.inner.Writing.{with_change};
+ghost use Rattle.fuse_store_tables.specs.Moves.{Stays};
 
 use crate::block_writes::write_zeros;
 use fuse_keeper::StoreFault;
@@ -39,7 +40,7 @@ pub(crate) fn drop_blocks<S: Alter>(
     requires from { from < 2 ^ 63 }
     ensures cut { OnOk result (Cut node (from * block_bytes) (state S.Store conn.old)
         (state S.Store conn.new)) }
-    ensures fails { OnErr result (KeepsBytes (state S.Store conn.old) (state S.Store conn.new)) }
+    ensures fails { OnErr result (Stays (state S.Store conn.old) (state S.Store conn.new)) }
     ensures fault { IfErr result IsOutside }
     ensures plain { IfErr result IsPlain }
 {
@@ -60,7 +61,7 @@ fn cut_within<S: Alter>(
     requires size { size ≤ file_limit }
     requires within { 1 ≤ size % block_bytes }
     ensures cut { OnOk result (Cut node size (state S.Store conn.old) (state S.Store conn.new)) }
-    ensures fails { OnErr result (KeepsBytes (state S.Store conn.old) (state S.Store conn.new)) }
+    ensures fails { OnErr result (Stays (state S.Store conn.old) (state S.Store conn.new)) }
     ensures fault { IsSure HeldAs (state S.Store conn.old) (state S.Store conn.new) result }
     ensures plain { IfErr result IsPlain }
 {
@@ -85,7 +86,7 @@ fn cut_from<S: Alter>(
     requires node { node < 2 ^ 63 }
     requires size { size ≤ file_limit }
     ensures cut { OnOk result (Cut node size (state S.Store conn.old) (state S.Store conn.new)) }
-    ensures fails { OnErr result (KeepsBytes (state S.Store conn.old) (state S.Store conn.new)) }
+    ensures fails { OnErr result (Stays (state S.Store conn.old) (state S.Store conn.new)) }
     ensures fault { IsSure HeldAs (state S.Store conn.old) (state S.Store conn.new) result }
     ensures plain { IfErr result IsPlain }
 {
@@ -108,7 +109,7 @@ pub(crate) fn set_size<S: Alter>(
     requires size { size ≤ file_limit }
     ensures changed { OnOk result (Changed (with_change (changes.Sized node size))
         (state S.Store conn.old) (state S.Store conn.new)) }
-    ensures fails { OnErr result (Keeps (state S.Store conn.old) (state S.Store conn.new)) }
+    ensures fails { OnErr result (Stays (state S.Store conn.old) (state S.Store conn.new)) }
     ensures fault { IsSure Held (state S.Store conn.old) (state S.Store conn.new) result }
     ensures plain { IfErr result IsPlain }
 {

@@ -5,11 +5,11 @@ ghost use Rattle.sqlite.specs.State.{HasCleanDisk};
 ghost use Rattle.sqlite.specs.Held.{state};
 ghost use Rattle.fuse_tree.specs.declared.rows.Change.TheVariants as changes;
 ghost use Rattle.fuse_store_tables.specs.Faults.{IsOutside, IsPlain};
-ghost use Rattle.fuse_store_tree.specs.inner.Changing.{Changed, Keeps};
+ghost use Rattle.fuse_store_tree.specs.inner.Changing.{Changed};
 ghost use Rattle.fuse_store_tables.specs.Content.{Content, IsTime, HasWidths, set_counter};
 ghost use Rattle.fuse_tree.specs.Columns.{FitsNode, FitsEntry, FitsHandle, FitsCounters};
 ghost use Rattle.fuse_tree.specs.Columns.{FitsRoom};
-ghost use Rattle.fuse_store_tables.specs.Moves.{Inside, Makes};
+ghost use Rattle.fuse_store_tables.specs.Moves.{Inside, Makes, Stays};
 ghost use Rattle.fuse_store_tree.specs.inner.Knowing.{ChangedKnown, known_after, counters_written};
 ghost use Rattle.fuse_store_tree.specs.inner.Writing.{with_change, with_used};
 
@@ -33,7 +33,7 @@ pub(crate) fn add_entry<S: Alter>(
     requires { FitsEntry row.now }
     ensures changed { OnOk result (Changed (with_change (changes.Entry row.now))
         (state S.Store conn.old) (state S.Store conn.new)) }
-    ensures fails { OnErr result (Keeps (state S.Store conn.old) (state S.Store conn.new)) }
+    ensures fails { OnErr result (Stays (state S.Store conn.old) (state S.Store conn.new)) }
     ensures fault { IfErr result (λ f. IsOutside f) }
     ensures plain { IfErr result IsPlain }
 {
@@ -51,7 +51,7 @@ pub(crate) fn remove_entry<S: Alter>(
     requires { cookie < 2 ^ 63 }
     ensures changed { OnOk result (Changed (with_change (changes.EntryGone cookie))
         (state S.Store conn.old) (state S.Store conn.new)) }
-    ensures fails { OnErr result (Keeps (state S.Store conn.old) (state S.Store conn.new)) }
+    ensures fails { OnErr result (Stays (state S.Store conn.old) (state S.Store conn.new)) }
     ensures fault { IfErr result (λ f. IsOutside f) }
     ensures plain { IfErr result IsPlain }
 {
@@ -69,7 +69,7 @@ pub(crate) fn add_handle<S: Alter>(
     requires { FitsHandle row.now }
     ensures changed { OnOk result (Changed (with_change (changes.Handle row.now))
         (state S.Store conn.old) (state S.Store conn.new)) }
-    ensures fails { OnErr result (Keeps (state S.Store conn.old) (state S.Store conn.new)) }
+    ensures fails { OnErr result (Stays (state S.Store conn.old) (state S.Store conn.new)) }
     ensures fault { IfErr result (λ f. IsOutside f) }
     ensures plain { IfErr result IsPlain }
 {
@@ -84,7 +84,7 @@ pub(crate) fn remove_handle<S: Alter>(conn: &mut Connection<S>, fh: u64) -> Resu
     requires { fh < 2 ^ 63 }
     ensures changed { OnOk result (Changed (with_change (changes.HandleGone fh))
         (state S.Store conn.old) (state S.Store conn.new)) }
-    ensures fails { OnErr result (Keeps (state S.Store conn.old) (state S.Store conn.new)) }
+    ensures fails { OnErr result (Stays (state S.Store conn.old) (state S.Store conn.new)) }
     ensures fault { IfErr result (λ f. IsOutside f) }
     ensures plain { IfErr result IsPlain }
 {
@@ -214,7 +214,7 @@ pub(crate) fn set_counters<S: Alter>(
     ensures changed { OnOk result (ChangedKnown known (known_after known (changes.Counters n.now))
         (with_change (changes.Counters n.now)) (state S.Store conn.old)
         (state S.Store conn.new)) }
-    ensures fails { OnErr result (Keeps (state S.Store conn.old) (state S.Store conn.new)) }
+    ensures fails { OnErr result (Stays (state S.Store conn.old) (state S.Store conn.new)) }
     ensures fault { IfErr result (λ f. IsOutside f) }
     ensures plain { IfErr result IsPlain }
 {
@@ -232,7 +232,7 @@ pub(crate) fn set_settings<S: Alter>(
     requires { v.flags.0 < 2 ^ 63 }
     ensures changed { OnOk result (Changed (with_change (changes.Settings v))
         (state S.Store conn.old) (state S.Store conn.new)) }
-    ensures fails { OnErr result (Keeps (state S.Store conn.old) (state S.Store conn.new)) }
+    ensures fails { OnErr result (Stays (state S.Store conn.old) (state S.Store conn.new)) }
     ensures fault { IfErr result (λ f. IsOutside f) }
     ensures plain { IfErr result IsPlain }
 {
@@ -285,7 +285,7 @@ pub(crate) fn put_node<S: Alter>(conn: &mut Connection<S>, row: &NodeRow) -> Res
     requires { FitsNode row.now }
     ensures changed { OnOk result (Changed (with_change (changes.Node row.now))
         (state S.Store conn.old) (state S.Store conn.new)) }
-    ensures fails { OnErr result (Keeps (state S.Store conn.old) (state S.Store conn.new)) }
+    ensures fails { OnErr result (Stays (state S.Store conn.old) (state S.Store conn.new)) }
     ensures fault { IfErr result (λ f. IsOutside f) }
     ensures plain { IfErr result IsPlain }
 {

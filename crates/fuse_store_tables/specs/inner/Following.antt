@@ -11,51 +11,40 @@ use Rattle.sqlite.proofs.InsideLemmas.{keeps_then}
 use Rattle.fuse_keeper.specs.declared.fault.StoreFault.{StoreFault}
 use Rattle.fuse_store_tables.specs.Content.{Content, Holds, LeftAs}
 use Rattle.std.specs.Result.{IsErr}
-use Rattle.fuse_store_tables.specs.Moves.{IsReady, RestsAs, StaysIn, Takes, Makes, ServesAs, IsSafe, StaysOpen}
+use Rattle.fuse_store_tables.specs.Moves.{RestsAs, Stays, StaysInside, Takes, Makes, ServesAs, IsSafe, StaysOpen}
 
 -- a disk that is clean after a call was so before it
 pub earlier : (a b : State) (P : Trees → Type 0) → Survives a b P → HasCleanDisk b → HasCleanDisk a
 earlier a b P s clean = le-zero (subst (λ n. doubt a.is_clean ≤ n) clean s.clean)
 
-pub stays_then : {C D : Type 0} (P : C → Database → Type 0) (Q : D → Database → Type 0) (a b d : State)
-    → StaysIn P a b → (HasCleanDisk b → IsReady P a → IsReady Q b) → StaysIn Q b d → StaysIn P a d
-stays_then P Q a b d p on q = record {
+pub inside_then : {P : Trees → Type 0} (a b d : State) → StaysInside a b → Survives b d P → StaysInside b d → StaysInside a d
+inside_then a b d p s q clean inside = q clean (p (earlier b d _ s clean) inside)
+
+pub stays_then : (a b d : State) → Stays a b → StaysInside a b → Stays b d → Stays a d
+stays_then a b d p on q = record {
   survives =
-      survives_then a b d _ _ _ (λ _ db none. none) (λ clean db none at. none (on (earlier b d _ q.survives clean) at))
+      survives_then a b d _ _ _ (λ _ db none. none) (λ clean db none inside. none (on (earlier b d _ q.survives clean) inside))
       p.survives q.survives;
-  kept = λ clean at.
+  kept = λ clean inside.
       let mid = earlier b d _ q.survives clean in
-      keeps_then a b d (p.kept mid at) (q.kept clean (on mid at));
+      keeps_then a b d (p.kept mid inside) (q.kept clean (on mid inside));
 }
 
 -- one step after another, where the second is ready for what the first makes
 pub then_as : {C X Y E F : Type 0} (P Q R : C → Database → Type 0) (a b d : State) (x : X) (r : Result Y F) → Takes {X = X} {E = E} P Q a b (Ok x)
     → Takes Q R b d r → Takes P R a d r
 then_as P Q R a b d x (Ok y) p q = record {
-  stays = stays_then P Q a b d p.stays (λ clean at. (at.0, p.turns clean at.0 at.1)) q.stays;
+  stays = stays_then a b d p.stays p.within q.stays;
+  within = inside_then a b d p.within q.stays.survives q.within;
   turns = λ clean c at. q.turns clean c (p.turns (earlier b d _ q.stays.survives clean) c at);
 }
-then_as P Q R a b d x (Err e) p q = record { stays = stays_then P Q a b d p.stays (λ clean at. (at.0, p.turns clean at.0 at.1)) q.stays; turns = tt }
+then_as P Q R a b d x (Err e) p q = record { stays = stays_then a b d p.stays p.within q.stays; within = tt; turns = tt }
 
 -- the same step, begun with the databases of another family
 pub taken_from : {C D X E : Type 0} (P Q : C → Database → Type 0) (f : D → C) (a b : State) (r : Result X E) → Takes P Q a b r
     → Takes (λ d. P (f d)) (λ d. Q (f d)) a b r
-taken_from P Q f a b (Ok x) p = record {
-  stays = record {
-    survives = survives_weaker a b _ _ (λ _ db none at. none (f at.0, at.1)) p.stays.survives;
-    kept = λ clean at. p.stays.kept clean
-        (f at.0, at.1);
-  };
-  turns = λ clean d at. p.turns clean (f d) at;
-}
-taken_from P Q f a b (Err e) p = record {
-  stays = record {
-    survives = survives_weaker a b _ _ (λ _ db none at. none (f at.0, at.1)) p.stays.survives;
-    kept = λ clean at. p.stays.kept clean
-        (f at.0, at.1);
-  };
-  turns = tt;
-}
+taken_from P Q f a b (Ok x) p = record { stays = p.stays; within = p.within; turns = λ clean d at. p.turns clean (f d) at }
+taken_from P Q f a b (Err e) p = record { stays = p.stays; within = tt; turns = tt }
 
 pub makes_then : {X Y E F : Type 0} (f g : Content → Content) (a b d : State) (x : X) (r : Result Y F) → Makes {X = X} {E = E} f a b (Ok x) → Makes g b d r
     → Makes (λ c. g (f c)) a d r

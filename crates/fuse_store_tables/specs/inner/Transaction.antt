@@ -24,12 +24,8 @@ module _ {C : Type 0} (P Q : C → Database → Type 0) where
   pub failed_inside : {X Y Z E F G : Type 0} (R : C → Database → Type 0) (a b d : State) (x : X) (e : F) (h : G) → Begins {E = E} a b (Ok x)
       → Takes {X = Y} P R b d (Err e) → PerformsAs {X = Z} P Q a d (Err h)
   failed_inside R a b d x e h p q = record {
-    survives = survives_then a b d _ _ _ (λ _ db none. absurd none) (λ clean db none c at. absurd (none (
-      c,
-      begun a b x p (earlier b d _ q.stays.survives clean)
-          c at,
-    ))) p.survives q.stays.survives;
-    kept = λ clean c at. let mid = earlier b d _ q.stays.survives clean in keeps_then a b d (p.kept mid) (q.stays.kept clean (c, begun a b x p mid c at));
+    survives = survives_then a b d _ _ _ (λ _ db none. absurd none) (λ clean db none c at. absurd (none (p.begun (earlier b d _ q.stays.survives clean)).1)) p.survives q.stays.survives;
+    kept = λ clean c at. let mid = earlier b d _ q.stays.survives clean in keeps_then a b d (p.kept mid) (q.stays.kept clean (p.begun mid).1);
     done = tt;
   }
 
@@ -41,7 +37,7 @@ module _ {C : Type 0} (P Q : C → Database → Type 0) where
   inside_survives : (a b d : State) {X Y E F : Type 0} (x : X) (y : Y) → Begins {E = E} a b (Ok x) → Takes {E = F} P Q b d (Ok y) → Survives a d (λ db. (c : C)
       → RestsAs (P c) a → LeftAs (Q c) db)
   inside_survives a b d x y p q = survives_then a b d _ _ _ (λ _ db none. absurd none) (λ clean db none c at. absurd
-      (none (c, begun a b x p (earlier b d _ q.stays.survives clean) c at))) p.survives q.stays.survives
+      (none (p.begun (earlier b d _ q.stays.survives clean)).1)) p.survives q.stays.survives
 
   all_survives : (a b d e : State) {X Y Z E F G : Type 0} (x : X) (y : Y) (r : Result Z G) → Begins {E = E} a b (Ok x) → Takes {E = F} P Q b d (Ok y)
       → Ends d e r → Survives a e (λ db. (c : C) → RestsAs (P c) a → LeftAs (Q c) db)
@@ -52,7 +48,7 @@ module _ {C : Type 0} (P Q : C → Database → Type 0) where
   kept_inside : (a b d : State) {X Y E F : Type 0} (x : X) (y : Y) → Begins {E = E} a b (Ok x) → Takes {E = F} P Q b d (Ok y) → HasCleanDisk d → (c : C)
       → RestsAs (P c) a → KeepsCommit a d
   kept_inside a b d x y p q clean c at = let mid = earlier b d _ q.stays.survives clean in keeps_then a b d (p.kept mid)
-      (q.stays.kept clean (c, begun a b x p mid c at))
+      (q.stays.kept clean (p.begun mid).1)
 
   pub committed : {X Y Z W E F G H : Type 0} (a b d e : State) (x : X) (y : Y) (z : Z) (w : W) → Begins {E = E} a b (Ok x) → Takes {E = F} P Q b d (Ok y)
       → Ends {E = G} d e (Ok z) → PerformsAs {E = H} P Q a e (Ok w)

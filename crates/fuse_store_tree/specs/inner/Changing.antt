@@ -1,7 +1,7 @@
 -- The effect of a step within a transaction on the content of the tables (defined by this project).
 use Rattle.sqlite.specs.State.{State, HasCleanDisk}
 use Rattle.fuse_tree.specs.Rows.{IsRowed}
-use Rattle.fuse_store_tables.specs.Moves.{StaysIn, TurnsTo, InsideAs, IsReady}
+use Rattle.fuse_store_tables.specs.Moves.{Stays, StaysInside, TurnsTo, InsideAs, IsReady}
 use Rattle.std.specs.Prelude.{ℕ, List, Option, Result, IfErr}
 use Rattle.fuse_store_tree.specs.Store.{Store, Held, HeldAs}
 use Rattle.fuse_store_tree.specs.Holding.{HeldFor, Holding}
@@ -10,51 +10,44 @@ use Rattle.fuse_store_tables.specs.Faults.{IsOutside}
 use Rattle.fuse_store_tree.specs.Group.{HasLotLeft}
 use Rattle.fuse_store_tree.specs.inner.Writing.{overlay_in, zeros_in, cut_in}
 
--- Nothing is committed of a transaction whose tables hold a store, whether the step succeeds or not.
--- Only this composes over several statements: each leads from the tables of a store to the tables of a store.
-abbrev pub Keeps : State → State → Type 0
-Keeps = StaysIn Held
-
--- the same, with any bytes in the blocks
-abbrev pub KeepsBytes : State → State → Type 0
-KeepsBytes = StaysIn HeldAs
-
 pub record Changed (g : Store → Store) (old new : State) : Type 0 where
-  pub stays : Keeps old new
+  pub stays : Stays old new
+  pub within : StaysInside old new
   pub turns : TurnsTo Held (λ x. Held (g x)) old new
 
 -- a store whose rows are those of a tree is as it was
 pub record LeavesTrees (old new : State) : Type 0 where
-  pub stays : Keeps old new
+  pub stays : Stays old new
+  pub within : StaysInside old new
   pub held : HasCleanDisk new → IsReady Held old → IsReady Held new
   pub same : HasCleanDisk new → (x : Store) → IsRowed x.rows → InsideAs (Held x) old → InsideAs (Held x) new
 
 -- some bytes of a node are written over, and nothing else
 pub record Overlaid (node at : ℕ) (part : List ℕ) (old new : State) : Type 0 where
-  pub stays : KeepsBytes old new
+  pub stays : Stays old new
+  pub within : StaysInside old new
   pub turns : TurnsTo HeldAs (λ p. HeldAs (p.0, overlay_in node at part p.1)) old new
 
 -- zeros are written over some bytes of a node, and no block is made
 pub record Zeroed (node at : ℕ) (zeros : List ℕ) (old new : State) : Type 0 where
-  pub stays : KeepsBytes old new
+  pub stays : Stays old new
+  pub within : StaysInside old new
   pub turns : TurnsTo HeldAs (λ p. HeldAs (p.0, zeros_in node at zeros p.1)) old new
 
 -- the bytes of a node from a place on are 0, in no block that begins there, and nothing else changes
 pub record Cut (node at : ℕ) (old new : State) : Type 0 where
-  pub stays : KeepsBytes old new
+  pub stays : Stays old new
+  pub within : StaysInside old new
   pub turns : TurnsTo HeldAs (λ p. HeldAs (p.0, cut_in node at p.1)) old new
 
 -- a transaction is open, whose tables hold this
 abbrev pub InsideFor : Holding → State → Type 0
 InsideFor y = InsideAs (HeldFor y)
 
--- nothing is committed of a transaction whose tables hold something, whether the step succeeds or not
-abbrev pub KeepsFor : State → State → Type 0
-KeepsFor = StaysIn HeldFor
-
 -- within a transaction, the holding was changed so
 pub record Turned (f : Holding → Holding) (old new : State) : Type 0 where
-  pub stays : KeepsFor old new
+  pub stays : Stays old new
+  pub within : StaysInside old new
   pub turns : TurnsTo HeldFor (λ y. HeldFor (f y)) old new
 
 -- within a transaction: a fault says nothing of the store, unless no lot number is left

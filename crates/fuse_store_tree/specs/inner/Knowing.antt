@@ -11,7 +11,7 @@ use Rattle.fuse_tree.specs.declared.rows.Change.TheVariants as changes
 use Rattle.fuse_keeper.specs.declared.fault.StoreFault.{StoreFault}
 use Rattle.fuse_store_tables.specs.Content.{Content, Counter, counter_key, set_by, valued, set_counter}
 use Rattle.fuse_store_tables.specs.Faults.{IsOutside}
-use Rattle.fuse_store_tables.specs.Moves.{StaysIn, TurnsTo, InsideAs}
+use Rattle.fuse_store_tables.specs.Moves.{InsideAs, Stays, StaysInside, TurnsTo}
 use Rattle.fuse_store_tree.specs.declared.meta.Meta.{Meta}
 use Rattle.fuse_store_tree.specs.Store.{Store, Held}
 use Rattle.fuse_store_tree.specs.Holding.{Holding}
@@ -86,17 +86,16 @@ HeldKnown known x d = Held x d × Knows known x.rows
 
 -- what was known was right, and what is known then is right of the store that is made
 pub record ChangedKnown (was is : Option Meta) (g : Store → Store) (old new : State) : Type 0 where
-  pub stays : StaysIn (HeldKnown was) old new
+  pub stays : Stays old new
+  pub within : StaysInside old new
   pub turns : TurnsTo (HeldKnown was) (λ x. HeldKnown is (g x)) old new
 
 abbrev pub InsideKnown : Option Meta → Holding → State → Type 0
 InsideKnown known y = InsideAs (HeldForKnown known y)
 
-abbrev pub KeepsKnown : Option Meta → State → State → Type 0
-KeepsKnown known = StaysIn (HeldForKnown known)
-
 pub record TurnedKnown (was is : Option Meta) (f : Holding → Holding) (old new : State) : Type 0 where
-  pub stays : KeepsKnown was old new
+  pub stays : Stays old new
+  pub within : StaysInside old new
   pub turns : TurnsTo (HeldForKnown was) (λ y. HeldForKnown is (f y)) old new
 
 -- within a transaction: a fault says nothing of the store, unless no lot number is left

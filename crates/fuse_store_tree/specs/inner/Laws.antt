@@ -8,7 +8,7 @@ use Rattle.fuse_tree.specs.Rows.{Rows}
 use Rattle.fuse_keeper.specs.declared.fault.StoreFault.{StoreFault}
 use Rattle.fuse_store_tables.specs.Faults.{IsOutside, IsPlain}
 use Rattle.fuse_store_tables.specs.Moves.{IsReady, Stays, Looked}
-use Rattle.fuse_store_tables.specs.inner.Following.{earlier, stays_then}
+use Rattle.fuse_store_tables.specs.inner.Following.{earlier, inside_then, stays_then}
 use Rattle.fuse_store_tree.specs.declared.look.LastNode.{LastNode}
 use Rattle.fuse_store_tree.specs.declared.meta.Meta.{Meta}
 use Rattle.fuse_store_tree.specs.Holding.{HeldFor}
@@ -29,20 +29,21 @@ still_survives a P = record {
 same_stays : (a : State) → Stays a a
 same_stays a = record {
   survives = still_survives a _;
-  kept = λ clean at. record { was_open = λ is. is; committed = λ is. refl };
+  kept = λ clean inside. record { was_open = λ is. is; committed = λ is. refl };
 }
 
 pub looked_still : (a : State) → Looked a a
-looked_still a = record { stays = same_stays a; same = λ clean c at. at }
+looked_still a = record { stays = same_stays a; within = λ clean inside. inside; same = λ clean c at. at }
 
 pub looked_then : (a b d : State) → Looked a b → Looked b d → Looked a d
 looked_then a b d p q = record {
-  stays = stays_then _ _ a b d p.stays (λ clean at. (at.0, p.same clean at.0 at.1)) q.stays;
+  stays = stays_then a b d p.stays p.within q.stays;
+  within = inside_then a b d p.within q.stays.survives q.within;
   same = λ clean c at. q.same clean c (p.same (earlier b d _ q.stays.survives clean) c at);
 }
 
 pub looked_fails : (a b d : State) → Looked a b → Stays b d → Stays a d
-looked_fails a b d p q = stays_then _ _ a b d p.stays (λ clean at. (at.0, p.same clean at.0 at.1)) q
+looked_fails a b d p q = stays_then a b d p.stays p.within q
 
 pub looked_clean : (a b : State) → Looked a b → HasCleanDisk b → HasCleanDisk a
 looked_clean a b p clean = earlier a b _ p.stays.survives clean

@@ -19,3 +19,6 @@ returns-clause-fault g c =
 
 pub returns-clause-open : goal.returns-clause-open
 returns-clause-open g c = c.begin_mount.ensures.open
+
+pub returns-clause-undone : goal.returns-clause-undone
+returns-clause-undone g c = c.begin_mount.ensures.undone

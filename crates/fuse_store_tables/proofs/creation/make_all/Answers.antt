@@ -19,7 +19,7 @@ pub returns-in-None-clause-made : goal.returns-in-None-clause-made
 returns-in-None-clause-made g c =
     let made = c.in_ok-make_plain.ensures.made in
     subst (λ room. Takes {X = Unit {0}} {E = Error} (IsBare no_schema) (IsNew room c.args.from) (state g.S.Store c.args.conn.now)
-    (state g.S.Store c.make_plain.new.conn) (Ok tt)) (sym c.in-None.is) (record { stays = made.stays; turns = made.turns })
+    (state g.S.Store c.make_plain.new.conn) (Ok tt)) (sym c.in-None.is) (record { stays = made.stays; within = made.within; turns = made.turns })
 
 pub returns-in-Some-clause-made : goal.returns-in-Some-clause-made
 returns-in-Some-clause-made g c =

@@ -23,7 +23,7 @@ returns-in_ok-clear-in-Ok-clause-begun g c =
     let all =
     then_as IsStored IsOpened IsBegun (state g.S.Store c.args.conn.now) (state g.S.Store c.work.new.conn) (state g.S.Store c.clear.new.conn) _ (Ok _)
     c.in-Ok.ensures.opened (clears_opened (state g.S.Store c.work.new.conn) (state g.S.Store c.clear.new.conn) _ c.in_ok-clear-in-Ok.ensures.made) in
-    record { stays = all.stays; turns = all.turns }
+    record { stays = all.stays; within = all.within; turns = all.turns }
 
 pub returns-in-Err-clause-begun : goal.returns-in-Err-clause-begun
 returns-in-Err-clause-begun g c =

@@ -17,7 +17,7 @@ returns-clause-made g c =
     then_as IsFirst IsFirst IsOpened (state g.S.Store c.args.conn.now) (state g.S.Store c.check_first.new.conn) (state g.S.Store c.migrate.new.conn) _
     (Ok _) (checks_keep IsFirst first_laid HasFirstMeta _ _ _ c.in_ok-check_first.ensures)
     c.in_ok-migrate.ensures.made in
-    record { stays = all.stays; turns = all.turns }
+    record { stays = all.stays; within = all.within; turns = all.turns }
 
 pub returns-in_err-check_first-clause-within : goal.returns-in_err-check_first-clause-within
 returns-in_err-check_first-clause-within g c = within_failed _ _ _ _ c.in_err-check_first.ensures.within c.from_residual.ensures.0

@@ -19,7 +19,7 @@ returns-clause-made g c =
     let all =
     then_as IsUnindexed IsUnindexed IsOpened (state g.S.Store c.args.conn.now) (state g.S.Store c.check_second.new.conn) (state g.S.Store c.add_index.new.conn) _
     (Ok _) (checks_keep IsUnindexed unindexed_laid HasSecondMeta _ _ _ c.in_ok-profile.ensures.checks) (indexes _ _ _ c.in_ok-add_index.ensures.made) in
-    record { stays = all.stays; turns = all.turns }
+    record { stays = all.stays; within = all.within; turns = all.turns }
 
 pub returns-in_err-profile-clause-within : goal.returns-in_err-profile-clause-within
 returns-in_err-profile-clause-within g c = within_failed _ _ _ _ c.in_err-profile.ensures.checks.within c.from_residual.ensures.0

@@ -38,7 +38,7 @@ returns-in-Ok-clause-opened g c =
     (λ clean k at on. found_first a b v c.if-version-eq1.true (c.in_ok-version.ensures.value clean) k at on) in
     let all = then_as IsStored IsFirst IsOpened a b (state g.S.Store c.open_first.new.conn) v (Ok _) first
     c.in-Ok.ensures.made in
-    record { stays = all.stays; turns = all.turns }
+    record { stays = all.stays; within = all.within; turns = all.turns }
 
 pub returns-then-second-clause-opened : goal.returns-then-second-clause-opened
 returns-then-second-clause-opened g c =

@@ -23,7 +23,7 @@ returns-clause-made g c =
     (state g.S.Store c.select_unnamed_sizes.new.conn) (state g.S.Store c.write_counter.new.conn) _ (Ok _) c.in_ok-sizes.ensures.made
     (λ k clean at. left_is c.as_slice.result.now k c.args.used c.in_ok-left.left (c.as_slice.ensures.value ∙ c.in_ok-sizes.ensures.found clean k at)
     c.in_ok-left.ensures.value) c.in_ok-write_counter.ensures.made in
-    record { stays = all.stays; turns = all.turns }
+    record { stays = all.stays; within = all.within; turns = all.turns }
 
 pub returns-in_err-left-clause-fault : goal.returns-in_err-left-clause-fault
 returns-in_err-left-clause-fault g c =

@@ -4,12 +4,11 @@ use Rattle.fuse_request.specs.Act.{asked}
 use Rattle.fuse_tree.specs.Do.{done}
 use Rattle.fuse_store_tree.proofs.Changes.{acted, acted_keeps, acted_sure}
 use Rattle.fuse_store_tree.proofs.AtSize.{trees_then}
-use Rattle.fuse_store_tree.proofs.KnownSteps.{keeps_for_known, ready_for_known, held_for}
-use Rattle.fuse_store_tree.proofs.Steps.{keeps_of, looked_keeps}
-use Rattle.fuse_store_tables.specs.inner.Following.{earlier}
-use Rattle.fuse_store_tree.specs.inner.Laws.{looked_ready}
+use Rattle.fuse_store_tree.proofs.KnownSteps.{ready_for_known, held_for}
+use Rattle.fuse_store_tables.specs.inner.Following.{earlier, inside_then}
+use Rattle.fuse_store_tree.specs.inner.Laws.{looked_ready, looked_fails}
 use Rattle.fuse_store_tree.specs.Holding.{store_of}
-use Rattle.fuse_store_tree.proofs.Turning.{keeps_for, told_in}
+use Rattle.fuse_store_tree.proofs.Turning.{told_in}
 use Rattle.fuse_store_tree.proofs.Sure.{no_plan, no_plan_plain, ready_held}
 use Rattle.fuse_store_tree.proofs.action.act.Goals as goal
 
@@ -36,6 +35,15 @@ returns-in-Ok-make_all-clause-keeps g c =
     acted_keeps c.args.look.now.known c.plan.new.look.known a d (trees_then a b d looks.looked leaves)
     (λ mid. looks.knows (earlier b d _ leaves.stays.survives mid)) (state g.S.Store c.make_all.new.conn) c.in-Ok-make_all.ensures.changed.stays
 
+pub returns-in-Ok-make_all-clause-within : goal.returns-in-Ok-make_all-clause-within
+returns-in-Ok-make_all-clause-within g c =
+    let a = state g.S.Store c.args.look.now.conn in
+    let d = state g.S.Store c.clear_gap.new.conn in
+    let made = c.in-Ok-make_all.ensures.changed in
+    inside_then a d (state g.S.Store c.make_all.new.conn)
+    (trees_then a (state g.S.Store c.plan.new.look.conn) d (c.in-Ok.ensures.looks (refl {a = None})).looked c.in-Ok-clear_gap.ensures.same).within
+    made.stays.survives made.within
+
 pub returns-in-Err-make_all-clause-keeps : goal.returns-in-Err-make_all-clause-keeps
 returns-in-Err-make_all-clause-keeps g c =
     let a = state g.S.Store c.args.look.now.conn in
@@ -50,8 +58,7 @@ pub returns-in-Err-clear_gap-clause-keeps : goal.returns-in-Err-clear_gap-clause
 returns-in-Err-clear_gap-clause-keeps g c =
     let a = state g.S.Store c.args.look.now.conn in
     let d = state g.S.Store c.clear_gap.new.conn in
-    keeps_for_known c.args.look.now.known a d (keeps_for a d (looked_keeps a (state g.S.Store c.plan.new.look.conn) d
-    (c.in-Ok.ensures.looks (refl {a = None})).looked c.in-Err-clear_gap.ensures.fails))
+    looked_fails a (state g.S.Store c.plan.new.look.conn) d (c.in-Ok.ensures.looks (refl {a = None})).looked c.in-Err-clear_gap.ensures.fails
 
 pub returns-in-Err-clear_gap-clause-sure : goal.returns-in-Err-clear_gap-clause-sure
 returns-in-Err-clear_gap-clause-sure g c clean at =
@@ -63,9 +70,7 @@ returns-in-Err-clear_gap-clause-sure g c clean at =
 
 pub returns-in-Err-clause-keeps : goal.returns-in-Err-clause-keeps
 returns-in-Err-clause-keeps g c =
-    let a = state g.S.Store c.args.look.now.conn in
-    let b = state g.S.Store c.plan.new.look.conn in
-    rw c.take_fault.ensures.conn (keeps_for_known c.args.look.now.known a b (keeps_for a b (keeps_of a b c.in-Err.ensures.fails.stays)))
+    rw c.take_fault.ensures.conn c.in-Err.ensures.fails.stays
 
 pub returns-in-Err-make_all-clause-sure : goal.returns-in-Err-make_all-clause-sure
 returns-in-Err-make_all-clause-sure g c clean (y, at) =

@@ -1,5 +1,5 @@
 use Rattle.sqlite.specs.Held.{state}
-use Rattle.fuse_store_tree.proofs.Steps.{on_ok, on_error, held_of}
+use Rattle.fuse_store_tree.proofs.Steps.{on_ok}
 use Rattle.fuse_store_tree.proofs.Writes.{written_changed}
 use Rattle.fuse_store_tree.proofs.block_writes.write_content.Goals as goal
 
@@ -7,7 +7,3 @@ pub returns-clause-changed : goal.returns-clause-changed
 returns-clause-changed g c =
     on_ok c.write_range.result _ _ (written_changed c.args.node c.args.at c.args.bytes.now (state g.S.Store c.args.conn.now)
     (state g.S.Store c.write_range.new.conn)) c.write_range.ensures.overlaid
-
-pub returns-clause-fails : goal.returns-clause-fails
-returns-clause-fails g c = on_error c.write_range.result _ _ (held_of (state g.S.Store c.args.conn.now) (state g.S.Store c.write_range.new.conn))
-    c.write_range.ensures.fails

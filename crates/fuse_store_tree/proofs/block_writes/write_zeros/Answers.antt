@@ -1,7 +1,7 @@
 use Rattle.std.proofs.Common.{sym, ◌∙◌}
 use Rattle.sqlite.specs.Held.{state}
 use Rattle.fuse_store_tables.specs.inner.Following.{earlier}
-use Rattle.fuse_store_tree.proofs.Steps.{on_ok, bytes_keep}
+use Rattle.fuse_store_tree.proofs.Steps.{on_ok}
 use Rattle.fuse_store_tree.proofs.Writes.{piece_written, piece_keeps}
 use Rattle.fuse_store_tree.proofs.Zeros.{zeros_there, zeros_over}
 use Rattle.fuse_store_tree.proofs.block_writes.write_zeros.Goals as goal
@@ -31,4 +31,4 @@ returns-clause-zeroed g c =
 
 pub returns-in-Err-clause-fails : goal.returns-in-Err-clause-fails
 returns-in-Err-clause-fails g c =
-    bytes_keep (state g.S.Store c.args.conn.now) (state g.S.Store c.find_block.new.conn) c.in-Err.ensures.fails
+    c.in-Err.ensures.fails

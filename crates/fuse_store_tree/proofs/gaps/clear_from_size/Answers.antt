@@ -1,8 +1,9 @@
 use Rattle.sqlite.specs.Held.{state}
-use Rattle.fuse_store_tree.proofs.Steps.{on_ok, on_error, looked_keeps}
+use Rattle.fuse_store_tree.proofs.Steps.{on_ok, on_error}
 use Rattle.fuse_store_tree.proofs.AtSize.{sized_trees}
 use Rattle.fuse_store_tree.proofs.Described.{inside_of}
 use Rattle.fuse_store_tree.proofs.gaps.clear_from_size.Goals as goal
+use Rattle.fuse_store_tree.specs.inner.Laws.{looked_fails}
 
 pub returns-then-row-le-MAX_FILE-clause-same : goal.returns-then-row-le-MAX_FILE-clause-same
 returns-then-row-le-MAX_FILE-clause-same g c =
@@ -11,7 +12,7 @@ returns-then-row-le-MAX_FILE-clause-same g c =
 
 pub returns-then-row-le-MAX_FILE-clause-fails : goal.returns-then-row-le-MAX_FILE-clause-fails
 returns-then-row-le-MAX_FILE-clause-fails g c =
-    on_error c.set_size.result _ _ (looked_keeps (state g.S.Store c.args.conn.now) (state g.S.Store c.find_node.new.conn) (state g.S.Store c.set_size.new.conn)
+    on_error c.set_size.result _ _ (looked_fails (state g.S.Store c.args.conn.now) (state g.S.Store c.find_node.new.conn) (state g.S.Store c.set_size.new.conn)
     c.in-Ok-Some.ensures.looks) c.set_size.ensures.fails
 
 pub returns-in-Err-clause-fault : goal.returns-in-Err-clause-fault

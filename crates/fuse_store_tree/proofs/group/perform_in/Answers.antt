@@ -3,7 +3,7 @@ use Rattle.fuse_keeper.specs.Group.{ids_of, entries_of}
 use Rattle.fuse_store_tables.specs.inner.Following.{earlier}
 use Rattle.fuse_store_tree.specs.Group.{prepared}
 use Rattle.fuse_store_tree.specs.Knowing.{HeldForKnown}
-use Rattle.fuse_store_tree.proofs.KnownSteps.{held_for, keeps_for_known, turned_known_keeps}
+use Rattle.fuse_store_tree.proofs.KnownSteps.{held_for, turned_known_keeps}
 use Rattle.fuse_store_tree.proofs.Groups.{grouped, dones_are, prepared_known}
 use Rattle.fuse_store_tree.proofs.Sure.{fault_next}
 use Rattle.fuse_store_tree.proofs.group.perform_in.Goals as goal
@@ -46,7 +46,7 @@ returns-in-Err-take_all-clause-fault g c clean y at left =
 
 pub returns-in-Err-clause-fails : goal.returns-in-Err-clause-fails
 returns-in-Err-clause-fails g c =
-    keeps_for_known c.args.look.now.known (state g.S.Store c.args.look.now.conn) (state g.S.Store c.prepare.new.conn) c.in-Err.ensures.fails
+    c.in-Err.ensures.fails
 
 pub returns-in-Err-clause-fault : goal.returns-in-Err-clause-fault
 returns-in-Err-clause-fault g c clean y at left =

@@ -1,6 +1,6 @@
 use Rattle.std.proofs.Common.{◌∙◌}
 use Rattle.sqlite.specs.Held.{state}
-use Rattle.fuse_store_tree.proofs.Turning.{stays_for, looked_for, turned_keeps}
+use Rattle.fuse_store_tree.proofs.Turning.{looked_for, turned_keeps}
 use Rattle.fuse_store_tree.proofs.Records.{lot_taken}
 use Rattle.std.proofs.Common.{◌≤◌, refl, sym, subst, length, arith}
 use Rattle.fuse_store_tables.specs.Content.{Counter}
@@ -20,7 +20,7 @@ returns-clause-fails g c =
     let a = state g.S.Store c.args.conn.now in
     let b = state g.S.Store c.select_counters.new.conn in
     let d = state g.S.Store c.add_lot.new.conn in
-    turned_keeps (λ y. y) a b d (looked_for a b c.in-Ok.ensures.looks) (stays_for b d c.in-Err-add_lot.ensures.stays)
+    turned_keeps (λ y. y) a b d (looked_for a b c.in-Ok.ensures.looks) c.in-Err-add_lot.ensures.stays
 
 pub returns-in-Err-next_lot_of-clause-fault : goal.returns-in-Err-next_lot_of-clause-fault
 returns-in-Err-next_lot_of-clause-fault g c clean y at left =

@@ -5,7 +5,7 @@ use Rattle.fuse_tree.specs.Columns.{FitsChange}
 use Rattle.fuse_store_tree.specs.inner.Knowing.{ChangedKnown, HeldKnown}
 use Rattle.fuse_store_tree.specs.inner.Writing.{with_change, with_changes}
 use Rattle.fuse_store_tree.proofs.Changes.{known_more}
-use Rattle.fuse_store_tree.proofs.KnownSteps.{known_keeps, keeps_known, ready_known}
+use Rattle.fuse_store_tree.proofs.KnownSteps.{known_keeps, ready_known}
 use Rattle.fuse_store_tree.proofs.Sure.{fault_next, one_of}
 use Rattle.fuse_store_tree.proofs.plan_changes.make_all.Goals as goal
 
@@ -14,7 +14,7 @@ returns-in-Err-clause-fails g c =
     let b = state g.S.Store c.loop-change.conn in
     let d = state g.S.Store c.make_change.new.conn in
     known_keeps c.args.known c.loop-change.last (with_changes (take c.loop-change.change-index c.args.changes.now)) (state g.S.Store c.args.conn.now) b d
-    c.loop-change.invariant (keeps_known c.loop-change.last b d c.in-Err.ensures.fails)
+    c.loop-change.invariant c.in-Err.ensures.fails
 
 pub loop-change-preserved : goal.loop-change-preserved
 loop-change-preserved g c =
@@ -41,6 +41,6 @@ returns-in-Err-clause-fault g c fits =
     let n = c.loop-change.last in
     let fits_one : FitsChange c.change-item.result = subst FitsChange (sym c.change-item.is)
     (one_of FitsChange cs i c.change-item.result fits c.loop-change-test.true) in
-    fault_next (HeldKnown m) (HeldKnown n) a b d c.in-Err.fault (keeps_known n b d c.in-Err.ensures.fails)
+    fault_next (HeldKnown m) (HeldKnown n) a b d c.in-Err.fault c.in-Err.ensures.fails
     (λ clean (x, at). (with_changes (take i cs) x, c.loop-change.invariant.turns clean x at))
     (λ clean ready. c.in-Err.ensures.fault fits_one clean (ready_known n b ready))

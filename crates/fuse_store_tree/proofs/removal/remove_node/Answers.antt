@@ -1,5 +1,4 @@
 use Rattle.sqlite.specs.Held.{state}
-use Rattle.fuse_store_tree.proofs.Steps.{bytes_keep, held_of}
 use Rattle.fuse_store_tree.proofs.Cuts.{cut_keeps}
 use Rattle.fuse_store_tree.proofs.Gone.{node_goes}
 use Rattle.fuse_store_tree.proofs.removal.remove_node.Goals as goal
@@ -10,11 +9,11 @@ returns-in-Ok-delete_node-clause-changed g c =
     c.in-Ok.ensures.cut c.in-Ok-delete_node.ensures
 
 pub returns-in-Err-clause-fails : goal.returns-in-Err-clause-fails
-returns-in-Err-clause-fails g c = held_of (state g.S.Store c.args.conn.now) (state g.S.Store c.drop_blocks.new.conn) c.in-Err.ensures.fails
+returns-in-Err-clause-fails g c = c.in-Err.ensures.fails
 
 pub returns-in-Err-delete_node-clause-fails : goal.returns-in-Err-delete_node-clause-fails
 returns-in-Err-delete_node-clause-fails g c =
     let a = state g.S.Store c.args.conn.now in
     let b = state g.S.Store c.drop_blocks.new.conn in
     let d = state g.S.Store c.delete_node.new.conn in
-    held_of a d (cut_keeps c.args.node 0 a b d c.in-Ok.ensures.cut (bytes_keep b d c.in-Err-delete_node.ensures.stays))
+    cut_keeps c.args.node 0 a b d c.in-Ok.ensures.cut c.in-Err-delete_node.ensures.stays

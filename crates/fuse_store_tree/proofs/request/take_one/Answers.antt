@@ -1,8 +1,8 @@
 use Rattle.sqlite.specs.Held.{state}
 use Rattle.fuse_keeper.specs.Group.{entry_of}
-use Rattle.fuse_store_tree.proofs.Turning.{ok_too, stays_for, content_in}
+use Rattle.fuse_store_tree.proofs.Turning.{ok_too, content_in}
 use Rattle.fuse_store_tree.proofs.Steps.{on_ok, on_error}
-use Rattle.fuse_store_tree.proofs.KnownSteps.{held_for, keeps_for_known, looked_known, turned_known_keeps, known_sure}
+use Rattle.fuse_store_tree.proofs.KnownSteps.{held_for, looked_known, turned_known_keeps, known_sure}
 use Rattle.fuse_store_tree.proofs.Records.{took_known, took_new, done_known, done_new}
 use Rattle.fuse_store_tree.proofs.request.take_one.Goals as goal
 
@@ -48,10 +48,7 @@ returns-in-None-clause-fault g c =
     c.act_and_record.ensures.fails c.act_and_record.ensures.fault
 
 pub returns-in-Err-clause-fails : goal.returns-in-Err-clause-fails
-returns-in-Err-clause-fails g c =
-    let a = state g.S.Store c.args.look.now.conn in
-    let b = state g.S.Store c.find_answer.new.conn in
-    keeps_for_known c.args.look.now.known a b (stays_for a b c.in-Err.ensures.fails)
+returns-in-Err-clause-fails g c = c.in-Err.ensures.fails
 
 pub returns-in-Err-clause-fault : goal.returns-in-Err-clause-fault
 returns-in-Err-clause-fault g c clean (y, at) =

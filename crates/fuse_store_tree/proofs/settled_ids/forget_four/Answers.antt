@@ -1,5 +1,4 @@
 use Rattle.sqlite.specs.Held.{state}
-use Rattle.fuse_store_tree.proofs.Turning.{stays_for}
 use Rattle.fuse_store_tree.proofs.Records.{forgot_four}
 use Rattle.fuse_store_tree.proofs.settled_ids.forget_four.Goals as goal
 
@@ -9,4 +8,4 @@ returns-in-Ok-clause-turned g c =
     c.in-Ok.ensures
 
 pub returns-in-Err-clause-fails : goal.returns-in-Err-clause-fails
-returns-in-Err-clause-fails g c = stays_for (state g.S.Store c.args.conn.now) (state g.S.Store c.delete_four_kept.new.conn) c.in-Err.ensures.stays
+returns-in-Err-clause-fails g c = c.in-Err.ensures.stays

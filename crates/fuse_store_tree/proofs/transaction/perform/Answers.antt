@@ -5,7 +5,7 @@ use Rattle.fuse_store_tree.specs.Knowing.{HeldForKnown}
 use Rattle.fuse_store_tree.specs.Group.{performed}
 use Rattle.fuse_store_tables.specs.inner.Following.{earlier}
 use Rattle.fuse_store_tables.specs.inner.Transaction.{open_undone}
-use Rattle.fuse_store_tree.proofs.Whole.{rolled_back, serves_forgot}
+use Rattle.fuse_store_tree.proofs.Whole.{rolled_back, undone_for, once_undone, serves_forgot}
 use Rattle.fuse_store_tree.proofs.transaction.perform.Goals as goal
 
 pub returns-in-Ok-clause-serves : goal.returns-in-Ok-clause-serves
@@ -44,6 +44,19 @@ pub returns-in-Err-clause-ended : goal.returns-in-Err-clause-ended
 returns-in-Err-clause-ended g c = c.undo.ensures.autocommit
 
 pub returns-in-Err-clause-refused : goal.returns-in-Err-clause-refused
-returns-in-Err-clause-refused g c = λ refused y at.
+returns-in-Err-clause-refused g c = λ refused.
     rolled_back (state g.S.Store c.args.look.now.conn) (state g.S.Store c.transact.new.look.conn) (state g.S.Store c.undo.new.conn)
-    (c.in-Err.ensures.refused refused y at) c.undo.ensures
+    (c.in-Err.ensures.refused refused) c.undo.ensures
+
+pub returns-in-Err-clause-undone : goal.returns-in-Err-clause-undone
+returns-in-Err-clause-undone g c =
+    undone_for (state g.S.Store c.args.look.now.conn) (state g.S.Store c.transact.new.look.conn) (state g.S.Store c.undo.new.conn) c.in-Err.ensures.keeps
+    c.undo.ensures
+
+pub returns-in-Ok-clause-once : goal.returns-in-Ok-clause-once
+returns-in-Ok-clause-once g c = c.in-Ok.ensures.once
+
+pub returns-in-Err-clause-once : goal.returns-in-Err-clause-once
+returns-in-Err-clause-once g c =
+    once_undone (state g.S.Store c.args.look.now.conn) (state g.S.Store c.transact.new.look.conn) (state g.S.Store c.undo.new.conn) c.in-Err.fault
+    c.in-Err.fault c.in-Err.ensures.once c.undo.ensures

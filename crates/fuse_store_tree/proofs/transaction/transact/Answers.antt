@@ -6,7 +6,7 @@ use Rattle.fuse_store_tree.specs.Knowing.{HeldForKnown}
 use Rattle.fuse_store_tree.specs.Group.{performed, all_dones, lot_for}
 use Rattle.fuse_store_tree.proofs.Whole.{takes_for, fails_for, told_after, lot_after}
 use Rattle.fuse_store_tables.specs.inner.Following.{earlier}
-use Rattle.fuse_store_tree.proofs.Whole.{begun_for, unrefusing, nothing_for}
+use Rattle.fuse_store_tree.proofs.Whole.{begun_for, unrefusing, nothing_for, keeps_commit, once_first, once_inside, once_failed, once_committed}
 use Rattle.fuse_store_tables.specs.inner.Transaction.{open_first, open_inside, open_failed, open_committed}
 use Rattle.fuse_store_tree.proofs.transaction.transact.Goals as goal
 
@@ -97,9 +97,42 @@ returns-in-Err-clause-refused g c = λ refused. absurd (unrefusing c.in-Err.erro
 
 pub returns-in-Err-perform_in-clause-refused : goal.returns-in-Err-perform_in-clause-refused
 returns-in-Err-perform_in-clause-refused g c = λ refused.
-    nothing_for c.args.look.now.known (state g.S.Store c.args.look.now.conn) (state g.S.Store c.begin.new.conn) (state g.S.Store c.perform_in.new.look.conn) _ c.in-Ok.ensures
+    nothing_for (state g.S.Store c.args.look.now.conn) (state g.S.Store c.begin.new.conn) (state g.S.Store c.perform_in.new.look.conn) _ c.in-Ok.ensures
     c.in-Err-perform_in.ensures.fails
 
 pub returns-in-Err-commit-clause-refused : goal.returns-in-Err-commit-clause-refused
 returns-in-Err-commit-clause-refused g c = λ refused.
     absurd (unrefusing c.in-Err-commit.error c.from-in-Err-commit.result c.from-in-Err-commit.ensures refused)
+
+pub returns-in-Err-clause-keeps : goal.returns-in-Err-clause-keeps
+returns-in-Err-clause-keeps g c = c.in-Err.ensures.kept
+
+pub returns-in-Err-perform_in-clause-keeps : goal.returns-in-Err-perform_in-clause-keeps
+returns-in-Err-perform_in-clause-keeps g c =
+    (nothing_for (state g.S.Store c.args.look.now.conn) (state g.S.Store c.begin.new.conn) (state g.S.Store c.perform_in.new.look.conn) _ c.in-Ok.ensures
+    c.in-Err-perform_in.ensures.fails).kept
+
+pub returns-in-Err-commit-clause-keeps : goal.returns-in-Err-commit-clause-keeps
+returns-in-Err-commit-clause-keeps g c =
+    keeps_commit (state g.S.Store c.args.look.now.conn) (state g.S.Store c.begin.new.conn) (state g.S.Store c.perform_in.new.look.conn)
+    (state g.S.Store c.commit.new.conn) _ c.in-Err-commit.error c.in-Ok.ensures c.in-Ok-perform_in.ensures.turned.stays c.in-Err-commit.ensures
+
+pub returns-in-Err-clause-once : goal.returns-in-Err-clause-once
+returns-in-Err-clause-once g c =
+    once_first (state g.S.Store c.args.look.now.conn) (state g.S.Store c.begin.new.conn) c.in-Err.error c.from.result c.in-Err.ensures
+
+pub returns-in-Err-perform_in-clause-once : goal.returns-in-Err-perform_in-clause-once
+returns-in-Err-perform_in-clause-once g c =
+    once_inside (state g.S.Store c.args.look.now.conn) (state g.S.Store c.begin.new.conn) (state g.S.Store c.perform_in.new.look.conn) _
+    c.in-Err-perform_in.fault c.in-Ok.ensures c.in-Err-perform_in.ensures.fails
+
+pub returns-in-Err-commit-clause-once : goal.returns-in-Err-commit-clause-once
+returns-in-Err-commit-clause-once g c =
+    once_failed (state g.S.Store c.args.look.now.conn) (state g.S.Store c.begin.new.conn) (state g.S.Store c.perform_in.new.look.conn)
+    (state g.S.Store c.commit.new.conn) _ c.in-Err-commit.error c.from-in-Err-commit.result c.in-Ok.ensures
+    c.in-Ok-perform_in.ensures.turned.stays c.in-Err-commit.ensures
+
+pub returns-in-Ok-commit-clause-once : goal.returns-in-Ok-commit-clause-once
+returns-in-Ok-commit-clause-once g c =
+    once_committed (state g.S.Store c.args.look.now.conn) (state g.S.Store c.begin.new.conn) (state g.S.Store c.perform_in.new.look.conn)
+    (state g.S.Store c.commit.new.conn) _ _ c.in-Ok-perform_in.performed c.in-Ok.ensures c.in-Ok-perform_in.ensures.turned.stays c.in-Ok-commit.ensures

@@ -1,5 +1,4 @@
 use Rattle.sqlite.specs.Held.{state}
-use Rattle.fuse_store_tree.proofs.Steps.{bytes_keep}
 use Rattle.fuse_store_tree.proofs.Cuts.{blocks_cut}
 use Rattle.fuse_store_tree.proofs.truncation.drop_blocks.Goals as goal
 
@@ -9,4 +8,4 @@ returns-in-Ok-clause-cut g c =
 
 pub returns-in-Err-clause-fails : goal.returns-in-Err-clause-fails
 returns-in-Err-clause-fails g c =
-    bytes_keep (state g.S.Store c.args.conn.now) (state g.S.Store c.delete_blocks_from.new.conn) c.in-Err.ensures.made.stays
+    c.in-Err.ensures.made.stays

@@ -1,5 +1,5 @@
 use Rattle.sqlite.specs.Held.{state}
-use Rattle.fuse_store_tree.proofs.Steps.{made, keeps_of}
+use Rattle.fuse_store_tree.proofs.Steps.{made}
 use Rattle.fuse_store_tree.proofs.RowChanges.{handle_comes}
 use Rattle.fuse_store_tree.proofs.updates.add_handle.Goals as goal
 
@@ -8,4 +8,4 @@ returns-in-Ok-clause-changed g c = made _ _ (state g.S.Store c.args.conn.now) (s
     (handle_comes c.args.row.now c.requires) c.in-Ok.ensures
 
 pub returns-in-Err-clause-fails : goal.returns-in-Err-clause-fails
-returns-in-Err-clause-fails g c = keeps_of (state g.S.Store c.args.conn.now) (state g.S.Store c.insert_handle.new.conn) c.in-Err.ensures.stays
+returns-in-Err-clause-fails g c = c.in-Err.ensures.stays

@@ -1,5 +1,5 @@
 use Rattle.sqlite.specs.Held.{state}
-use Rattle.fuse_store_tree.proofs.Steps.{made, keeps_of}
+use Rattle.fuse_store_tree.proofs.Steps.{made}
 use Rattle.fuse_store_tree.proofs.RowChanges.{node_put}
 use Rattle.fuse_store_tree.proofs.updates.put_node.Goals as goal
 
@@ -9,4 +9,4 @@ returns-in-Ok-clause-changed g c =
     (λ s k tells. node_put c.args.row.now (record { node = c.requires.node; widths = c.law_of_widths.ensures }) s k tells) c.in-Ok.ensures
 
 pub returns-in-Err-clause-fails : goal.returns-in-Err-clause-fails
-returns-in-Err-clause-fails g c = keeps_of (state g.S.Store c.args.conn.now) (state g.S.Store c.put_node.new.conn) c.in-Err.ensures.stays
+returns-in-Err-clause-fails g c = c.in-Err.ensures.stays

@@ -58,3 +58,6 @@ returns-in-Err-clause-crash g c =
     c.args.self.now.look.conn)
     (state g.S.Store c.begin_mount.new.conn) (g.met.S.Store.settled c.args.self.now.look.conn.store) (Err c.in-Err.fault) (serves_known c.args.self.now.look.known None cleared_for (state g.S.Store c.args.self.now.look.conn) (state g.S.Store c.begin_mount.new.conn) (Err c.in-Err.fault) (λ y k. tt) c.in-Err.ensures.serves)
     c.args.self.now.lot c.args.self.now.lot c.args.self.now.failed true
+
+pub returns-in-Err-clause-undone : goal.returns-in-Err-clause-undone
+returns-in-Err-clause-undone g c = c.in-Err.ensures.undone

@@ -96,3 +96,16 @@ returns-in-Err-clause-ended g c = c.in-Err.ensures.ended
 
 pub returns-in-Err-clause-refused : goal.returns-in-Err-clause-refused
 returns-in-Err-clause-refused g c = c.in-Err.ensures.refused
+
+pub returns-in-Err-clause-undone : goal.returns-in-Err-clause-undone
+returns-in-Err-clause-undone g c = c.in-Err.ensures.undone
+
+pub returns-in-Ok-clause-once : goal.returns-in-Ok-clause-once
+returns-in-Ok-clause-once g c =
+    let once = c.in-Ok.ensures.once in
+    record { trees = once.trees; survives = once.survives; made = once.made }
+
+pub returns-in-Err-clause-once : goal.returns-in-Err-clause-once
+returns-in-Err-clause-once g c =
+    let once = c.in-Err.ensures.once in
+    record { trees = once.trees; survives = once.survives; made = tt }
