@@ -1,19 +1,18 @@
 //! A store that is opened from its files and closed into them, and one whose files crash.
-ghost use Rattle.std.specs.Prelude.{IsTrue, IfOk};
-ghost use Rattle.sqlite_disk.specs.Memory.{memory_is_usable};
-
 use fuse_init::PlainProfile;
 use fuse_request::{InHeader, InitIn, Op, Request};
 use fuse_store::{
     Done, Keeper, NewStore, Restart, StoreFault, StoreKeeper, StoreKind, TableKeeper,
 };
-use fuse_store_files::{CrashKeeper, Opening, StoreFiles, close_store, open_store};
+use fuse_store_files::{
+    CrashKeeper, CrashMemory, Crashing, Opening, StoreFiles, close_store, open_store,
+};
 use fuse_tree::Origin;
 use fuse_wire::{Id, Moment};
 use sqlite::{Alter, Connection, FileStore, Files, Options, Unknown};
-use sqlite_disk::{Disk, Memory};
+use sqlite_disk::Disk;
 use std::alloc::Global;
-use std::fs;
+use std::{fs, io};
 
 const START: Moment = Moment { secs: 0, nanos: 0 };
 
@@ -132,15 +131,12 @@ fn from_file_to_file(rt: HostRuntime) -> Result<(), StoreFault> {
     Ok(())
 }
 
-type MemFiles = FileStore<Memory>;
+type MemFiles = FileStore<CrashMemory>;
 
-fn empty(alloc: Global) -> Files<Memory>
-    ensures log { IsTrue (memory_is_usable result.log) }
-    ensures db { IsTrue (memory_is_usable result.db) }
-{
+fn empty(alloc: Global) -> Files<CrashMemory> {
     Files {
-        log: Memory::new(alloc),
-        db: Memory::new(alloc),
+        log: CrashMemory::new(alloc),
+        db: CrashMemory::new(alloc),
     }
 }
 
@@ -187,5 +183,21 @@ fn files_crash(rt: HostRuntime) -> Result<(), StoreFault> {
     let made = makes_directory(&mut keeper);
     let mut opened = crashed(rt.alloc(), keeper, options)?;
     assert_eq!(rt; [made, remembers(&mut opened)], [true; 2]);
+    Ok(())
+}
+
+#[test]
+fn unsynced_bytes_are_lost(rt: HostRuntime) -> io::Result<()> {
+    let mut file = CrashMemory::new(rt.alloc());
+    file.write_at(0, b"kept")?;
+    file.sync()?;
+    file.write_at(2, b"lost")?;
+    let written = file.bytes() == b"kelost".as_slice();
+    file.crash_once();
+    let lost = file.bytes() == b"kept".as_slice();
+    file.set_len(1)?;
+    file.crash_once();
+    let lost_again = file.bytes() == b"kept".as_slice();
+    assert_eq!(rt; [written, lost, lost_again], [true; 3]);
     Ok(())
 }
