@@ -44,9 +44,10 @@ def column_edits(kind="", tables=COLUMNS, everyday=False):
 
 def missing_rows():
     for key in range(1, 12):
-        yield by_sql("row of meta", f"meta has no row {key}", f"DELETE FROM meta WHERE k = {key}")
+        wanted = "store: NotAStore" if key == 1 else "store: Damaged"
+        yield by_sql("row of meta", f"meta has no row {key}", f"DELETE FROM meta WHERE k = {key}", wanted=wanted)
     for key in (-1, 0, 12, 1 << 40):
-        yield by_sql("row of meta", f"meta has a row {key}", f"INSERT INTO meta VALUES ({key}, 1)")
+        yield by_sql("row of meta", f"meta has a row {key}", f"INSERT INTO meta VALUES ({key}, 1)", wanted="store: Damaged")
     for table in ("meta", "nodes", "entries", "blocks", "handles", "lots", "kept"):
         yield by_sql("rows gone", f"{table} is empty", f"DELETE FROM {table}")
     for node in (1, 2, 3, 4, 6, 9, 10):
@@ -103,7 +104,10 @@ def counts():
     for key, name in ((2, "next node"), (3, "next fh"), (4, "next cookie"), (11, "next lot")):
         for value in (0, 1, 2, 3, 4, 6, (1 << 62) - 1, 1 << 62):
             statement = f"UPDATE meta SET v = {value} WHERE k = {key}"
-            yield by_sql(kind, f"{name} is {value}", statement, always=value in (1, 1 << 62))
+            # The good store has more than six nodes, six handles, more than six entries, and the lot 1.
+            is_there = value <= (1 if key == 11 else 6)
+            wanted = "store: Damaged" if is_there else ""
+            yield by_sql(kind, f"{name} is {value}", statement, always=value in (1, 1 << 62), wanted=wanted)
     for key, name in ((5, "nodes"), (6, "handles")):
         for value in (0, 1, 5, 65535, 65536):
             statement = f"UPDATE meta SET v = {value} WHERE k = {key}"
