@@ -10,6 +10,7 @@ pub mod Notices
 pub mod Lines
 pub mod Printed
 pub mod Rests
+pub mod Runs
 pub mod Streams
 pub mod Tallies
 pub mod Unsettled

@@ -24,7 +24,6 @@ use Rattle.fuse_sim.specs.Driving.{IsFit, CausedBy, Names, StandsIn, OfRestart, 
 use Rattle.fuse_sim.specs.Driving.{NoneReused, told_in, became_in, performed_in, Opened, deaths, before, event_of, LeftBy}
 use Rattle.fuse_sim.specs.AfterEvents.{DeletesHanded}
 use Rattle.fuse_sim.specs.HandedOn.{performances, AsksUpTo, AskedSome}
-use Rattle.fuse_sim.specs.LeftRecords.{RecordsLeft, HoldsRecords}
 use Rattle.fuse_sim.specs.Twice.{Seen}
 use Rattle.fuse_commands.specs.declared.ending.Ending.{Ending}
 use Rattle.fuse_commands.specs.declared.simulate.Simulation.{Simulation}
@@ -32,6 +31,7 @@ use Rattle.fuse_commands.specs.Endings.{status_of, store_ending}
 use Rattle.fuse_commands.specs.Scripts.{lines_of, WritesAll}
 use Rattle.fuse_commands.specs.Output.{line, store_line}
 use Rattle.fuse_commands.specs.Simulating.{outcome_line, outcome_lines, state_after, StandsAfter, BeginSo, AnsweredFault, StoreEnded, AreOfFirst}
+use Rattle.fuse_commands.specs.Simulating.{RefusedAgain, RefusedIn}
 use Rattle.fuse_commands.specs.Simulating.{LeftBySome, LeftByScript, StoppedIn, Shown, SimulatedAll}
 use Rattle.fuse_commands.specs.inner.Simulating.{Went, RanScript}
 use Rattle.fuse_commands.proofs.Known.{consumes_then}
@@ -329,6 +329,43 @@ pub drive_ended : {M : Model} {K : Type 0} (k : Seen M K) (old new : Option K)
 drive_ended k old new events n of fault ending same emptied answered is =
     ended_by k old new events n fault ending (subst (λ f. new ≡ None → OfRestart k.became k.may_refuse old (before f events) events f) same emptied)
     (subst (λ f. is_store f ≡ true → (told_in k.told new).is_clean → AnsweredBy k.told k.became old new (before f events) f) same answered refl) is
+
+-- no keeper is left
+pub refused_again : {M : Model} {K : Type 0} (k : Seen M K) (old new : Option K) (events : List Event) (n : ℕ) (of : DriveFault) (fault : StoreFault)
+    (ending : Ending) → of ≡ Store n fault → (new ≡ None → OfRestart k.became k.may_refuse old (before of events) events of)
+    → ending ≡ store_ending fault → new ≡ None → RefusedAgain k old events ending
+refused_again k old new events n of fault ending same emptied is none = record {
+  at = n;
+  fault = fault;
+  refused = subst (λ f. OfRestart k.became k.may_refuse old (before f events) events f) same (emptied none);
+  ends = is;
+}
+
+no_refusal : {K : Type 0} (keeper : Option K) → IsSomeAnd keeper (λ x. ⊥) → ⊥
+no_refusal None so = so
+no_refusal (Some x) so = so
+
+pub never_emptied : {K X : Type 0} (became : K → K → ℕ → Type 0) (may : K → StoreFault → Type 0) (old new : Option K) (events : List Event) (n : ℕ)
+    (of : DriveFault) → of ≡ Memory n → (new ≡ None → OfRestart became may old (before of events) events of) → new ≡ None → X
+never_emptied became may old new events n of same emptied none =
+    let r = subst (λ f. OfRestart became may old (before f events) events f) same (emptied none) in
+    absurd (no_refusal r.keeper r.refused)
+
+pub still_left : {K X : Type 0} (told : K → Bool) (keeper : Option K) → IsSomeAnd keeper (λ x. told x ≡ false) → keeper ≡ None → X
+still_left told None so none = absurd so
+still_left told (Some x) so none = absurd (cc)
+
+pub refused_in : {M : Model} {K : Type 0} (k : Seen M K) (old new : Option K) (r : Result Simulation Ending) (known : Option (List ℕ))
+    (script slice : List ℕ) (items events : List Event) → IfErr r (λ ending. new ≡ None → RefusedAgain k old events ending)
+    → IfSome known (λ xs. script ≡ xs) → slice ≡ script → WritesAll (lines_of slice) items → events ≡ items
+    → IfErr r (λ ending. IfSome known (λ xs. new ≡ None → RefusedIn k old xs ending))
+refused_in k old new (Ok simulation) known script slice items events emptied all same described is = tt
+refused_in k old new (Err ending) None script slice items events emptied all same described is = tt
+refused_in k old new (Err ending) (Some xs) script slice items events emptied all same described is = λ none. record {
+  events = events;
+  described = subst (λ x. WritesAll (lines_of x) events) (same ∙ all) (subst (WritesAll (lines_of slice)) (sym is) described);
+  refused = emptied none;
+}
 
 -- counts returned the fault, after drive
 pub counts_ended : {M : Model} {K : Type 0} (k : Seen M K) (old left : Option K) (x x' : K) (events : List Event)

@@ -74,6 +74,12 @@ pub record RefusedAgain {M : Model} {K : Type 0} (k : Seen M K) (old : Option K)
   pub refused : OfRestart k.became k.may_refuse old (take at events) events (Store at fault)
   pub ends : ending ≡ store_ending fault
 
+-- so it was at one of the events of a script
+pub record RefusedIn {M : Model} {K : Type 0} (k : Seen M K) (old : Option K) (script : List ℕ) (ending : Ending) : Type 0 where
+  pub events : List Event
+  pub described : WritesAll (lines_of script) events
+  pub refused : RefusedAgain k old events ending
+
 -- a fault of the store ended it: one that the keeper left could return, if its store is clean, or, if none is left, one with
 -- which a keeper refused to be opened again
 abbrev pub StoreEnded : {M : Model} {K : Type 0} → Seen M K → Option K → Option K → List Event → Ending → Type 0

@@ -1,8 +1,9 @@
 //! The command line.
-ghost use Rattle.std.specs.Prelude.{◌≡◌, ◌⊎◌, IfOk, IfSome};
+ghost use Rattle.std.specs.Prelude.{◌≡◌, ◌⊎◌, codes, map, IfOk, IfSome};
 ghost use Rattle.clap.specs.Values.{kind_of};
-ghost use Rattle.clap.specs.Matches.{found_of};
-ghost use Rattle.fuse_commands.specs.Asking.{AsksFor, asked_in, asked_for};
+ghost use Rattle.clap.specs.Matches.{found_of, one_text};
+ghost use Rattle.fuse_commands.specs.Asking.{asked_in, BeginsBy, IsRead, IsFlag};
+ghost use Rattle.fuse_commands.specs.Asking.{HasWord, IsRun, AsksRun, ParsesTo};
 
 use crate::asked_store::{
     AskedStore, asked_store, names_no_owner, with_new_store, without_new_store,
@@ -341,34 +342,89 @@ fn program_command<'a>(alloc: Global) -> Result<Command<'a>, AllocError> {
     with_looks(alloc, command)
 }
 
-// A run over the input that this argument names.
-fn read_run<'a>(found: &ArgMatches<'a>, name: &str, work: Work<'a>) -> Option<Run<'a>>
-    ensures { IfSome result (λ run. asked_in run ≡ asked_for work.entry) }
+// The second that is given.
+fn at_of(found: &ArgMatches<'_>) -> Option<u64>
+    ensures { IsRead (one_text (found_of found.now) (codes "at")) result }
 {
-    let input = found.get_str(name)?;
-    Some(Run::Read { input, work })
+    found.get_one::<u64>(AT)
+}
+
+// Whether this flag is given.
+fn flag_of(found: &ArgMatches<'_>, name: &str) -> bool
+    ensures { IsFlag (found_of found.now) name.now result }
+{
+    found.get_flag(name)
+}
+
+// The argument that must stand there.
+fn word_of<'a>(found: &ArgMatches<'a>, name: &str) -> Option<&'a str>
+    ensures { IfSome result (HasWord (found_of found.now) name.now) }
+{
+    found.get_str(name)
+}
+
+fn dump_run<'a>(found: &ArgMatches<'a>) -> Option<Run<'a>>
+    ensures { IfSome result (IsRun (codes "dump") (found_of found.now)) }
+{
+    let input = word_of(found, FILE)?;
+    Some(Run::Read {
+        input,
+        work: Work::Dump,
+    })
+}
+
+fn decode_run<'a>(found: &ArgMatches<'a>) -> Option<Run<'a>>
+    ensures { IfSome result (IsRun (codes "decode") (found_of found.now)) }
+{
+    let input = word_of(found, FILE)?;
+    Some(Run::Read {
+        input,
+        work: Work::Decode,
+    })
+}
+
+fn check_run<'a>(found: &ArgMatches<'a>) -> Option<Run<'a>>
+    ensures { IfSome result (IsRun (codes "check") (found_of found.now)) }
+{
+    let input = word_of(found, FILE)?;
+    Some(Run::Read {
+        input,
+        work: Work::Check,
+    })
 }
 
 fn replay_run<'a>(found: &ArgMatches<'a>) -> Option<Run<'a>>
-    ensures { IfSome result (λ run. AsksFor (found_of found.now) (asked_in run)) }
+    ensures { IfSome result (IsRun (codes "replay") (found_of found.now)) }
 {
+    let input = word_of(found, STREAM)?;
     let db = found.get_str(DB);
-    let at = found.get_one::<u64>(AT)?;
-    let wary = found.get_flag(WARY);
+    let at = at_of(found)?;
+    let wary = flag_of(found, WARY);
     let new = asked_store(found)?;
-    read_run(found, STREAM, Work::Replay { db, at, wary, new })
+    Some(Run::Read {
+        input,
+        work: Work::Replay { db, at, wary, new },
+    })
 }
 
 fn simulate_run<'a>(found: &ArgMatches<'a>) -> Option<Run<'a>>
-    ensures { IfSome result (λ run. AsksFor (found_of found.now) (asked_in run)) }
+    ensures { IfSome result (IsRun (codes "simulate") (found_of found.now)) }
 {
+    let input = word_of(found, SCRIPT)?;
     let new = asked_store(found)?;
-    read_run(found, SCRIPT, Work::Simulate { new })
+    Some(Run::Read {
+        input,
+        work: Work::Simulate { new },
+    })
 }
 
 // The way to begin, if exactly one is named.
-fn begin_of(found: &ArgMatches<'_>) -> Option<Begin> {
-    match (found.get_flag(FRESH), found.get_flag(RESUME)) {
+fn begin_of(found: &ArgMatches<'_>) -> Option<Begin>
+    ensures { BeginsBy (found_of found.now) result }
+{
+    let fresh = flag_of(found, FRESH);
+    let resume = flag_of(found, RESUME);
+    match (fresh, resume) {
         (true, false) => Some(Begin::Fresh),
         (false, true) => Some(Begin::Resume),
         _ => None,
@@ -376,47 +432,63 @@ fn begin_of(found: &ArgMatches<'_>) -> Option<Begin> {
 }
 
 fn serve_run<'a>(found: &ArgMatches<'a>) -> Option<Run<'a>>
-    ensures { IfSome result (λ run. AsksFor (found_of found.now) (asked_in run)) }
+    ensures { IfSome result (IsRun (codes "serve") (found_of found.now)) }
 {
+    let db = word_of(found, DB)?;
     Some(Run::Serve {
-        db: found.get_str(DB)?,
+        db,
         begin: begin_of(found),
-        at: found.get_one::<u64>(AT),
-        wary: found.get_flag(WARY),
+        at: at_of(found),
+        wary: flag_of(found, WARY),
         new: asked_store(found)?,
     })
 }
 
-fn list_run<'a>(found: &ArgMatches<'a>) -> Option<Run<'a>> {
-    Some(Run::List {
-        file: found.get_str(FILE)?,
-        path: found.get_str(PATH).unwrap_or(TOP),
-    })
+fn store_run<'a>(found: &ArgMatches<'a>) -> Option<Run<'a>>
+    ensures { IfSome result (IsRun (codes "store") (found_of found.now)) }
+{
+    let file = word_of(found, FILE)?;
+    Some(Run::Store { file })
 }
 
-fn cat_run<'a>(found: &ArgMatches<'a>) -> Option<Run<'a>> {
-    Some(Run::Cat {
-        file: found.get_str(FILE)?,
-        path: found.get_str(PATH)?,
-    })
+fn list_run<'a>(found: &ArgMatches<'a>) -> Option<Run<'a>>
+    ensures { IfSome result (IsRun (codes "ls") (found_of found.now)) }
+{
+    let file = word_of(found, FILE)?;
+    let path = found.get_str(PATH).unwrap_or(TOP);
+    Some(Run::List { file, path })
 }
 
-fn run_of<'a>(matches: &ArgMatches<'a>) -> Option<Run<'a>> {
+fn cat_run<'a>(found: &ArgMatches<'a>) -> Option<Run<'a>>
+    ensures { IfSome result (IsRun (codes "cat") (found_of found.now)) }
+{
+    let file = word_of(found, FILE)?;
+    let path = word_of(found, PATH)?;
+    Some(Run::Cat { file, path })
+}
+
+fn verify_run<'a>(found: &ArgMatches<'a>) -> Option<Run<'a>>
+    ensures { IfSome result (IsRun (codes "verify") (found_of found.now)) }
+{
+    let file = word_of(found, FILE)?;
+    Some(Run::Verify { file })
+}
+
+// The run of the command that was found.
+fn run_of<'a>(matches: &ArgMatches<'a>) -> Option<Run<'a>>
+    ensures { IfSome result (AsksRun matches.now) }
+{
     match matches.subcommand()? {
-        (DUMP, found) => read_run(found, FILE, Work::Dump),
-        (DECODE, found) => read_run(found, FILE, Work::Decode),
-        (CHECK, found) => read_run(found, FILE, Work::Check),
+        (DUMP, found) => dump_run(found),
+        (DECODE, found) => decode_run(found),
+        (CHECK, found) => check_run(found),
         (REPLAY, found) => replay_run(found),
         (SERVE, found) => serve_run(found),
         (SIMULATE, found) => simulate_run(found),
-        (STORE, found) => Some(Run::Store {
-            file: found.get_str(FILE)?,
-        }),
+        (STORE, found) => store_run(found),
         (LIST, found) => list_run(found),
         (CAT, found) => cat_run(found),
-        (VERIFY, found) => Some(Run::Verify {
-            file: found.get_str(FILE)?,
-        }),
+        (VERIFY, found) => verify_run(found),
         _ => None,
     }
 }
@@ -448,10 +520,11 @@ pub fn parse<'a, S: AsStr>(
     alloc: Global,
     words: &'a [S],
     version: &'a str,
-) -> Result<Run<'a>, Error> {
-    let matches = program_command(alloc)?
-        .version(version)
-        .try_get_matches_from(words)?;
+) -> Result<Run<'a>, Error>
+    ensures { IfOk result (ParsesTo (map S.text words.now)) }
+{
+    let command = program_command(alloc)?.version(version);
+    let matches = command.try_get_matches_from(words)?;
     match run_of(&matches) {
         Some(run) => Ok(run),
         None => Err(unread_error(alloc, &matches)?),

@@ -1,5 +1,6 @@
 //! A simulation of the events of a script.
-ghost use Rattle.std.specs.Prelude.{◌≡◌, ◌≢◌, ◌⊎◌, ◌≤◌, ◌++◌, ℕ, List, [], false, Some, map, length, All};
+ghost use Rattle.std.specs.Prelude.{◌≡◌, ◌≢◌, ◌⊎◌, ◌≤◌, ◌++◌, ℕ, List, [], false, Some, None, map};
+ghost use Rattle.std.specs.Prelude.{length, All};
 ghost use Rattle.std.specs.Prelude.{IsSomeAnd, IfSome, IfOk, IfErr, OnOk};
 ghost use Rattle.std.specs.Io.KnownBytes.{Appends};
 ghost use Rattle.fuse_sim.specs.Driving.{told_in, performed_in, StandsIn, NoneReused, IsFit};
@@ -9,6 +10,7 @@ ghost use Rattle.fuse_commands.specs.Endings.{status_of};
 ghost use Rattle.fuse_commands.specs.inner.Failing.{GaveOut};
 ghost use Rattle.fuse_commands.specs.Output.{line, store_line};
 ghost use Rattle.fuse_commands.specs.Simulating.{driven, BeginSo, StoreEnded, LeftBySome};
+ghost use Rattle.fuse_commands.specs.Simulating.{RefusedAgain, RefusedIn};
 ghost use Rattle.fuse_commands.specs.Simulating.{NotRun, Simulated, StoppedIn};
 ghost use Rattle.fuse_commands.specs.inner.Simulating.{Went, RanScript};
 ghost use Rattle.fuse_commands.specs.Simulating.{LeftByScript};
@@ -55,6 +57,9 @@ fn run_events<K: Restart>(
     ensures opened { OnOk result (Opened K.told K.became keeper.old keeper.new events.now) }
     ensures medium { KeepsMedium K.told keeper.old keeper.new }
     ensures left { OnOk result (IsSomeAnd keeper.new (λ k. (K.told k).has_failed ≡ false)) }
+    ensures emptied { IfErr result (λ ending. keeper.new ≡ None
+        → RefusedAgain (driven K.told K.became K.performed K.refuses) keeper.old events.now
+        ending) }
     ensures err { IfErr result (λ ending. 3 ≤ status_of ending) }
     ensures store { IfErr result (λ ending. status_of ending ≡ 3
         → (s : K.model.State) → StandsIn K.told keeper.old s [] []
@@ -131,6 +136,9 @@ fn simulate<K: Restart, R: Read + Drop>(
         keeper.old keeper.new script simulation)) }
     ensures medium { KeepsMedium K.told keeper.old keeper.new }
     ensures left { OnOk result (IsSomeAnd keeper.new (λ k. (K.told k).has_failed ≡ false)) }
+    ensures emptied { IfErr result (λ ending. IfSome (R.remaining reader) (λ script.
+        keeper.new ≡ None → RefusedIn (driven K.told K.became K.performed K.refuses)
+        keeper.old script ending)) }
     ensures not_run { IfErr result (λ ending. status_of ending ≤ 1 → keeper.new ≡ keeper.old) }
     ensures bad { IfErr result (λ ending. IfSome (R.remaining reader) (λ script.
         status_of ending ≤ 1 → NotRun script ending)) }
@@ -162,6 +170,9 @@ pub fn run_simulate<K: Restart, R: Read + Drop, W: Write>(
     ensures simulated { IfSome (R.remaining reader) (λ script. status_of result ≤ 1
         → Simulated (driven K.told K.became K.performed K.refuses) keeper.old keeper.new
         (Appends (W.contents writer.old) (W.contents writer.new)) script result) }
+    // No keeper is left only where the one in place refused to be opened again.
+    ensures emptied { IfSome (R.remaining reader) (λ script. keeper.new ≡ None
+        → RefusedIn (driven K.told K.became K.performed K.refuses) keeper.old script result) }
     ensures left { status_of result ≤ 1
         → IsSomeAnd keeper.new (λ k. (K.told k).has_failed ≡ false) }
     ensures medium { KeepsMedium K.told keeper.old keeper.new }

@@ -1,6 +1,6 @@
 -- What the ending of a view says of a database.
-use Rattle.std.proofs.Common.{◌≡◌, [], ◌∷◌, Bool, true, false, cond, Option, Some, None, Result, Ok, Err, inl, inr, refl}
-use Rattle.std.specs.Prelude.{◌⊎◌, List, ℕ, OnErr, IfErr, IfSome}
+use Rattle.std.proofs.Common.{◌≡◌, [], ◌∷◌, Bool, true, false, cond, Option, Some, None, Result, Ok, Err, inl, inr, refl, subst}
+use Rattle.std.specs.Prelude.{◌⊎◌, List, ℕ, OnErr, IfErr, IfSome, IsErrAnd}
 use Rattle.sqlite.specs.Effect.{Database}
 use Rattle.sqlite.specs.declared.error.Error.{Error}
 use Rattle.fuse_keeper.specs.Faults.{fault_of, is_memory}
@@ -24,6 +24,11 @@ says_nothing (Sql e) so = tt
 says_nothing NotAStore so = absurd so
 says_nothing (Version n) so = absurd so
 says_nothing Damaged so = absurd so
+
+pub says_nothing_in : {X Y : Type 0} (r : Result X (StoreFault × Y)) (f : StoreFault) → IfErr r (λ p. IsOutside p.0) → IsErrAnd r (λ p. p.0 ≡ f)
+    → SaysNothing (store_ending f)
+says_nothing_in (Ok x) f outside is = absurd is
+says_nothing_in (Err p) f outside is = subst (λ g. SaysNothing (store_ending g)) is (says_nothing p.0 outside)
 
 pub says_so : (d : Database) (f : StoreFault) → Says d f → SaysSo d (store_ending f)
 says_so d Memory so = tt

@@ -1,17 +1,14 @@
 -- A run over the files of a store is a life of their mount.
-use Rattle.std.proofs.Common.{inl, inr, ℕ, List}
-use Rattle.std.specs.Prelude.{Result, Ok, Err, IfOk, IfErr, IsTrue}
+use Rattle.std.proofs.Common.{inl, inr, ℕ, zero, suc, List, [], ◌∷◌, take}
 use Rattle.sqlite_disk.specs.declared.Disk.{Ghosts}
-use Rattle.sqlite_disk.specs.declared.Files.{Files}
 use Rattle.sqlite_wal.specs.Recovery.{Image}
-use Rattle.sqlite_trees.specs.Tree.{Trees}
 use Rattle.sqlite_store.specs.declared.store.FileStore.{FileStore}
-use Rattle.sqlite_store.specs.FileStore.{view}
 use Rattle.sqlite.specs.Files.{over_files}
 use Rattle.fuse_wire.specs.declared.moment.Moment.{Moment}
 use Rattle.fuse_keeper.specs.History.{History, Includes}
 use Rattle.fuse_keeper.specs.Stands.{Standing}
 use Rattle.fuse_keeper.specs.KeeperState.{KeeperState}
+use Rattle.fuse_keeper.specs.Model.{Model}
 use Rattle.fuse_tree.specs.State.{State as TreeState}
 use Rattle.fuse_tree.specs.Rows.{rowed}
 use Rattle.fuse_init.specs.declared.profile.Profile.{Profile}
@@ -30,17 +27,24 @@ use Rattle.fuse_store_tree.specs.Store.{records_of}
 use Rattle.fuse_store_files.specs.declared.files.Opening.{Opening}
 use Rattle.fuse_store_files.specs.declared.files.Opening.TheVariants.{Existing, Any, Fresh}
 use Rattle.fuse_store_files.specs.Files.{HoldSome, TreesTell, FilesStand}
-use Rattle.fuse_store_files.specs.Left.{LeavesOf, LeavesClosed}
 use Rattle.fuse_store_files.specs.Starting.{OpensAs, begun_at}
-use Rattle.fuse_sim.specs.FileLives.{IsRunFrom}
+use Rattle.fuse_sim.specs.FileLives.{FileRun, IsRunFrom, AreRuns}
 use Rattle.fuse_sim.specs.inner.FilesLived.{stands_more}
 use Rattle.fuse_sim.specs.Lives.{RunsAreLives}
 use Rattle.fuse_commands.specs.declared.serve.Begin.{Begin}
 use Rattle.fuse_commands.specs.ServingRuns.{views, between}
 use Rattle.fuse_files.specs.declared.serving.StoreRun.{StoreRun}
 use Rattle.fuse_files.specs.StoreRuns.{Sides, StoreServed}
-use Rattle.fuse_files.specs.StoreLives.{LeftClosed, MayBeLeft, RunsOn, file_run, new_at}
+use Rattle.fuse_files.specs.StoreLives.{MayBeLeft, RunsOn, file_run, new_at}
+use Rattle.fuse_files.proofs.Lots.{closed_some}
 use Rattle.fuse_files.proofs.Served.{Keeps, served_life}
+
+-- the first of these runs are runs
+pub first_runs : {M : Model} {Image : Type 0} (Stand : Image → Standing M → Type 0) (s : M.State) (first : Image) (runs : List (FileRun Image)) (n : ℕ)
+    → AreRuns Stand s first runs → AreRuns Stand s first (take n runs)
+first_runs Stand s first runs zero are = tt
+first_runs Stand s first [] (suc n) are = tt
+first_runs Stand s first (r ∷ runs) (suc n) are = (are.0, first_runs Stand s r.left runs n are.1)
 
 -- more ids are settled
 files_more : (p : Profile) (image : Image) (s : TreeState) (h : History) (t u : List ℕ) → Includes u t → FilesStand p image (record { state = s; history = h; settled = t })
@@ -61,11 +65,6 @@ kept_files p k image hold =
       may = hold.so.so;
       stands = λ at stands. record { trees = hold.trees; held = hold.held; so = record { store = z; left = hold.so.left; so = stands } };
     }
-
-closed_some : {D : Type 0} {g : Ghosts D} (P : Trees → Type 0) (left : Result (Files D) (FileStore D g)) (image : Image) → IfOk left (LeavesClosed g P)
-    → IfErr left (λ it. IsTrue (view it).is_numbered → LeavesOf P it) → LeftClosed left image → HoldSome P image
-closed_some P (Ok files) image closed uncopied may = closed may.0 image may.1
-closed_some P (Err it) image closed uncopied may = uncopied may.0 image may.1
 
 runs_on : (p : Profile) (k : KeeperState (tree_of p)) (how : Opening) (first : Image) (r : _) → (k.is_honest → OpensAs p how first k)
     → ((at : Standing (tree_of p)) → (k.is_honest → HoldsAt k at) → IsRunFrom (FilesStand p) at r) → RunsOn p how first r
@@ -90,10 +89,10 @@ module _ {P D R W C : Type 0} {g : Ghosts D} (p : Profile) (first : Image) (beca
           | inr may ↦ closed_some (TreesTell k'.may_leave) x.ran.left image (x.ran.closed.closed whole) (x.ran.closed.uncopied whole) may
         ]
       ] in
-      runs_on p k x.how first (file_run x.ran.served.so image) x.opened (λ at holds.
+      runs_on p k x.how first (file_run x.ran.served.so image) x.from.opened (λ at holds.
       served_life (views (keeper_told p over_files) (λ a b list. Unit {0}) device_told became) (gave x.mid sides.clock') (FilesStand p) (files_more p)
       (between x.keeper x.ran.keeper' x.ran.served.port x.ran.served.port') begin run.ending run.counts x.ran.served.so at image
-      (λ a b o o'. lives a b o o' x.mid sides.clock') holds x.firm
+      (λ a b o o'. lives a b o o' x.mid sides.clock') holds x.from.firm
       (λ whole.
       let hold = some (λ clean. whole clean clean) in
       (hold.so.so.clean, kept_files p k' image hold)))

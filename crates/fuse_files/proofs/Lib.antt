@@ -4,7 +4,9 @@ mod InMemory
 mod Looks
 mod Opened
 mod Refused
+mod Scripted
 mod Served
 mod Summed
 mod Usage
+pub mod Lots
 mod Verified

@@ -2,6 +2,7 @@ pub mod ListReplays
 pub mod StoreKinds
 pub mod StoreLives
 pub mod StoreReplays
+pub mod StoreOpened
 pub mod StoreRuns
 pub mod StoreShown
 pub mod StoreSimulations

@@ -4,7 +4,7 @@ use Rattle.sqlite_disk.specs.declared.Disk.{Ghosts}
 use Rattle.sqlite_disk.specs.declared.Files.{Files}
 use Rattle.sqlite_wal.specs.Recovery.{Image}
 use Rattle.sqlite_store.specs.declared.store.FileStore.{FileStore}
-use Rattle.sqlite.specs.Files.{file_state, over_files, IsCleanLeft}
+use Rattle.sqlite.specs.Files.{over_files, IsCleanLeft}
 use Rattle.sqlite.specs.declared.file.Leftover.{Leftover}
 use Rattle.fuse_wire.specs.declared.moment.Moment.{Moment}
 use Rattle.fuse_init.specs.declared.profile.Profile.{Profile}
@@ -12,25 +12,23 @@ use Rattle.fuse_init.specs.declared.profile.Profile.TheVariants as profiles
 use Rattle.fuse_init.specs.declared.profile.PlainProfile.{PlainProfile}
 use Rattle.fuse_init.specs.declared.profile.EverydayProfile.{EverydayProfile}
 use Rattle.fuse_keeper.specs.declared.fault.StoreFault.{StoreFault}
-use Rattle.fuse_keeper.specs.KeeperState.{KeeperState, IsFirm}
+use Rattle.fuse_keeper.specs.KeeperState.{KeeperState}
 use Rattle.fuse_tree.specs.TheTree.{tree_of}
-use Rattle.fuse_tree.specs.State.{profile_of}
-use Rattle.fuse_store_tables.specs.Content.{Content}
 use Rattle.fuse_store_tables.specs.Faults.{IsOutside}
-use Rattle.fuse_store_tables.specs.Moves.{RestsAs}
 use Rattle.fuse_store_tables.specs.Saying.{IsRefusal}
 use Rattle.fuse_store.specs.declared.new_store.StoreKind.{StoreKind}
 use Rattle.fuse_store.specs.declared.new_store.NewStore.{NewStore}
-use Rattle.fuse_store.specs.Opening.{Stored, opened_for}
+use Rattle.fuse_store.specs.Opening.{Stored}
 use Rattle.fuse_store.specs.declared.table_keeper.TableKeeper.{TableKeeper}
-use Rattle.fuse_store.specs.TableKeeper.{conn_of, keeper_told}
+use Rattle.fuse_store.specs.TableKeeper.{keeper_told}
 use Rattle.fuse_store_files.specs.declared.files.Opening.TheVariants.{Any}
+use Rattle.fuse_store_files.specs.Databases.{FailsOver, IsNeverOpened}
 use Rattle.fuse_store_files.specs.Files.{FilesHold}
 use Rattle.fuse_store_files.specs.Left.{Closes, LeavesAsFound, LeavesOpening}
-use Rattle.fuse_store_files.specs.Starting.{OpensAs, KeepsStore, FilesHoldRows, RowsKept}
 use Rattle.fuse_commands.specs.declared.ending.Ending.{Ending}
 use Rattle.fuse_commands.specs.Endings.{status_of, store_ending, IsOfStream}
 use Rattle.fuse_commands.specs.Replaying.{Replayed, Faulted, StandsForPrefix, Prints, PrintsAnswers}
+use Rattle.fuse_files.specs.StoreOpened.{OpenedFrom}
 use Rattle.fuse_files.specs.StoreRuns.{left_closed}
 
 -- the moment at which a replay makes a store: 1 January 1970, 0:00
@@ -68,13 +66,7 @@ pub record KeeperReplayed {P D : Type 0} {g : Ghosts D} (p : Profile) (keeper : 
 pub record StoreReplayed {D : Type 0} {g : Ghosts D} (P : Type 0) (p : Profile) (first : Image) (kind : StoreKind) (moment : Moment) (streams : Streams)
     (ending : Ending) (left : Option (Leftover D g)) : Type 0 where
   pub keeper : TableKeeper P (FileStore D g) over_files
-  pub profile : (keeper_told p over_files keeper).is_honest → (z : Stored) → FilesHold first z → profile_of (opened_for z).tree ≡ p
-  pub opened : (keeper_told p over_files keeper).is_honest → OpensAs p (Any (made_then kind)) first (keeper_told p over_files keeper)
-  pub kept : (keeper_told p over_files keeper).is_honest → (z : Stored) → FilesHold first z
-      → KeepsStore p (Any (made_then kind)) z (keeper_told p over_files keeper)
-  pub rows : (keeper_told p over_files keeper).is_honest → (c : Content) → FilesHoldRows first c
-      → RestsAs (RowsKept (Any (made_then kind)) c) (file_state (conn_of over_files keeper))
-  pub firm : (keeper_told p over_files keeper).is_honest → IsFirm (keeper_told p over_files keeper)
+  pub from : OpenedFrom p (Any (made_then kind)) first keeper
   pub ran : KeeperReplayed p keeper moment streams ending left
 
 -- so it was under one of the profiles
@@ -84,12 +76,13 @@ IsReplayed first kind moment streams ending left =
     ⊎ StoreReplayed EverydayProfile profiles.Everyday first kind moment streams ending left
 
 -- no keeper was opened, and nothing was written. A store that is refused is left as it was found; else a crash leaves what was
--- found, or what the opening makes of it; and the fault says nothing of a sound store
+-- found, or what the opening makes of it; and the fault says nothing of a sound store, and of any other database what is so
 pub record NotReplayed {D : Type 0} {g : Ghosts D} (first : Image) (kind : StoreKind) (streams : Streams) (ending : Ending) (left : Option (Leftover D g)) : Type 0 where
   pub fault : StoreFault
   pub ending_is : ending ≡ store_ending fault
   pub unwritten : streams.written' ≡ streams.written
   pub crash : IfSome left (LeavesOpening (Any (made_then kind)) first)
   pub untouched : IsRefusal fault → IfSome left (LeavesAsFound first)
-  pub unopened : left ≡ None → IsOutside fault
+  pub fails : IfSome left (FailsOver (Any (made_then kind)) first fault)
+  pub unopened : left ≡ None → IsNeverOpened fault
   pub outside : IfSome left (λ it. IsCleanLeft it → (z : Stored) → FilesHold first z → IsOutside fault)

@@ -4,7 +4,7 @@ use Rattle.sqlite_disk.specs.declared.Disk.{Ghosts}
 use Rattle.sqlite_disk.specs.declared.Files.{Files}
 use Rattle.sqlite_wal.specs.Recovery.{Image}
 use Rattle.sqlite_store.specs.declared.store.FileStore.{FileStore}
-use Rattle.sqlite.specs.Files.{file_state, over_files, IsCleanLeft}
+use Rattle.sqlite.specs.Files.{over_files, IsCleanLeft}
 use Rattle.sqlite.specs.declared.file.Leftover.{Leftover}
 use Rattle.sqlite.specs.declared.file.Leftover.TheVariants as leftover
 use Rattle.fuse_wire.specs.declared.moment.Moment.{Moment}
@@ -14,29 +14,26 @@ use Rattle.fuse_init.specs.declared.profile.PlainProfile.{PlainProfile}
 use Rattle.fuse_init.specs.declared.profile.EverydayProfile.{EverydayProfile}
 use Rattle.fuse_keeper.specs.declared.fault.StoreFault.{StoreFault}
 use Rattle.fuse_keeper.specs.declared.fault.StoreFault.TheVariants.{NotAStore}
-use Rattle.fuse_keeper.specs.KeeperState.{IsFirm}
 use Rattle.fuse_session.specs.declared.device.DevicePort.{DevicePort}
 use Rattle.fuse_session.specs.DevicePort.{device_told}
 use Rattle.fuse_session.specs.Transcript.{PortEvent}
-use Rattle.fuse_store_tables.specs.Content.{Content}
 use Rattle.fuse_store_tables.specs.Faults.{IsOutside}
-use Rattle.fuse_store_tables.specs.Moves.{RestsAs}
 use Rattle.fuse_store_tables.specs.Saying.{IsRefusal}
-use Rattle.fuse_tree.specs.State.{profile_of}
 use Rattle.fuse_store.specs.declared.new_store.StoreKind.{StoreKind}
-use Rattle.fuse_store.specs.Opening.{Stored, opened_for}
+use Rattle.fuse_store.specs.Opening.{Stored}
 use Rattle.fuse_store.specs.declared.table_keeper.TableKeeper.{TableKeeper}
-use Rattle.fuse_store.specs.TableKeeper.{conn_of, keeper_told}
+use Rattle.fuse_store.specs.TableKeeper.{keeper_told}
 use Rattle.fuse_store_files.specs.declared.files.Opening.{Opening}
 use Rattle.fuse_store_files.specs.declared.files.Opening.TheVariants as opening
+use Rattle.fuse_store_files.specs.Databases.{FailsOver, IsNeverOpened}
 use Rattle.fuse_store_files.specs.Files.{FilesHold}
 use Rattle.fuse_store_files.specs.Left.{Closes, LeavesAsFound, LeavesOpening}
-use Rattle.fuse_store_files.specs.Starting.{OpensAs, KeepsStore, FilesHoldRows, RowsKept}
 use Rattle.fuse_commands.specs.declared.serve.Begin.{Begin}
 use Rattle.fuse_commands.specs.declared.serve.Begin.TheVariants.{Fresh, Resume}
 use Rattle.fuse_commands.specs.Endings.{store_ending}
 use Rattle.fuse_commands.specs.ServingRuns.{views, between, ServesPort, OverDevice}
 use Rattle.fuse_files.specs.declared.serving.StoreRun.{StoreRun}
+use Rattle.fuse_files.specs.StoreOpened.{OpenedFrom}
 
 -- the two sides of a device, and a clock before and after
 pub record Sides (R W C : Type 0) : Type 0 where
@@ -74,11 +71,7 @@ pub record StoreServed {D R W C : Type 0} {g : Ghosts D} (P : Type 0) (p : Profi
   pub mid : C
   pub how : Opening
   pub opens : OpensBy gave begin kind sides.clock mid how
-  pub profile : (keeper_told p over_files keeper).is_honest → (z : Stored) → FilesHold first z → profile_of (opened_for z).tree ≡ p
-  pub opened : (keeper_told p over_files keeper).is_honest → OpensAs p how first (keeper_told p over_files keeper)
-  pub kept : (keeper_told p over_files keeper).is_honest → (z : Stored) → FilesHold first z → KeepsStore p how z (keeper_told p over_files keeper)
-  pub rows : (keeper_told p over_files keeper).is_honest → (c : Content) → FilesHoldRows first c → RestsAs (RowsKept how c) (file_state (conn_of over_files keeper))
-  pub firm : (keeper_told p over_files keeper).is_honest → IsFirm (keeper_told p over_files keeper)
+  pub from : OpenedFrom p how first keeper
   pub ran : KeeperServed p keeper became (gave mid sides.clock') sides.reader sides.writer begin run
 
 -- so it was under one of the profiles
@@ -89,7 +82,7 @@ IsServed first became gave sides begin kind run =
     ⊎ StoreServed EverydayProfile profiles.Everyday first became gave sides begin kind run
 
 -- no keeper was opened, and nothing was served. A store that is refused is left as it was found; else a crash leaves what was
--- found, or what the opening makes of it; and the fault says nothing of a sound store
+-- found, or what the opening makes of it; and the fault says nothing of a sound store, and of any other database what is so
 pub record StoreRefused {D R W C : Type 0} {g : Ghosts D} (first : Image) (gave : C → C → List Moment → Type 0) (sides : Sides R W C) (begin : Begin)
     (kind : StoreKind) (run : StoreRun D g) : Type 0 where
   pub how : Opening
@@ -99,5 +92,6 @@ pub record StoreRefused {D R W C : Type 0} {g : Ghosts D} (first : Image) (gave 
   pub uncounted : run.counts ≡ None
   pub crash : IfSome run.left (LeavesOpening how first)
   pub untouched : IsRefusal fault → IfSome run.left (LeavesAsFound first)
-  pub unopened : run.left ≡ None → IsOutside fault ⊎ ((how ≡ opening.Existing) × (fault ≡ NotAStore))
+  pub fails : IfSome run.left (FailsOver how first fault)
+  pub unopened : run.left ≡ None → IsNeverOpened fault ⊎ ((how ≡ opening.Existing) × (fault ≡ NotAStore))
   pub outside : IfSome run.left (λ it. IsCleanLeft it → (z : Stored) → FilesHold first z → IsOutside fault)

@@ -1,9 +1,10 @@
 -- A script that is run over a new store in files that crash (defined by this project).
-use Rattle.std.specs.Prelude.{◌≡◌, ◌≤◌, ◌⊎◌, ℕ, true, false, List, [], Option, Some, IsSomeAnd}
+use Rattle.std.specs.Prelude.{◌≡◌, ◌≤◌, ◌⊎◌, ℕ, true, false, List, [], Option, Some, None, IsSomeAnd}
 use Rattle.std.specs.Io.KnownBytes.{Appends}
 use Rattle.sqlite_disk.specs.declared.Disk.{Ghosts}
+use Rattle.sqlite_disk.specs.declared.Files.{Files}
 use Rattle.sqlite_store.specs.declared.store.FileStore.{FileStore}
-use Rattle.sqlite.specs.Files.{over_files}
+use Rattle.sqlite.specs.Files.{over_files, image_of}
 use Rattle.fuse_init.specs.declared.profile.Profile.{Profile}
 use Rattle.fuse_init.specs.declared.profile.Profile.TheVariants.{Plain, Everyday}
 use Rattle.fuse_init.specs.declared.profile.PlainProfile.{PlainProfile}
@@ -20,8 +21,9 @@ use Rattle.fuse_store_files.specs.declared.crash_keeper.CrashKeeper.{CrashKeeper
 use Rattle.fuse_store_files.specs.Restarting.{crash_told, CrashRefuses}
 use Rattle.fuse_commands.specs.declared.ending.Ending.{Ending}
 use Rattle.fuse_commands.specs.Endings.{status_of, store_ending}
-use Rattle.fuse_commands.specs.Simulating.{driven, Simulated, StoppedIn, LeftByScript}
+use Rattle.fuse_commands.specs.Simulating.{driven, Simulated, StoppedIn, LeftByScript, RefusedIn}
 use Rattle.fuse_files.specs.StoreReplays.{Streams, made_then}
+use Rattle.fuse_files.specs.StoreShown.{IsUnopened}
 
 -- the new store of a simulation
 abbrev pub new_state : Profile → StoreKind → State
@@ -39,6 +41,7 @@ pub record SimulatesOver {M : Model} {K : Type 0} (k : Seen M K) (keeper : K) (s
   pub going : status_of ending ≤ 1 → IsSomeAnd keeper' (λ x. (k.told x).has_failed ≡ false)
   pub stopped : status_of ending ≡ 3 → (script : List ℕ) → streams.input ≡ Some script → StoppedIn k (Some keeper) keeper' script ending
   pub kept : (script : List ℕ) → streams.input ≡ Some script → (keeper' ≡ Some keeper) ⊎ LeftByScript k (Some keeper) keeper' script
+  pub emptied : (script : List ℕ) → streams.input ≡ Some script → keeper' ≡ None → RefusedIn k (Some keeper) script ending
 
 -- It was run over a keeper of a new store. Wherever the server dies both files of the keeper crash, and what is left of them is opened.
 pub record StoreSimulated {D : Type 0} (P : Type 0) (p : Profile) (kind : StoreKind) (g : Ghosts D) (crashed : D → D → Type 0) (streams : Streams) (ending : Ending) : Type 0 where
@@ -56,8 +59,9 @@ IsSimulated Everyday kind g crashed streams ending = StoreSimulated EverydayProf
 abbrev pub AreSure : {D : Type 0} → Ghosts D → Type 0
 AreSure {D} g = (d : D) → g.is_clean d ≡ true
 
--- no store was made, and nothing was written
-pub record NotSimulated (streams : Streams) (ending : Ending) : Type 0 where
+-- no store was made, and nothing was written. If the disks are so, the ending says nothing, or the files hold neither a database nor nothing
+pub record NotSimulated {D : Type 0} (g : Ghosts D) (files : Files D) (streams : Streams) (ending : Ending) : Type 0 where
   pub fault : StoreFault
   pub ending_is : ending ≡ store_ending fault
   pub unwritten : streams.written' ≡ streams.written
+  pub sure : AreSure g → IsUnopened (image_of g files) ending

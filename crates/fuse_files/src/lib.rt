@@ -12,7 +12,7 @@ mod summing;
 mod verifying;
 
 pub use kinds::kind_asked;
-pub use lives::{files_live, runs_are_file_lives};
+pub use lives::{files_live, lots_outlive_files, runs_are_file_lives};
 pub use replaying::{replay_in_memory, replay_store};
 pub use serving::{StoreRun, serve_store};
 pub use showing::{Show, StoreBytes, show_store};

@@ -1,10 +1,21 @@
 // Runs of servers over the files of a store, one after another.
-ghost use Rattle.std.specs.Prelude.{List, [], ◌∷◌};
+ghost use Rattle.std.specs.Prelude.{ℕ, List, [], ◌∷◌, take, Result};
+ghost use Rattle.sqlite_disk.specs.declared.Files.{Files as TwoFiles};
+ghost use Rattle.sqlite_store.specs.declared.store.FileStore.{FileStore as OwnStore};
+ghost use Rattle.sqlite.specs.Files.{over_files};
 ghost use Rattle.sqlite_wal.specs.Recovery.{Image};
 ghost use Rattle.fuse_sim.specs.FileLives.{FileRun, no_run, IsMount, AllHaveNew, FilesLived};
 ghost use Rattle.fuse_tree.specs.TheTree.{tree_of};
 ghost use Rattle.fuse_store.specs.declared.new_store.StoreKind.{StoreKind};
-ghost use Rattle.fuse_store_files.specs.Files.{FilesStand};
+ghost use Rattle.fuse_keeper.specs.KeeperState.{WhereHeld};
+ghost use Rattle.fuse_keeper.specs.Lots.{AreReopened};
+ghost use Rattle.fuse_store.specs.Opening.{Stored};
+ghost use Rattle.fuse_store.specs.declared.table_keeper.TableKeeper.{TableKeeper as OwnKeeper};
+ghost use Rattle.fuse_store.specs.TableKeeper.{keeper_told};
+ghost use Rattle.fuse_store_files.specs.declared.files.Opening.TheVariants.{Existing};
+ghost use Rattle.fuse_store_files.specs.Files.{FilesStand, FilesHold};
+ghost use Rattle.fuse_store_files.specs.Left.{Closes};
+ghost use Rattle.fuse_store_files.specs.Starting.{KeepsStore};
 ghost use Rattle.fuse_commands.specs.declared.serve.Begin.{Begin as Beginning};
 ghost use Rattle.fuse_commands.specs.declared.serve.Begin.TheVariants.{Resume};
 ghost use Rattle.fuse_files.specs.declared.serving.StoreRun.{StoreRun};
@@ -16,6 +27,7 @@ use fuse_init::Profiled;
 use fuse_session::{Clock, DevicePort, Port, Sink, Source};
 use fuse_sim::{lives, runs_are_lives};
 use fuse_store::{PlainKeeper, PlainTree, TableKeeper};
+use fuse_store_tree::lots_are_read;
 use sqlite::FileStore;
 use sqlite_disk::Disk;
 
@@ -37,14 +49,37 @@ pub fn runs_are_file_lives<P: Profiled, D: Disk + Drop, R: Source, W: Sink, C: C
     runs_are_lives::<TableKeeper<P, FileStore<D>>, DevicePort<R, W>, C>();
 }
 
+/// The lots outlive the closing of files. A keeper that holds the store which a crash may leave of
+/// them, as one that is opened to continue does, has those of the keeper that was closed, and has
+/// taken none.
+pub fn lots_outlive_files<P: Profiled, D: Disk + Drop>()
+    ensures { (k k' : OwnKeeper P (OwnStore D D.Disk) over_files)
+        (left : Result (TwoFiles D) (OwnStore D D.Disk)) (closed : Closes P.PROFILE k left)
+        (image : Image) → MayBeLeft closed image
+        → ((z : Stored) → FilesHold image z
+        → KeepsStore P.PROFILE Existing z (keeper_told P.PROFILE over_files k'))
+        → WhereHeld (keeper_told P.PROFILE over_files k)
+        (AreReopened (keeper_told P.PROFILE over_files k).lots
+        (keeper_told P.PROFILE over_files k').lots) }
+{
+    lots_are_read();
+}
+
 /// Over every list of runs of one mount, each over files that a crash may have left of the one
 /// before, where no kept message comes again whose answer was settled: they are lives of one mount.
 /// The last history has each request once, and each run sent a prefix of the answers by it.
 pub fn files_live<P: Profiled>()
-    ensures { (s : (tree_of P.PROFILE).State) (first : FileRun Image) (later : List (FileRun Image))
+    ensures whole { (s : (tree_of P.PROFILE).State) (first : FileRun Image)
+        (later : List (FileRun Image))
         → IsMount (FilesStand P.PROFILE) s first later
         → AllHaveNew (tree_of P.PROFILE).serves [] (first ∷ later)
         → FilesLived (FilesStand P.PROFILE) s first later }
+    // So it is of the runs before the one in which such a message comes again.
+    ensures before { (s : (tree_of P.PROFILE).State) (first : FileRun Image)
+        (later : List (FileRun Image)) (n : ℕ)
+        → IsMount (FilesStand P.PROFILE) s first later
+        → AllHaveNew (tree_of P.PROFILE).serves [] (first ∷ take n later)
+        → FilesLived (FilesStand P.PROFILE) s first (take n later) }
 {
     lives::<PlainKeeper<PlainTree<P>>>();
 }

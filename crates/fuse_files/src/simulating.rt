@@ -1,14 +1,16 @@
 // A script over a new store in files that crash.
 ghost use Rattle.std.specs.Prelude.{◌≡◌, ◌≢◌, ◌≤◌, ◌⊎◌, [], false, IsTrue, IfSome, IfOk};
+ghost use Rattle.std.specs.Prelude.{IfErr};
 ghost use Rattle.std.specs.Io.KnownBytes.{Appends};
-ghost use Rattle.sqlite.specs.Files.{over_files};
+ghost use Rattle.sqlite.specs.Files.{over_files, image_of};
 ghost use Rattle.fuse_keeper.specs.KeeperState.{StandsFor, IsFirm};
 ghost use Rattle.fuse_tree.specs.TheTree.{tree_of};
 ghost use Rattle.fuse_store_files.specs.Restarting.{crash_told};
-ghost use Rattle.fuse_commands.specs.Endings.{status_of};
+ghost use Rattle.fuse_commands.specs.Endings.{status_of, store_ending};
 ghost use Rattle.fuse_commands.specs.Simulating.{driven, SimulatedFrom};
 ghost use Rattle.fuse_files.specs.StoreSimulations.{new_state, SimulatesOver, StoreSimulated};
 ghost use Rattle.fuse_files.specs.StoreSimulations.{AreSure, IsSimulated, NotSimulated};
+ghost use Rattle.fuse_files.specs.StoreShown.{IsUnopened};
 
 use crate::serving::ending_of;
 use fuse_commands::{Ending, START, run_simulate};
@@ -37,11 +39,13 @@ fn new_keeper<P: Profiled, D: Crashing + Drop>(
     ensures firm { IfOk result (λ k. (crash_told P.PROFILE over_files k).is_honest
         → IsFirm (crash_told P.PROFILE over_files k)) }
     ensures going { IfOk result (λ k. (crash_told P.PROFILE over_files k).has_failed ≡ false) }
+    ensures fault { IfErr result (λ f. AreSure D.Disk
+        → IsUnopened (image_of D.Disk files) (store_ending f)) }
 {
     let options = Options::new(SEED);
     let conn = match Connection::open_files(alloc, files, options) {
         Ok(conn) => conn,
-        Err((error, _)) => return Err(opening_fault(error)),
+        Err((error, _left)) => return Err(opening_fault(error)),
     };
     let from = Origin {
         owner: kind.owner,
@@ -74,6 +78,32 @@ fn simulate_over<K: Restart, R: Read + Drop, W: Write>(
     run_simulate(alloc, &mut keeper, reader, writer)
 }
 
+// Runs a script over this keeper, if there is one.
+fn simulate_opened<K: Restart, R: Read + Drop, W: Write>(
+    alloc: Global,
+    keeper: Result<K, StoreFault>,
+    reader: R,
+    writer: &mut W,
+) -> Ending
+    requires going { IfOk keeper (λ k. (K.told k).has_failed ≡ false) }
+    ensures ran { IfOk keeper (λ k. SimulatesOver (driven K.told K.became K.performed K.refuses) k
+        (record {
+          input = R.remaining reader;
+          written = W.contents writer.old;
+          written' = W.contents writer.new;
+        }) result) }
+    ensures fault { IfErr keeper (λ f. (result ≡ store_ending f)
+        × (W.contents writer.new ≡ W.contents writer.old)) }
+    ensures silent { 1 ≤ status_of result → status_of result ≤ 3
+        → W.contents writer.new ≡ W.contents writer.old }
+    ensures usage { status_of result ≢ 2 }
+{
+    match keeper {
+        Ok(keeper) => simulate_over(alloc, keeper, reader, writer),
+        Err(fault) => ending_of(fault),
+    }
+}
+
 // Runs a script over a new store of this profile in these files.
 fn simulate_under<P: Profiled, D: Crashing + Drop, R: Read + Drop, W: Write>(
     alloc: Global,
@@ -89,7 +119,7 @@ fn simulate_under<P: Profiled, D: Crashing + Drop, R: Read + Drop, W: Write>(
       written = W.contents writer.old;
       written' = W.contents writer.new;
     }) result
-        ⊎ NotSimulated (record {
+        ⊎ NotSimulated D.Disk files (record {
           input = R.remaining reader;
           written = W.contents writer.old;
           written' = W.contents writer.new;
@@ -101,10 +131,8 @@ fn simulate_under<P: Profiled, D: Crashing + Drop, R: Read + Drop, W: Write>(
         → W.contents writer.new ≡ W.contents writer.old }
     ensures usage { status_of result ≢ 2 }
 {
-    match new_keeper::<P, D>(alloc, files, kind) {
-        Ok(keeper) => simulate_over(alloc, keeper, reader, writer),
-        Err(fault) => ending_of(fault),
-    }
+    let keeper = new_keeper::<P, D>(alloc, files, kind);
+    simulate_opened(alloc, keeper, reader, writer)
 }
 
 /// Runs a script over a new store of this kind in these files, and prints the outcomes. Both files
@@ -123,7 +151,7 @@ pub fn simulate_store<D: Crashing + Drop, R: Read + Drop, W: Write>(
       written = W.contents writer.old;
       written' = W.contents writer.new;
     }) result
-        ⊎ NotSimulated (record {
+        ⊎ NotSimulated D.Disk files (record {
           input = R.remaining reader;
           written = W.contents writer.old;
           written' = W.contents writer.new;

@@ -20,7 +20,7 @@ use Rattle.fuse_store.specs.declared.table_keeper.TableKeeper.{TableKeeper}
 use Rattle.fuse_store.specs.TableKeeper.{conn_of}
 use Rattle.fuse_store_files.specs.Files.{TreesTell}
 use Rattle.fuse_store_files.specs.Left.{own_store, TellsOf, LeavesWhole, LeavesOf, Closes}
-use Rattle.fuse_store_files.specs.inner.Connections.{Ends, IsClosedAs, IsUncopied}
+use Rattle.fuse_store_files.specs.inner.Connections.{Ends, IsClosedAs, IsCopiedTo, IsUncopied}
 use Rattle.fuse_store_files.proofs.Finding.{holds_more}
 
 -- these trees are a store that a crash of the keeper could leave
@@ -58,8 +58,9 @@ module _ {P D : Type 0} {g : Ghosts D} (p : Profile) (keeper : TableKeeper P (Fi
   at_end ends whole image may =
       holds_more _ _ image (more whole (ends.honest (no_doubt _ (clean_if_left ends.ended.pool image may)))) (ends.leaves image may)
 
-  pub closes : Ends conn → (left : Result (Files D) (FileStore D g)) → IfOk left (IsClosedAs conn) → IfErr left (IsUncopied conn) → Closes p keeper left
-  closes ends (Ok files) closed uncopied = record {
+  pub closes : Ends conn → (left : Result (Files D) (FileStore D g)) → IfOk left (IsClosedAs conn) → IfErr left (IsUncopied conn) → IfOk left (IsCopiedTo conn)
+      → Closes p keeper left
+  closes ends (Ok files) closed uncopied copied = record {
     ended = ends.ended;
     its_own = ends.its_own;
     before = before ends;
@@ -67,11 +68,17 @@ module _ {P D : Type 0} {g : Ghosts D} (p : Profile) (keeper : TableKeeper P (Fi
     closed = λ whole clean image may. holds_more _ _ image (more whole (closed.honest clean)) (closed.leaves clean image may);
     unclosed = λ whole. tt;
     uncopied = λ whole. tt;
+    leaves_before = ends.before;
+    leaves = ends.leaves;
+    leaves_closed = closed.leaves;
+    leaves_unclosed = tt;
+    leaves_uncopied = tt;
+    copied = copied;
     honest_end = ends.honest;
     honest_closed = closed.honest;
     honest_unclosed = tt;
   }
-  closes ends (Err it) closed uncopied = record {
+  closes ends (Err it) closed uncopied copied = record {
     ended = ends.ended;
     its_own = ends.its_own;
     before = before ends;
@@ -82,6 +89,12 @@ module _ {P D : Type 0} {g : Ghosts D} (p : Profile) (keeper : TableKeeper P (Fi
         more whole (uncopied.honest (no_doubt _ (clean_if_left it.pool found.0 found.2))) db may;
     uncopied = λ whole numbered image may.
         holds_more _ _ image (more whole (uncopied.honest (no_doubt _ (clean_if_left it.pool image may)))) (uncopied.holds numbered image may);
+    leaves_before = ends.before;
+    leaves = ends.leaves;
+    leaves_closed = tt;
+    leaves_unclosed = uncopied.leaves;
+    leaves_uncopied = uncopied.holds;
+    copied = tt;
     honest_end = ends.honest;
     honest_closed = tt;
     honest_unclosed = uncopied.honest;

@@ -1,5 +1,5 @@
 -- What an open finds in the files of a store, and what it makes of it.
-use Rattle.std.proofs.Common.{◌≡◌, ◌≤◌, inl, inr, sym, ap, ap₂, subst, arith, ◌∙◌}
+use Rattle.std.proofs.Common.{◌≡◌, ◌≤◌, ◌⊎◌, false, inl, inr, sym, ap, ap₂, subst, arith, ◌∙◌}
 use Rattle.std.proofs.Math.Logic.{∥∥₁_elim, ∥∥₁_map}
 use Rattle.sqlite_disk.specs.declared.Disk.{Ghosts}
 use Rattle.sqlite_disk.specs.declared.Files.{Files}
@@ -22,7 +22,7 @@ use Rattle.sqlite.specs.Schema.{Schema}
 use Rattle.sqlite_catalog.specs.Listing.{Lists, IsSound}
 use Rattle.sqlite.specs.State.{State, HasCleanDisk, IsLive, Opens, Survives, store_error}
 use Rattle.sqlite.specs.Held.{Held, AreDatabases}
-use Rattle.sqlite.specs.Files.{file_state, IsOpened, IsEmpty, IsCleanLeft, AreFoundIn, FailsToOpenFiles, HoldsDatabase, image_of}
+use Rattle.sqlite.specs.Files.{file_state, IsOpened, IsEmpty, IsNothing, IsCleanLeft, AreFoundIn, FailsToOpenFiles, HoldsDatabase, image_of}
 use Rattle.sqlite.specs.Start.{FindsIn}
 use Rattle.sqlite.specs.declared.error.Error.{Error}
 use Rattle.sqlite.specs.declared.file.Leftover.{Leftover}
@@ -32,9 +32,12 @@ use Rattle.fuse_tree.specs.Rows.{Rows, rowed}
 use Rattle.fuse_init.specs.declared.profile.Profile.{Profile}
 use Rattle.fuse_keeper.specs.Stands.{Records}
 use Rattle.fuse_keeper.specs.KeeperState.{KeeperState}
+use Rattle.fuse_keeper.specs.declared.fault.StoreFault.{StoreFault}
+use Rattle.fuse_keeper.specs.declared.fault.StoreFault.TheVariants.{Memory, Sql}
 use Rattle.fuse_store_tables.specs.Content.{Content, LeftAs}
 use Rattle.fuse_store_tables.specs.Moves.{RestsAs, LeavesAlone}
-use Rattle.fuse_store_tables.specs.Opening.{IsStored}
+use Rattle.fuse_store_tables.specs.Opening.{IsStored, IsLaid, HasMeta}
+use Rattle.fuse_store_tables.specs.Saying.{Says, IsTabled}
 use Rattle.fuse_store_tables.specs.Faults.{IsOutside}
 use Rattle.fuse_store_tables.specs.Layout.{no_schema}
 use Rattle.fuse_store_tree.specs.Store.{records_of}
@@ -48,6 +51,7 @@ use Rattle.fuse_store_files.specs.declared.files.Opening.TheVariants.{Existing, 
 use Rattle.fuse_store_files.specs.Files.{HoldSome, FilesHold, HoldNothing, TreesTell, AreTheirs}
 use Rattle.fuse_store_files.specs.Starting.{OpensAs, KeepsStore, FilesHoldRows}
 use Rattle.fuse_store_files.specs.Left.{LeavesAsFound, LeavesOpening, LeavesStore, LeavesUnclosed, IsMadeBy}
+use Rattle.fuse_store_files.specs.Databases.{FilesHave, IsToOpen, IsToMake, IsToChange, OpensOwn, FailsOver}
 use Rattle.fuse_store_files.specs.inner.Opened.{OpensOver, LeavesOver, IsNotOpened}
 use Rattle.fuse_store_files.proofs.Finding.{holds_one, holds_more}
 use Rattle.fuse_store_files.proofs.Nothing.{found_nothing}
@@ -121,6 +125,30 @@ module _ (image : Image) (s : State) (opens : Opens s) (live : IsLive s) (finds 
   made_by Existing db made = λ z held. made z (was_for z held)
   made_by (Any new) db made = (λ z held. made.opened z (was_for z held), λ nothing. made.made (blank nothing) opens.is_open)
   made_by (Fresh new) db made = (λ z held. made.begun z (was_for z held), λ nothing. made.made (blank nothing) opens.is_open)
+
+  -- the database that they hold is the one that was opened
+  found_now : (d : Database) → FilesHave image d → d ≡ s.now
+  found_now d have =
+      let found = same_trees (λ db. Unit {0}) (record { trees = d.trees; held = have.held; so = tt }) in
+      let listed = lists_once (d.trees catalog_tree) d.schema s.committed.schema have.sound.lists
+      (subst (λ (t : Trees). Lists (t catalog_tree) s.committed.schema) found (live opens.is_open).1.lists) in
+      let whole : d ≡ s.committed = ap₂ (λ (x : Schema) (t : Trees). let e : Database = record { schema = x; trees = t } in e) listed (sym found) in
+      whole ∙ sym opens.clean
+
+  pub opens_own : (how : Opening) → (IsToOpen how s.now → IsTabled s.now) → (IsToOpen how s.now → (c : Content) → IsLaid c s.now → HasMeta c) → OpensOwn how image
+  opens_own how tabled whole = record {
+    tabled = λ d have ours. let same = found_now d have in subst IsTabled (sym same) (tabled (subst (IsToOpen how) same ours));
+    whole = λ d have ours c laid. let same = found_now d have in whole (subst (IsToOpen how) same ours) c (subst (IsLaid c) same laid);
+  }
+
+  pub says_found : (how : Opening) (f : StoreFault) → (IsToOpen how s.now → Says s.now f) → (d : Database) → FilesHave image d → IsToOpen how d → Says d f
+  says_found how f says d have ours =
+      let same = found_now d have in subst (λ (x : Database). Says x f) (sym same) (says (subst (IsToOpen how) same ours))
+
+  pub same_alone : {X : Type 0} (how : Opening) → (IsToOpen how s.now → ¬ (IsToChange how s.now) → X) → (d : Database) → FilesHave image d → IsToOpen how d
+      → ¬ (IsToChange how d) → X
+  same_alone how alone d have ours not =
+      let same = found_now d have in alone (subst (IsToOpen how) same ours) (λ change. not (subst (IsToChange how) (sym same) change))
 
 -- ---- of an opening that failed
 
@@ -206,13 +234,13 @@ store_outside Full = tt
 store_outside Broken = tt
 store_outside Unstorable = tt
 
--- files that hold a database are not taken for others
+-- files that hold a database, or nothing, are not taken for others
 pub wanting : {D : Type 0} {g : Ghosts D} (files : Files D) (it : Leftover D g) (e : Error) → FailsToOpenFiles files it e
-    → (P : Trees → Type 0) → HoldSome P (image_of g files) → IsOutside (opening_fault e)
-wanting files it e fails P held = elim fails [
+    → ¬ ¬ (((db : Trees) × HoldsDatabase (image_of g files) db) ⊎ IsNothing (image_of g files)) → IsOutside (opening_fault e)
+wanting files it e fails some = elim fails [
   | inl memory ↦ subst (λ (x : Error). IsOutside (opening_fault x)) (sym memory) tt
   | inr other ↦ elim other [
-    | inl refused ↦ absurd (∥∥₁_elim held.held (λ x. absurd x) (λ it. refused.1 (inl (held.trees, it))))
+    | inl refused ↦ absurd (some refused.1)
     | inr fault ↦ elim fault [
       | inl named ↦ subst (λ (x : Error). IsOutside (opening_fault x)) (sym named.0) (store_outside _)
       | inr full ↦ subst (λ (x : Error). IsOutside (opening_fault x)) (sym full.0) tt
@@ -220,7 +248,66 @@ wanting files it e fails P held = elim fails [
   ]
 ]
 
+pub has_some : (image : Image) (P : Trees → Type 0) → HoldSome P image → ¬ ¬ (((db : Trees) × HoldsDatabase image db) ⊎ IsNothing image)
+has_some image P held none = ∥∥₁_elim held.held (λ x. absurd x) (λ it. none (inl (held.trees, it)))
+
+has_none : (image : Image) → HoldNothing image → ¬ ¬ (((db : Trees) × HoldsDatabase image db) ⊎ IsNothing image)
+has_none image (inl nothing) none = none (inr nothing)
+has_none image (inr held) none = has_some image IsEmpty held none
+
 pub not_wanting : {D : Type 0} {g : Ghosts D} (image : Image) (it : Leftover D g) (e : Error) → IsNotOpened image it e → IsCleanLeft it
     → (P : Trees → Type 0) → HoldSome P image → IsOutside (opening_fault e)
 not_wanting image it e not clean P held =
-    wanting not.left.files it e (not.cause clean) P (subst (HoldSome P) (sym not.left.held) held)
+    wanting not.left.files it e (not.cause clean) (has_some _ P (subst (HoldSome P) (sym not.left.held) held))
+
+-- ---- of any database
+
+outside_says : (d : Database) (f : StoreFault) → IsOutside f → Says d f
+outside_says d Memory so = tt
+outside_says d (Sql e) so = tt
+outside_says d _ so = absurd so
+
+module _ {D : Type 0} {g : Ghosts D} (image : Image) (how : Opening) where
+  pub fails_unopened : (it : Leftover D g) (e : Error) → IsNotOpened image it e → FailsOver how image (opening_fault e) it
+  fails_unopened it e not = record {
+    says = λ clean d have ours.
+        outside_says d (opening_fault e) (not_wanting image it e not clean (λ db. Unit {0}) (record { trees = d.trees; held = have.held; so = tt }));
+    alone = λ d have ours same. stays_found image how it e not;
+    blank = λ clean made nothing.
+        wanting not.left.files it e (not.cause clean) (has_none _ (subst HoldNothing (sym not.left.held) nothing));
+  }
+
+  pub fails_open : (conn : Held (FileStore D g)) → SeenMayStay g → (HasCleanDisk (file_state conn) → IsOpened conn)
+      → (HasCleanDisk (file_state conn) → FindsIn image (file_state conn)) → (new : State) (it : FileStore D g) (f : StoreFault)
+      → Survives (file_state conn) new (LeavesOver how (file_state conn)) → doubt new.is_clean ≤ doubt (view it).is_clean
+      → ((db : Trees) → recovers it db → new.may_leave db) → (IsClean (view it) → AreDatabases (recovers it))
+      → (HasCleanDisk new → IsToOpen how (file_state conn).now → Says (file_state conn).now f)
+      → ((file_state conn).in_transaction ≡ false → IsToOpen how (file_state conn).now → ¬ (IsToChange how (file_state conn).now) → LeavesAlone (file_state conn) new)
+      → (IsToMake how → IsBlank (file_state conn) → IsOutside f) → FailsOver how image f (left.Store it)
+  fails_open conn stays opened found new it f survives later outcomes sound says alone outside = record {
+    says = λ is_clean d have ours.
+        let last = no_doubt _ is_clean in
+        let clean_new : HasCleanDisk new = omega (arith, last, later) in
+        let clean : HasCleanDisk (file_state conn) = omega (arith, clean_new, survives.clean) in
+        let live = opened clean in
+        says_found image (file_state conn) live.0 live.1 (found clean) how f (says clean_new) d have ours;
+    alone = λ d have ours same. leaves_each _ image it (λ clean some. ∣ sound clean ∣₁) (λ db may.
+        let last : IsClean (view it) = no_doubt _ (clean_if_left it.pool may.0 may.2) in
+        let clean_new : HasCleanDisk new = omega (arith, last, later) in
+        let clean : HasCleanDisk (file_state conn) = omega (arith, clean_new, survives.clean) in
+        let live = opened clean in
+        let finds = found clean in
+        let left = same_alone image (file_state conn) live.0 live.1 finds how (alone live.0.autocommit) d have ours same in
+        elim (left.survives.crash clean_new db (outcomes db may)) [
+          | inl old ↦
+              let committed = settled_at conn.store stays db live.0.is_open old in
+              subst (AreTheirs image) (sym committed) (record { holds = finds.holds; reads = finds.reads })
+          | inr none ↦ absurd none
+        ]);
+    blank = λ is_clean made nothing.
+        let last = no_doubt _ is_clean in
+        let clean_new : HasCleanDisk new = omega (arith, last, later) in
+        let clean : HasCleanDisk (file_state conn) = omega (arith, clean_new, survives.clean) in
+        let live = opened clean in
+        outside made (blank image (file_state conn) live.0 live.1 (found clean) nothing);
+  }

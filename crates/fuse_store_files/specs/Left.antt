@@ -11,7 +11,9 @@ use Rattle.sqlite_store.specs.FileStore.{state, view, recovers}
 use Rattle.sqlite_trees.specs.View.{IsClean}
 use Rattle.sqlite.specs.declared.file.Leftover.{Leftover}
 use Rattle.sqlite.specs.declared.file.Leftover.TheVariants as left
-use Rattle.sqlite.specs.Files.{image_of, over_files, IsCleanLeft, LeavesFiles}
+use Rattle.sqlite.specs.Files.{image_of, over_files, file_state, IsCleanLeft, LeavesFiles}
+use Rattle.sqlite.specs.Closing.{IsCopied}
+use Rattle.sqlite.specs.Held.{AreDatabases}
 use Rattle.fuse_init.specs.declared.profile.Profile.{Profile}
 use Rattle.fuse_store_tables.specs.Content.{LeftAs}
 use Rattle.fuse_store_tree.specs.Holding.{HeldFor}
@@ -52,6 +54,8 @@ LeavesWhole p keeper = (keeper_told p over_files keeper).leaves_whole
 -- failed. What a crash leaves is what a crash of the keeper could leave: of the store as the keeper had it, if the disk returned what was
 -- written until the log was to be copied, of the store that it ended as, and of what is left. Of a store that could not be closed, so it
 -- is where its trees have their numbers; in any case each database that it recovers to is one. It is honest no longer than the keeper was.
+-- Whatever the database is, with its lots and all other rows, it is one that a crash of the keeper's connection could leave; and if all was
+-- closed, what was committed last is in the database file alone.
 pub record Closes {P D : Type 0} {g : Ghosts D} (p : Profile) (keeper : TableKeeper P (FileStore D g) over_files) (left : Result (Files D) (FileStore D g)) : Type 0 where
   pub ended : FileStore D g
   pub its_own : (db : Trees) → recovers ended db → recovers (own_store keeper) db
@@ -60,6 +64,13 @@ pub record Closes {P D : Type 0} {g : Ghosts D} (p : Profile) (keeper : TableKee
   pub closed : LeavesWhole p keeper → IfOk left (LeavesClosed g (TellsOf p keeper))
   pub unclosed : LeavesWhole p keeper → IfErr left (LeavesUnclosed (TellsOf p keeper))
   pub uncopied : LeavesWhole p keeper → IfErr left (λ it. IsTrue (view it).is_numbered → LeavesOf (TellsOf p keeper) it)
+  pub leaves_before : IsClean (view ended) → AreDatabases (file_state (conn_of over_files keeper)).may_leave
+      → LeavesOf (file_state (conn_of over_files keeper)).may_leave (own_store keeper)
+  pub leaves : LeavesOf (file_state (conn_of over_files keeper)).may_leave ended
+  pub leaves_closed : IfOk left (LeavesClosed g (file_state (conn_of over_files keeper)).may_leave)
+  pub leaves_unclosed : IfErr left (LeavesUnclosed (file_state (conn_of over_files keeper)).may_leave)
+  pub leaves_uncopied : IfErr left (λ it. IsTrue (view it).is_numbered → LeavesOf (file_state (conn_of over_files keeper)).may_leave it)
+  pub copied : IfOk left (λ files. AreClean g files.log files.db → IsCopied (conn_of over_files keeper) files)
   pub honest_end : IsClean (view ended) → (keeper_told p over_files keeper).is_honest
   pub honest_closed : IfOk left (λ files. AreClean g files.log files.db → (keeper_told p over_files keeper).is_honest)
   pub honest_unclosed : IfErr left (λ it. IsClean (view it) → (keeper_told p over_files keeper).is_honest)

@@ -1,13 +1,16 @@
 // Disks whose crashes a contract can name, and a crash of both files of a connection.
-ghost use Rattle.std.specs.Prelude.{IsTrue};
+ghost use Rattle.std.specs.Prelude.{◌≡◌, IsTrue};
 ghost use Rattle.fuse_store_files.specs.Crashing.{Crashes};
+ghost use Rattle.fuse_store_files.specs.CrashMemory.{bytes_in, synced_in};
 
+use crate::crash_memory::CrashMemory;
 use sqlite::{Connection, FileStore, Files};
-use sqlite_disk::{Crash, Memory};
+use sqlite_disk::Disk;
 
 /// A disk whose crashes a contract can name.
-pub trait Crashing: Crash {
-    /// The second is what one crash made of the first. Nothing but the call below says so.
+pub trait Crashing: Disk {
+    /// The second is what one crash made of the first. Of a type parameter nothing but the call
+    /// below says so.
     ghost crashed: { Self → Self → Type 0 };
 
     /// Crashes, and comes back.
@@ -19,11 +22,12 @@ pub trait Crashing: Crash {
             → IsTrue (Self.Disk.is_clean self.old) };
 }
 
-impl Crashing for Memory {
-    ghost crashed = { λ a b. Unit {0} };
+/// What was synced last is what is left.
+impl Crashing for CrashMemory {
+    ghost crashed = { λ a b. bytes_in b ≡ synced_in a };
 
     fn crash_once(&mut self) {
-        self.crash();
+        self.lose_unsynced();
     }
 }
 

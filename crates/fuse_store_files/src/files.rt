@@ -20,6 +20,8 @@ ghost use Rattle.fuse_store_files.specs.declared.files.Opening.TheVariants.{Exis
 ghost use Rattle.fuse_store_files.specs.Files.{FilesHold};
 ghost use Rattle.fuse_store_files.specs.Starting.{path_of, OpensAs, KeepsStore, FilesHoldRows, RowsKept};
 ghost use Rattle.fuse_store_files.specs.Left.{LeavesAsFound, LeavesOpening};
+ghost use Rattle.fuse_store_files.specs.Databases.{OpensOwn, FailsOver};
+ghost use Rattle.fuse_store_files.specs.Databases.{IsNeverOpened};
 ghost use Rattle.fuse_store_files.specs.inner.Opened.{IsNotOpened};
 
 use crate::opening::open_as;
@@ -110,11 +112,15 @@ pub fn open_store<S: Start>(
     ensures untouched { IfErr result (λ e. IsRefusal e.0
         → IfSome e.1 (LeavesAsFound (image_at S.Start))) }
     ensures unopened { IfErr result (λ e. e.1 ≡ None
-        → IsOutside e.0 ⊎ ((how ≡ Existing) × (e.0 ≡ NotAStore))) }
+        → IsNeverOpened e.0 ⊎ ((how ≡ Existing) × (e.0 ≡ NotAStore))) }
     // All rows are kept, those too that no tree has; the begin of a mount deletes its own.
     ensures rows { IfOk result (λ k. (store_told k).is_honest → (c : Content)
         → FilesHoldRows (image_at S.Start) c
         → RestsAs (RowsKept how c) (file_state (own_conn k))) }
+    // Of any database in the files: only a store of a version that is known is opened. What the
+    // fault says is so, and what isn't to be changed is left as it was found.
+    ensures own { IfOk result (λ k. (store_told k).is_honest → OpensOwn how (image_at S.Start)) }
+    ensures fails { IfErr result (λ e. IfSome e.1 (FailsOver how (image_at S.Start) e.0)) }
 {
     if matches!(how, Opening::Existing) && files.are_missing() {
         return Err((StoreFault::NotAStore, None));

@@ -3,11 +3,13 @@
 
 mod closing;
 mod crash_keeper;
+mod crash_memory;
 mod crashing;
 mod files;
 mod opening;
 
 pub use closing::close_store;
 pub use crash_keeper::CrashKeeper;
+pub use crash_memory::CrashMemory;
 pub use crashing::Crashing;
 pub use files::{Opening, StoreFiles, open_store};

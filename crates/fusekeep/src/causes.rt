@@ -80,13 +80,35 @@ fn store_refusal(rt: &HostRuntime, path: &str, writes: bool) -> Option<&'static 
     }
 }
 
-// Why a file can't be made. Where it can be by now, it is made, as by an opening.
+// The folder of a file.
+fn folder_of(path: &str) -> &str {
+    match path.rsplit_once('/') {
+        Some((folder, _)) if folder.is_empty() => "/",
+        Some((folder, _)) => folder,
+        None => ".",
+    }
+}
+
+// Whether this process may make files in a folder, by the owner and the mode. Of its groups only the
+// first counts.
+fn may_write(rt: &HostRuntime, folder: &fs::Metadata) -> bool {
+    let Ok(own) = fs::metadata(rt, "/proc/self") else {
+        return true;
+    };
+    let wanted = if own.uid() == folder.uid() {
+        0o200
+    } else if own.gid() == folder.gid() {
+        0o020
+    } else {
+        0o002
+    };
+    own.uid() == 0 || folder.mode() & wanted != 0
+}
+
+// Why a file can't be made, as far as its folder shows it. Nothing is made.
 fn making_refusal(rt: &HostRuntime, path: &str) -> Option<&'static str> {
-    match OpenOptions::new()
-        .write(true)
-        .create_new(true)
-        .open(rt, path)
-    {
+    match fs::metadata(rt, folder_of(path)) {
+        Ok(folder) if !may_write(rt, &folder) => Some(": Permission denied"),
         Ok(_) => None,
         Err(error) => text_of(&error),
     }

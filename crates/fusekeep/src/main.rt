@@ -20,12 +20,11 @@ use fuse_commands::{
 };
 use fuse_files::{Show, kind_asked, replay_in_memory, replay_store, simulate_store};
 use fuse_store::StoreKind;
-use fuse_store_files::StoreFiles;
+use fuse_store_files::{CrashMemory, StoreFiles};
 use fuse_wire::Moment;
 use serve::serve_as_asked;
 use show::{show_file, verify_file};
 use sqlite::{Files, Start, Unknown, Wary};
-use sqlite_disk::Memory;
 use std::alloc::Global;
 use std::io::{BufWriter, IsTerminal, Read, Write};
 use std::process::ExitCode;
@@ -227,8 +226,8 @@ fn simulate_in_memory<R: Read + Drop, W: Write>(
     writer: &mut W,
 ) -> Ending {
     let files = Files {
-        log: Memory::new(alloc),
-        db: Memory::new(alloc),
+        log: CrashMemory::new(alloc),
+        db: CrashMemory::new(alloc),
     };
     simulate_store(alloc, files, kind, reader, writer)
 }

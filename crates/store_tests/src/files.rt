@@ -1,17 +1,14 @@
 //! A store that is opened from its files and closed into them, and one whose files crash.
-ghost use Rattle.std.specs.Prelude.{IsTrue, IfOk};
-ghost use Rattle.sqlite_disk.specs.Memory.{memory_is_usable};
-
 use fuse_init::PlainProfile;
 use fuse_request::{InHeader, InitIn, Op, Request};
 use fuse_store::{
     Done, Keeper, NewStore, Restart, StoreFault, StoreKeeper, StoreKind, TableKeeper,
 };
-use fuse_store_files::{CrashKeeper, Opening, StoreFiles, close_store, open_store};
+use fuse_store_files::{CrashKeeper, CrashMemory, Opening, StoreFiles, close_store, open_store};
 use fuse_tree::Origin;
 use fuse_wire::{Id, Moment};
 use sqlite::{Alter, Connection, FileStore, Files, Options, Unknown};
-use sqlite_disk::{Disk, Memory};
+use sqlite_disk::Disk;
 use std::alloc::Global;
 use std::fs;
 
@@ -132,15 +129,12 @@ fn from_file_to_file(rt: HostRuntime) -> Result<(), StoreFault> {
     Ok(())
 }
 
-type MemFiles = FileStore<Memory>;
+type MemFiles = FileStore<CrashMemory>;
 
-fn empty(alloc: Global) -> Files<Memory>
-    ensures log { IsTrue (memory_is_usable result.log) }
-    ensures db { IsTrue (memory_is_usable result.db) }
-{
+fn empty(alloc: Global) -> Files<CrashMemory> {
     Files {
-        log: Memory::new(alloc),
-        db: Memory::new(alloc),
+        log: CrashMemory::new(alloc),
+        db: CrashMemory::new(alloc),
     }
 }
 

@@ -1,7 +1,7 @@
 use Rattle.std.proofs.Common.{[], subst, sym}
 use Rattle.fuse_sim.specs.Driving.{told_in}
 use Rattle.fuse_commands.specs.Simulating.{driven}
-use Rattle.fuse_commands.proofs.Simulations.{IsUnfit, never_unfit, went, asked_all, opened_all, all_left, keeps_by, fault_left, reused_prefix, drive_ended, counts_ended}
+use Rattle.fuse_commands.proofs.Simulations.{IsUnfit, never_unfit, went, asked_all, opened_all, all_left, keeps_by, fault_left, reused_prefix, drive_ended, counts_ended, refused_again, never_emptied}
 use Rattle.fuse_commands.proofs.simulate.run_events.Goals as goal
 
 pub returns-in-Ok-counts-clause-ok : goal.returns-in-Ok-counts-clause-ok
@@ -84,3 +84,14 @@ pub returns-in-Ok-counts-clause-opened : goal.returns-in-Ok-counts-clause-opened
 returns-in-Ok-counts-clause-opened g c =
     opened_all g.K.Keeper.told g.K.Keeper.became c.args.keeper.now c.drive.new.keeper c.in-Some.keeper c.counts.new.self c.args.events.now g.met.K.Keeper.counted
     c.in-Some.is c.counts.ensures.looked.called.honest c.counts.ensures.same c.in-Ok.ensures.opened
+
+pub returns-in-Err-Store-clause-emptied : goal.returns-in-Err-Store-clause-emptied
+returns-in-Err-Store-clause-emptied g c =
+    let k = g.K.Keeper in
+    refused_again (driven k.told k.became k.performed g.K.Restart.refuses) c.args.keeper.now c.drive.new.keeper c.args.events.now _ c.in-Err-Store.field-0
+    c.in-Err-Store.fault c.of.result c.in-Err-Store.field-0-is c.in-Err-Store.ensures.emptied c.of.ensures
+
+pub returns-in-Err-Memory-clause-emptied : goal.returns-in-Err-Memory-clause-emptied
+returns-in-Err-Memory-clause-emptied g c =
+    let e = c.in-Err-Memory in
+    never_emptied g.K.Keeper.became _ c.args.keeper.now c.drive.new.keeper c.args.events.now _ e.field-0 e.field-0-is e.ensures.emptied

@@ -7,14 +7,11 @@ returns-in-Ok-Plain-clause-ran g c =
     let opened = rw c.in-Ok-Plain.field-0-is at c.in-Ok-Plain.ensures.opened in
     let kept = rw c.in-Ok-Plain.field-0-is at c.in-Ok-Plain.ensures.holds in
     let rows = rw c.in-Ok-Plain.field-0-is at c.in-Ok-Plain.ensures.rows in
+    let own = rw c.in-Ok-Plain.field-0-is at c.in-Ok-Plain.ensures.own in
     let firm = rw c.in-Ok-Plain.field-0-is at c.in-Ok-Plain.ensures.firm in
     inl (inl (record {
       keeper = c.in-Ok-Plain.keeper;
-      profile = profile;
-      opened = opened;
-      kept = kept;
-      rows = rows;
-      firm = firm;
+      from = record { profile = profile; opened = opened; kept = kept; rows = rows; own = own; firm = firm };
       ran = c.replay_keeper.ensures.ran;
     }))
 
@@ -24,13 +21,10 @@ returns-in-Ok-Everyday-clause-ran g c =
     let opened = rw c.in-Ok-Everyday.field-0-is at c.in-Ok-Everyday.ensures.opened in
     let kept = rw c.in-Ok-Everyday.field-0-is at c.in-Ok-Everyday.ensures.holds in
     let rows = rw c.in-Ok-Everyday.field-0-is at c.in-Ok-Everyday.ensures.rows in
+    let own = rw c.in-Ok-Everyday.field-0-is at c.in-Ok-Everyday.ensures.own in
     let firm = rw c.in-Ok-Everyday.field-0-is at c.in-Ok-Everyday.ensures.firm in
     inl (inr (record {
       keeper = c.in-Ok-Everyday.keeper;
-      profile = profile;
-      opened = opened;
-      kept = kept;
-      rows = rows;
-      firm = firm;
+      from = record { profile = profile; opened = opened; kept = kept; rows = rows; own = own; firm = firm };
       ran = c.replay_keeper-in-Ok-Everyday.ensures.ran;
     }))

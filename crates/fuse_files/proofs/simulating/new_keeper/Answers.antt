@@ -1,8 +1,13 @@
-use Rattle.std.proofs.Common.{[], sym, subst}
-use Rattle.sqlite.specs.Files.{over_files}
+use Rattle.std.proofs.Common.{◌≡◌, [], inl, refl, sym, subst}
+use Rattle.std.specs.Prelude.{IsErrAnd}
+use Rattle.sqlite.specs.Files.{over_files, image_of}
 use Rattle.fuse_keeper.specs.KeeperState.{StandsFor, IsFirm}
 use Rattle.fuse_store.specs.TableKeeper.{keeper_told}
+use Rattle.fuse_commands.specs.Endings.{store_ending}
 use Rattle.fuse_files.specs.StoreSimulations.{new_state}
+use Rattle.fuse_files.specs.StoreShown.{IsUnopened}
+use Rattle.fuse_files.proofs.Ends.{says_nothing_in}
+use Rattle.fuse_files.proofs.Opened.{not_opened_in}
 use Rattle.fuse_files.proofs.simulating.new_keeper.Goals as goal
 
 pub returns-in-Ok-create-clause-stands : goal.returns-in-Ok-create-clause-stands
@@ -14,3 +19,14 @@ returns-in-Ok-create-clause-stands g c =
 pub returns-in-Ok-create-clause-firm : goal.returns-in-Ok-create-clause-firm
 returns-in-Ok-create-clause-firm g c =
     subst (λ k. (keeper_told g.P.Profiled.PROFILE over_files k).is_honest → IsFirm (keeper_told g.P.Profiled.PROFILE over_files k)) (sym c.new.ensures) c.in-Ok-create.ensures.firm
+
+pub returns-in-Err-clause-fault : goal.returns-in-Err-clause-fault
+returns-in-Err-clause-fault g c = λ sure.
+    subst (λ f. IsUnopened (image_of g.D.Disk c.args.files) (store_ending f)) (sym c.opening_fault.ensures)
+    (not_opened_in sure c.args.files c.open_files.result c.in-Err.error c.open_files.ensures.cause
+    (subst (λ r. IsErrAnd r (λ p. p.0 ≡ c.in-Err.error)) (sym c.in-Err.is) refl))
+
+pub returns-clause-fault : goal.returns-clause-fault
+returns-clause-fault g c = λ sure.
+    inl (says_nothing_in c.create.result c.in-Err-create.fault c.create.ensures.outside
+    (subst (λ r. IsErrAnd r (λ p. p.0 ≡ c.in-Err-create.fault)) (sym c.in-Err-create.is) refl))

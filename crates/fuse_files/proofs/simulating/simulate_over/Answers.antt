@@ -9,4 +9,5 @@ returns-clause-ran g c = record {
   going = c.run_simulate.ensures.left;
   stopped = λ three script is. of_known _ _ c.run_simulate.ensures.store script is three;
   kept = c.run_simulate.ensures.kept;
+  emptied = λ script is. of_known _ _ c.run_simulate.ensures.emptied script is;
 }

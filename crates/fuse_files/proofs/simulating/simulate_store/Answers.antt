@@ -16,7 +16,7 @@ returns-in-Plain-clause-ran g c =
       written = g.W.Write.contents c.args.writer.now;
       written' = g.W.Write.contents c.simulate_under.new.writer;
     } in
-    subst (λ (p : Profile). IsSimulated p c.args.kind g.D.Disk g.D.Crashing.crashed streams c.simulate_under.result ⊎ NotSimulated streams c.simulate_under.result)
+    subst (λ (p : Profile). IsSimulated p c.args.kind g.D.Disk g.D.Crashing.crashed streams c.simulate_under.result ⊎ NotSimulated g.D.Disk c.args.files streams c.simulate_under.result)
     (sym c.in-Plain.is) c.simulate_under.ensures.ran
 
 pub returns-in-Plain-clause-simulated : goal.returns-in-Plain-clause-simulated
@@ -33,7 +33,7 @@ returns-in-Everyday-clause-ran g c =
       written' = g.W.Write.contents c.simulate_under-in-Everyday.new.writer;
     } in
     subst (λ (p : Profile). IsSimulated p c.args.kind g.D.Disk g.D.Crashing.crashed streams c.simulate_under-in-Everyday.result
-    ⊎ NotSimulated streams c.simulate_under-in-Everyday.result)
+    ⊎ NotSimulated g.D.Disk c.args.files streams c.simulate_under-in-Everyday.result)
     (sym c.in-Everyday.is) c.simulate_under-in-Everyday.ensures.ran
 
 pub returns-in-Everyday-clause-simulated : goal.returns-in-Everyday-clause-simulated

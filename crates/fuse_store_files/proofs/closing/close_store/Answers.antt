@@ -9,6 +9,7 @@ returns-clause-closes g c =
     let same = c.into_connection.ensures.same in
     closes g.P.Profiled.PROFILE c.args.keeper (subst Ends same c.close_connection.ensures.ended) left (subst (λ conn. IfOk left (IsClosedAs conn)) same c.close_connection.ensures.closed)
     (subst (λ conn. IfErr left (IsUncopied conn)) same c.close_connection.ensures.unclosed)
+    (subst (λ conn. IfOk left (IsCopiedTo conn)) same c.close_connection.ensures.copied)
 
 pub returns-clause-copied : goal.returns-clause-copied
 returns-clause-copied g c = subst (λ conn. IfOk c.close_connection.result (IsCopiedTo conn)) c.into_connection.ensures.same c.close_connection.ensures.copied

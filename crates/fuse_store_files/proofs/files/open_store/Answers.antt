@@ -8,6 +8,8 @@ use Rattle.fuse_store.specs.Storing.{opening_fault}
 use Rattle.fuse_store.specs.StoreKeeper.{own_profile, store_told}
 use Rattle.fuse_store_files.proofs.Fresh.{some_weaker}
 use Rattle.fuse_store_files.proofs.Found.{keeps, opens_as, was_for, rests, left_open, left_alone, stays_found, not_opened, not_wanting}
+use Rattle.fuse_store_files.proofs.Found.{opens_own, fails_unopened, fails_open}
+use Rattle.fuse_store_files.specs.Databases.{FailsOver, IsNeverOpened}
 use Rattle.fuse_store_files.proofs.files.open_store.Goals as goal
 
 pub returns-in-Err-clause-crash : goal.returns-in-Err-clause-crash
@@ -61,9 +63,12 @@ returns-in-Err-clause-untouched g c = λ refusal.
 
 pub returns-in-Err-clause-unopened : goal.returns-in-Err-clause-unopened
 returns-in-Err-clause-unopened g c = λ none.
-    inl (subst IsOutside (sym c.opening_fault.ensures) (elim (c.in-Err.ensures.none none) [
-      | inl e ↦ subst (λ x. IsOutside (opening_fault x)) (sym e) tt
-      | inr other ↦ elim other [ inl e ↦ subst (λ x. IsOutside (opening_fault x)) (sym e) tt | inr e ↦ subst (λ x. IsOutside (opening_fault x)) (sym e) tt ]
+    inl (subst IsNeverOpened (sym c.opening_fault.ensures) (elim (c.in-Err.ensures.none none) [
+      | inl e ↦ subst (λ x. IsNeverOpened (opening_fault x)) (sym e) (inr (inl refl))
+      | inr other ↦ elim other [
+        | inl e ↦ subst (λ x. IsNeverOpened (opening_fault x)) (sym e) (inl refl)
+        | inr e ↦ subst (λ x. IsNeverOpened (opening_fault x)) (sym e) (inr (inr refl))
+      ]
     ]))
 
 pub returns-in-Err-open_as-clause-untouched : goal.returns-in-Err-open_as-clause-untouched
@@ -78,3 +83,24 @@ returns-in-Ok-open_as-clause-rows g c = λ honest content held.
     let live = c.in-Ok.ensures.opened clean in
     c.in-Ok-open_as.ensures.rows honest content
     (rests (image_at g.S.Start) (file_state c.in-Ok.conn) live.0 live.1 (c.in-Ok.ensures.found clean) content held)
+
+pub returns-in-Ok-open_as-clause-own : goal.returns-in-Ok-open_as-clause-own
+returns-in-Ok-open_as-clause-own g c = λ honest.
+    let clean = c.in-Ok-open_as.ensures.honest honest in
+    let live = c.in-Ok.ensures.opened clean in
+    opens_own (image_at g.S.Start) (file_state c.in-Ok.conn) live.0 live.1 (c.in-Ok.ensures.found clean) c.args.how (c.in-Ok-open_as.ensures.tabled honest)
+    (c.in-Ok-open_as.ensures.whole honest)
+
+pub returns-in-Err-clause-fails : goal.returns-in-Err-clause-fails
+returns-in-Err-clause-fails g c =
+    some_weaker c.in-Err.left _ _
+    (λ it not. subst (λ f. FailsOver c.args.how (image_at g.S.Start) f it) (sym c.opening_fault.ensures)
+    (fails_unopened (image_at g.S.Start) c.args.how it c.in-Err.error not))
+    c.in-Err.ensures.left
+
+pub returns-in-Err-open_as-clause-fails : goal.returns-in-Err-open_as-clause-fails
+returns-in-Err-open_as-clause-fails g c =
+    fails_open (image_at g.S.Start) c.args.how c.in-Ok.conn (λ f. inl refl) c.in-Ok.ensures.opened c.in-Ok.ensures.found
+    (file_state c.in-Err-open_as.conn) c.into_store.result c.in-Err-open_as.fault c.in-Err-open_as.ensures.crash c.into_store.ensures.quiet.clean
+    c.into_store.ensures.quiet.outcomes c.into_store.ensures.sound c.in-Err-open_as.ensures.says c.in-Err-open_as.ensures.alone
+    c.in-Err-open_as.ensures.blank

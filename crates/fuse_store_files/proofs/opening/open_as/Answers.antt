@@ -55,3 +55,66 @@ pub returns-in-Fresh-clause-rows : goal.returns-in-Fresh-clause-rows
 returns-in-Fresh-clause-rows g c =
     rw c.in-Fresh.is (IfOk-weaker c.open_fresh.result _ _
     (λ k rows clean content at. (rows (stored_is_not_blank (state g.S.Store c.args.conn) content at)).begun clean content at) c.open_fresh.ensures.rows)
+
+pub returns-in-Existing-clause-tabled : goal.returns-in-Existing-clause-tabled
+returns-in-Existing-clause-tabled g c = IfOk-weaker c.open.result _ _ (λ k tabled honest ours. tabled honest) c.open.ensures.tabled
+
+pub returns-in-Existing-clause-whole : goal.returns-in-Existing-clause-whole
+returns-in-Existing-clause-whole g c = IfOk-weaker c.open.result _ _ (λ k whole honest ours. whole honest) c.open.ensures.whole
+
+pub returns-in-Existing-clause-says : goal.returns-in-Existing-clause-says
+returns-in-Existing-clause-says g c = IfErr-weaker c.open.result _ _ (λ r refused clean ours. refused.says clean) c.open.ensures.refused
+
+pub returns-in-Existing-clause-alone : goal.returns-in-Existing-clause-alone
+returns-in-Existing-clause-alone g c =
+    rw c.in-Existing.is (IfErr-weaker c.open.result _ _ (λ r refused outside ours same. refused.alone outside same) c.open.ensures.refused)
+
+pub returns-in-Existing-clause-absent : goal.returns-in-Existing-clause-absent
+returns-in-Existing-clause-absent g c outside ours none = c.open.ensures.absent outside none
+
+pub returns-in-Existing-clause-blank : goal.returns-in-Existing-clause-blank
+returns-in-Existing-clause-blank g c = rw c.in-Existing.is (IfErr-weaker c.open.result _ _ (λ r refused none. absurd none) c.open.ensures.refused)
+
+pub returns-in-Any-clause-tabled : goal.returns-in-Any-clause-tabled
+returns-in-Any-clause-tabled g c =
+    rw c.in-Any.is (IfOk-weaker c.open_or_create.result _ _ (λ k tabled honest ours. tabled honest (λ blank. ours blank.1)) c.open_or_create.ensures.tabled)
+
+pub returns-in-Any-clause-whole : goal.returns-in-Any-clause-whole
+returns-in-Any-clause-whole g c =
+    rw c.in-Any.is (IfOk-weaker c.open_or_create.result _ _ (λ k whole honest ours. whole honest (λ blank. ours blank.1)) c.open_or_create.ensures.whole)
+
+pub returns-in-Any-clause-says : goal.returns-in-Any-clause-says
+returns-in-Any-clause-says g c =
+    rw c.in-Any.is (IfErr-weaker c.open_or_create.result _ _ (λ r says clean ours. says clean (λ blank. ours blank.1)) c.open_or_create.ensures.says)
+
+pub returns-in-Any-clause-alone : goal.returns-in-Any-clause-alone
+returns-in-Any-clause-alone g c =
+    rw c.in-Any.is (IfErr-weaker c.open_or_create.result _ _ (λ r alone outside ours same. alone outside (λ blank. ours blank.1) same) c.open_or_create.ensures.alone)
+
+pub returns-in-Any-clause-absent : goal.returns-in-Any-clause-absent
+returns-in-Any-clause-absent g c = rw c.in-Any.is (λ outside ours none. c.open_or_create.ensures.absent outside (λ blank. ours blank.1) none)
+
+pub returns-in-Any-clause-blank : goal.returns-in-Any-clause-blank
+returns-in-Any-clause-blank g c = IfErr-weaker c.open_or_create.result _ _ (λ r outside made blank. outside blank) c.open_or_create.ensures.fault_blank
+
+pub returns-in-Fresh-clause-tabled : goal.returns-in-Fresh-clause-tabled
+returns-in-Fresh-clause-tabled g c =
+    rw c.in-Fresh.is (IfOk-weaker c.open_fresh.result _ _ (λ k tabled honest ours. tabled honest (λ blank. ours blank.1)) c.open_fresh.ensures.tabled)
+
+pub returns-in-Fresh-clause-whole : goal.returns-in-Fresh-clause-whole
+returns-in-Fresh-clause-whole g c =
+    rw c.in-Fresh.is (IfOk-weaker c.open_fresh.result _ _ (λ k whole honest ours. whole honest (λ blank. ours blank.1)) c.open_fresh.ensures.whole)
+
+pub returns-in-Fresh-clause-says : goal.returns-in-Fresh-clause-says
+returns-in-Fresh-clause-says g c =
+    rw c.in-Fresh.is (IfErr-weaker c.open_fresh.result _ _ (λ r says clean ours. says clean (λ blank. ours blank.1)) c.open_fresh.ensures.says)
+
+pub returns-in-Fresh-clause-alone : goal.returns-in-Fresh-clause-alone
+returns-in-Fresh-clause-alone g c =
+    rw c.in-Fresh.is (IfErr-weaker c.open_fresh.result _ _ (λ r alone outside ours same. alone outside (λ blank. ours blank.1) same) c.open_fresh.ensures.alone)
+
+pub returns-in-Fresh-clause-absent : goal.returns-in-Fresh-clause-absent
+returns-in-Fresh-clause-absent g c = rw c.in-Fresh.is (λ outside ours none. c.open_fresh.ensures.absent outside (λ blank. ours blank.1) none)
+
+pub returns-in-Fresh-clause-blank : goal.returns-in-Fresh-clause-blank
+returns-in-Fresh-clause-blank g c = IfErr-weaker c.open_fresh.result _ _ (λ r outside made blank. outside blank) c.open_fresh.ensures.fault_blank

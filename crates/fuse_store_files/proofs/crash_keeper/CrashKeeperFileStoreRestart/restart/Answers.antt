@@ -7,7 +7,7 @@ use Rattle.fuse_store.specs.Opening.Stored.{Second}
 use Rattle.fuse_store.specs.TableKeeper.{conn_of}
 use Rattle.fuse_store_files.specs.Crashing.{Crashes}
 use Rattle.fuse_store_files.proofs.Crashed.{reopened, was, found_left}
-use Rattle.fuse_store_files.proofs.Found.{wanting, was_for}
+use Rattle.fuse_store_files.proofs.Found.{wanting, has_some, was_for}
 use Rattle.fuse_store_files.proofs.crash_keeper.CrashKeeperFileStoreRestart.restart.Goals as goal
 
 pub returns-in-Err-clause-refused : goal.returns-in-Err-clause-refused
@@ -18,7 +18,7 @@ returns-in-Err-clause-refused g c =
       left = left;
       files = cr;
       fault = λ clean whole kept.
-          subst IsOutside (sym c.opening_fault.ensures) (wanting left c.in-Err.left c.in-Err.error (c.in-Err.ensures.cause kept) _ (cr.holds clean));
+          subst IsOutside (sym c.opening_fault.ensures) (wanting left c.in-Err.left c.in-Err.error (c.in-Err.ensures.cause kept) (has_some _ _ (cr.holds clean)));
     }
 
 pub returns-in-Ok-open-clause-reopened : goal.returns-in-Ok-open-clause-reopened
