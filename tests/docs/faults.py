@@ -62,6 +62,8 @@ FAULTS = [
     ("crates/lower/src/lib.rt", "act}", "act, more}", "crates/lower/README.md: it doesn't name `more`"),
     ("crates/lower/src/acts.rt", "A comment", "It Tells", "crates/lower/src/acts.rt, line 1: 'Tells': say reports, returns, says, shows"),
     ("crates/lower/specs/Acts.antt", "-- acts", "-- a front of it", "crates/lower/specs/Acts.antt, line 1: 'front': say prefix"),
+    ("crates/lower/specs/Acts.antt", "-- acts", "-- acts (own profile)",
+     "crates/lower/specs/Acts.antt, line 1: '(own profile': say (defined by this project"),
     ("crates/lower/specs/Acts.antt", "abbrev pub Meets", "abbrev pub Keeps",
      "docs/WORDS.md, line 3: `Meets`: crates/lower/specs/Acts.antt doesn't define it"),
     ("crates/lower/specs/Lib.antt", "pub Reads", "pub Meets", "docs/WORDS.md, line 3: `Meets`: crates/lower/specs/Lib.antt defines it too"),

@@ -19,6 +19,7 @@ WORDS = {
     "have to": "must",
     "in vain": "without effect",
     "what isn't there": "a missing ..",
+    "(own profile": "(defined by this project",
 }
 PATTERN = re.compile(rf"(?<![\w'])({'|'.join(map(re.escape, WORDS))})(?![\w'])", re.I)
 
