@@ -4,6 +4,7 @@ mod directories;
 mod encoding;
 mod framing;
 mod further;
+mod further_replies;
 mod negotiation;
 mod records;
 mod replies;
