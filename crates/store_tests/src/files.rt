@@ -4,13 +4,15 @@ use fuse_request::{InHeader, InitIn, Op, Request};
 use fuse_store::{
     Done, Keeper, NewStore, Restart, StoreFault, StoreKeeper, StoreKind, TableKeeper,
 };
-use fuse_store_files::{CrashKeeper, CrashMemory, Opening, StoreFiles, close_store, open_store};
+use fuse_store_files::{
+    CrashKeeper, CrashMemory, Crashing, Opening, StoreFiles, close_store, open_store,
+};
 use fuse_tree::Origin;
 use fuse_wire::{Id, Moment};
 use sqlite::{Alter, Connection, FileStore, Files, Options, Unknown};
 use sqlite_disk::Disk;
 use std::alloc::Global;
-use std::fs;
+use std::{fs, io};
 
 const START: Moment = Moment { secs: 0, nanos: 0 };
 
@@ -181,5 +183,21 @@ fn files_crash(rt: HostRuntime) -> Result<(), StoreFault> {
     let made = makes_directory(&mut keeper);
     let mut opened = crashed(rt.alloc(), keeper, options)?;
     assert_eq!(rt; [made, remembers(&mut opened)], [true; 2]);
+    Ok(())
+}
+
+#[test]
+fn unsynced_bytes_are_lost(rt: HostRuntime) -> io::Result<()> {
+    let mut file = CrashMemory::new(rt.alloc());
+    file.write_at(0, b"kept")?;
+    file.sync()?;
+    file.write_at(2, b"lost")?;
+    let written = file.bytes() == b"kelost".as_slice();
+    file.crash_once();
+    let lost = file.bytes() == b"kept".as_slice();
+    file.set_len(1)?;
+    file.crash_once();
+    let lost_again = file.bytes() == b"kept".as_slice();
+    assert_eq!(rt; [written, lost, lost_again], [true; 3]);
     Ok(())
 }
