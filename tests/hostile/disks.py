@@ -21,6 +21,7 @@ ROOM = 640 * 1024
 STEP = 24 * 1024
 REFUSED = re.compile(r"store: (Sql|NotAStore)")
 CAUSE = re.compile(r"/\S*(: No such file or directory|: Permission denied|: Read-only file system)")
+NOT_MADE = re.compile(r"/\S* can't be made: its folder may be on a read-only file system")
 NO_ROOM = re.compile(r"/\S*/store(-wal)?: no room left")
 COUNTS = re.compile(r"(\w+)=(\d+)")
 AT = ["--at", "1000"]
@@ -241,8 +242,8 @@ def bytes_of(path):
         return file.read()
 
 
-def is_refused(report, name, store, before=()):
-    """Opens a store that can't be written in each way: it must be refused, and stay as it is."""
+def is_refused(report, name, store, before=(), unmade=CAUSE):
+    """Opens a store that can't be written in each way: it is refused, and stays as it is. `unmade` is the cause of a new one's refusal."""
     held = bytes_of(store) if os.path.exists(store) else None
     serve = ["serve", "--db", store]
     for mode in (["replay", "--db", store, *AT, "-"], [*serve, "--fresh"], [*serve, "--resume"]):
@@ -250,7 +251,8 @@ def is_refused(report, name, store, before=()):
                              check=False)
         line = fault_of(ran_of(ran))
         report.saw(name, line)
-        is_right = ran.returncode == 3 and REFUSED.fullmatch(line) and CAUSE.fullmatch(cause_of(ran_of(ran)))
+        wanted = CAUSE if "--resume" in mode else unmade
+        is_right = ran.returncode == 3 and REFUSED.fullmatch(line) and wanted.fullmatch(cause_of(ran_of(ran)))
         report.check(f"{name}, {mode[0]}", is_right, f"status {ran.returncode}, {lines_of(ran_of(ran))}")
     after = bytes_of(store) if os.path.exists(store) else None
     report.check(f"{name}, its bytes", held == after, "they changed")
@@ -291,7 +293,7 @@ def read_only_mount(report, folder):
     try:
         subprocess.run(["mount", "-o", "remount,ro,bind", place], check=True)
         is_refused(report, "a read-only mount", f"{place}/store")
-        is_refused(report, "a read-only mount, and no store", f"{place}/other")
+        is_refused(report, "a read-only mount, and no store", f"{place}/other", unmade=NOT_MADE)
     finally:
         subprocess.run(["umount", "-l", place], check=False)
 

@@ -10,6 +10,8 @@ use std::{fmt, io};
 
 const NONE_THERE: &str = ": No such file or directory";
 
+const NOT_MADE: &str = " can't be made: its folder may be on a read-only file system";
+
 // The first bytes of a database of SQLite.
 const DATABASE: [u8; 16] = *b"SQLite format 3\0";
 
@@ -121,7 +123,7 @@ fn say_unopened(rt: &HostRuntime, file: &str, writes: bool) {
     }
     match store_refusal(rt, file, writes) {
         Some(NONE_THERE) if writes => {
-            say(rt, file, making_refusal(rt, file).unwrap_or(NONE_THERE))
+            say(rt, file, making_refusal(rt, file).unwrap_or(NOT_MADE))
         }
         Some(text) => say(rt, file, text),
         None => say_unopened_beside(rt, file, writes),
