@@ -82,11 +82,19 @@ static bool make_reserve(struct supervisor *s, long long size) {
   return is_there;
 }
 
+static void be_full(struct supervisor *s) {
+  s->is_full = true;
+  s->report->is_full = 1;
+  say("%s has no room left: calls that take room wait until there is some", folder_of(s));
+}
+
+/* Without a reserve a full disk takes no writes. A log that they fill couldn't be copied, and then no request is committed. */
 void keep_reserve(struct supervisor *s) {
   long long size = share_of_disk(s, LARGEST_RESERVE);
   if (s->has_reserve || s->is_full) return;
   if (free_room(s) >= size + size / 2) make_reserve(s, size);
   else s->has_reserve = faccessat(s->folder, name_beside(s, RESERVE_SUFFIX), F_OK, AT_SYMLINK_NOFOLLOW) == 0;
+  if (!s->has_reserve && free_room(s) < LEAST_ROOM) be_full(s);
 }
 
 /* Makes a reserve of the room that there is. A file system may keep some for itself, which counts as free. */
@@ -127,9 +135,7 @@ static void keep_back_request(const struct supervisor *s) {
 bool use_reserve(struct supervisor *s) {
   bool was_full = s->is_full, gave = give_up_reserve(s);
   if (was_full && !gave) keep_back_request(s);
-  s->is_full = true;
-  s->report->is_full = 1;
-  if (!was_full) say("%s has no room left: calls that take room wait until there is some", folder_of(s));
+  if (!was_full) be_full(s);
   return gave;
 }
 

@@ -6,7 +6,7 @@ from docs.markdown import prose_of, text_of
 
 WORDS_PAGE = "docs/WORDS.md"
 # From so many meanings on a name must have a row in WORDS.md.
-MANY = 3
+MANY = 2
 
 HEAD = re.compile(r"\s*(?:abbrev pub|unfoldable pub|pub record|pub data) ([^\s:({]+)")
 # A line that ends a definition: a comment or another declaration.

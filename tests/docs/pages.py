@@ -71,6 +71,51 @@ def check_code(tree):
     tree.check(blocks, f"{tree.name_of(page)}: it has no block of code")
 
 
+def pattern_of(line):
+    """The pattern of a line in which `..` stands for what is cut."""
+    return re.compile(".*".join(re.escape(part.strip()) for part in line.split("..")))
+
+
+def find_lines(lines, patterns):
+    """Where the lines of these patterns stand, in their order: the first one once, each other one after it. None where they don't."""
+    places = [at for at, line in enumerate(lines) if patterns[0].fullmatch(line)]
+    if len(places) != 1:
+        return None
+    for pattern in patterns[1:]:
+        after = (at for at in range(places[-1] + 1, len(lines)) if pattern.fullmatch(lines[at]))
+        places.append(next(after, None))
+        if places[-1] is None:
+            return None
+    return places
+
+
+def try_change(tree, name, change):
+    """Tries one file's part of a change: its lines that go, or stay as context, stand in the file, and those that come don't."""
+    path = tree.top / name
+    if not path.is_file():
+        tree.check(False, f"CONTRIBUTING.md: {name} is missing")
+        return
+    lines = [line.strip() for line in text_of(path).splitlines()]
+    before = [line[1:] for line in change if line[0] != "+"]
+    found = before and find_lines(lines, [pattern_of(line) for line in before])
+    first = before[0].strip() if before else "nothing"
+    tree.check(found, f"CONTRIBUTING.md: {name} doesn't have, once and in this order, the lines that begin with {first}")
+    for line in change:
+        if line[0] == "+":
+            there = any(pattern_of(line[1:]).fullmatch(it) for it in lines)
+            tree.check(not there, f"CONTRIBUTING.md: {name} has already: {line[1:].strip()}")
+
+
+def check_change(tree):
+    """The change of CONTRIBUTING.md can be made in the files that it names."""
+    blocks = blocks_of(text_of(tree.top / "CONTRIBUTING.md"), "diff")
+    for block, _ in blocks:
+        for part in re.split(r"^\+\+\+ ", block, flags=re.M)[1:]:
+            name, *change = [line for line in part.splitlines() if line]
+            try_change(tree, name, change)
+    tree.check(blocks, "CONTRIBUTING.md: it has no change (a block ```diff)")
+
+
 def check_theorems(tree):
     """The theorems are worded once, in HEADLINE.md. Each quotation of another page is one of them, word for word."""
     theorems = [text for _, text in quotations_of(text_of(tree.top / "docs/HEADLINE.md"))]

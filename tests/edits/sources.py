@@ -58,12 +58,13 @@ def end_of(lines, start, ends):
 
 def functions_in(module, lines, homes):
     """The functions of a source by the prover's names, with their first and last lines. A method's name begins with the module of its
-    type. The declarations of a trait are left out."""
+    type, or of its `impl` where that is one of a trait. The declarations of a trait are left out."""
     owner, is_trait = "", False
     for at, line in enumerate(lines):
         if re.match(r"(unsafe )?impl\b|(pub )?trait\b", line):
             of_type, of_trait = owner_of(line)
-            owner, is_trait = f"{homes.get(of_type, module)}{of_type}{of_trait}::", "impl" not in line
+            home = module if of_trait else homes.get(of_type, module)
+            owner, is_trait = f"{home}{of_type}{of_trait}::", "impl" not in line
         found = FUNCTION.match(line)
         if found and not (found[1] and is_trait):
             end = end_of(lines, at, lambda it: it in (found[1] + "}", found[1] + "{}"))

@@ -10,6 +10,12 @@ has_value() {
   [ "$(value_of "$1" "$3")" = "$2" ]
 }
 
+# Whether the one death of a mount is in its list, and the state has the time of that restart.
+has_time_of_restart() {
+  local listed
+  listed=$(sed -n 's/.*restart=//p' store-mount.log) && [ -n "$listed" ] && [ "$(printf %.3f "$(value_of restart_longest store)")" = "$listed" ]
+}
+
 # The state of a mount by all paths of its store and by its mountpoint, as words and as JSON.
 shows_status() {
   local server operand
@@ -29,7 +35,7 @@ shows_status() {
   kill -KILL "$server" && await 60 has_other_server "$server" && await 60 has_value state serving store || return 1
   expect "the second server" has_value servers 2 store && expect "one death" has_value deaths 1 store || return 1
   expect "its signal" has_value last_death_signal 9 store || return 1
-  expect "the time of the restart" [ "$(value_of restart_longest store)" = "$(sed -n 's/.*restart=//p' store-mount.log)" ] || return 1
+  expect "the time of the restart" await 60 has_time_of_restart || return 1
   expect "in words" [ "$("$program" --status mnt | sed -n 's/^servers *//p')" = 2 ] || return 1
   expect "among all mounts" [ "$("$program" --status | grep -cxE "mountpoint +$PWD/mnt")" -eq 1 ] || return 1
   unmount_and_end mnt || return 1

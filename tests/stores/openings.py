@@ -331,6 +331,27 @@ def try_counted(tally, room):
         tally.compare(f"counters above what is there, {' '.join(words[:1])}", [0], run(path, words)[1])
 
 
+def many_nodes(number):
+    """A store with so many nodes, the root and regular files in it, of which its `meta` counts one."""
+    row = "n, 33188, 0, 0, 0, 0, 0, 0, 0, 0, 0, 0, 1, 0"
+    return (f"WITH RECURSIVE more (n) AS (SELECT 2 UNION ALL SELECT n + 1 FROM more WHERE n < {number}) INSERT INTO nodes SELECT {row} FROM more",
+            f"UPDATE meta SET v = {number + 1} WHERE k = 2")
+
+
+def try_many(tally, room):
+    """A mount begins of a store with as many nodes as its profile allows. One with more is refused then and left as it is, so that it can
+    still be read."""
+    _, fresh, _, store, _ = OPENINGS
+    for number, ended in ((65536, [0]), (65537, [3, "store: Damaged"])):
+        path = f"{room}/many-{number}"
+        make(Case("many", of_version(2), many_nodes(number), ""), path, False)
+        before = content_of(path)
+        tally.compare(f"{number} nodes, a mount begins", ended, run(path, fresh)[1])
+        if ended != [0]:
+            tally.compare(f"{number} nodes: its content", before, content_of(path))
+        tally.compare(f"{number} nodes, then store", [0], run(path, store)[1])
+
+
 def try_everyday(tally, room):
     """An everyday store opens, up to the last block in use, and keeps its profile and its capacity. No file is there, so that no block is
     in use after a mount begins."""
@@ -430,6 +451,7 @@ def main():
         try_copies(tally, f"{folder}/opened")
         try_index(tally, f"{folder}/opened")
         try_counted(tally, f"{folder}/opened")
+        try_many(tally, f"{folder}/opened")
         try_values(tally, f"{folder}/opened")
         try_blocks(tally, f"{folder}/opened")
         try_everyday(tally, f"{folder}/opened")

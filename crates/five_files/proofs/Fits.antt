@@ -12,7 +12,7 @@ use Rattle.fuse_request.specs.declared.request.InitIn.{InitIn}
 use Rattle.fuse_request.specs.declared.request.ReadIn.{ReadIn}
 use Rattle.fuse_request.specs.Act.{Act, Asked}
 use Rattle.fuse_request.specs.Act as acts
-use Rattle.fuse_answer.specs.Entries.{Entry}
+use Rattle.fuse_answer.specs.Entries.{DirectoryEntry}
 use Rattle.fuse_answer.specs.FurtherAnswers.{statfs_bytes}
 use Rattle.fuse_answer.specs.Laws.{RecordSizes}
 use Rattle.fuse_answer.specs.Said.{Said, FitsAnswer}
@@ -90,7 +90,7 @@ read_fits asked n =
     chosen (nat_lt 1048576 asked.size) _ _ (refused _) (λ few.
     given _ (omega (arith, ltb-false 1048576 asked.size few, length-take asked.size (drop asked.offset (content_of n))))))))
 
-list_fits : RecordSizes → (es : List Entry) (size : ℕ) → size ≤ 1048576 → FitsAnswer (list es size)
+list_fits : RecordSizes → (es : List DirectoryEntry) (size : ℕ) → size ≤ 1048576 → FitsAnswer (list es size)
 list_fits sizes es size few =
     chosen (not (first_fits es size)) _ _ (refused _) (λ first. given _ (omega (arith, few, sizes.5 (fitting es size), fitting_fits es size)))
 
@@ -135,7 +135,7 @@ at_fits sizes (acts.Release x) n = release_fits x.fh n
 at_fits sizes (acts.OpenDir flags open_flags) n = chosen (not (is_dir n)) _ _ (refused _) (λ dir. opened_fits sizes n)
 at_fits sizes (acts.ReadDir asked) n = read_dir_fits sizes asked n
 at_fits sizes (acts.ReleaseDir x) n = release_dir_fits x.fh n
-at_fits sizes (acts.Unsupported opcode body) n = further_fits opcode body n
+at_fits sizes (acts.Further opcode body) n = further_fits opcode body n
 at_fits sizes _ n = refused _
 
 for_fits : RecordSizes → (act : Act) (o : Option Node) → FitsAnswer (said_for act o)

@@ -8,7 +8,7 @@ use Rattle.fuse_keeper.specs.History.{Entry, entry_id, History, after, has, add,
 use Rattle.fuse_keeper.specs.Stands.{Standing}
 use Rattle.fuse_keeper.specs.KeeperState.{KeeperState}
 use Rattle.fuse_session.specs.Settling.{Mark, replies}
-use Rattle.fuse_session.specs.Processed.{Timed, kept_in, entries_at, answered, answers}
+use Rattle.fuse_session.specs.Processed.{Timed, kept_in, entries_at, answered, answers_to}
 use Rattle.fuse_session.specs.Exchange.{Exchange, HoldsAt, Lived}
 use Rattle.five_files.specs.Asking.{said, agreed_after, serves_further}
 use Rattle.five_files.specs.TheFiles.{the_files}
@@ -47,7 +47,7 @@ grown_parts h n xs =
 
 -- what was answered was worked on
 few_marks : (s : Option Settings) (g : History) (worked : List Timed) (marks : List Mark) (later : List (List ℕ))
-    → answers the_files s g worked ≡ replies marks ++ later → length marks ≤ length worked
+    → answers_to the_files s g worked ≡ replies marks ++ later → length marks ≤ length worked
 few_marks s g worked marks later e =
     omega (arith, ap length e, length-append (replies marks) later, length-map marks (λ (m : Mark). m.reply), length-map worked (answered the_files s g))
 

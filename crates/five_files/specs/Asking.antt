@@ -142,7 +142,7 @@ said_at (acts.Rmdir name) n = refuse erofs
 said_at (acts.Rename new_dir old_name new_name) n = refuse erofs
 said_at (acts.Write fh offset write_flags lock_owner flags payload) n = refuse erofs
 said_at (acts.Rename2 new_dir flags old_name new_name) n = refuse erofs
-said_at (acts.Unsupported opcode body) n = further opcode body n
+said_at (acts.Further opcode body) n = further opcode body n
 said_at _ n = refuse enosys
 
 abbrev pub said_for : Act → Option Node → Said

@@ -86,7 +86,7 @@ fn answer_at(alloc: Global, op: &Op<'_>, node: Node) -> Result<Answer, Memory>
         | Op::Rename { .. }
         | Op::Rename2 { .. }
         | Op::Write { .. } => Ok(Answer::refusal(alloc, EROFS)),
-        Op::Unsupported { opcode, body } => further(alloc, *opcode, body, node),
+        Op::Further { opcode, body } => further(alloc, *opcode, body, node),
         _ => Ok(Answer::refusal(alloc, Errno::ENOSYS)),
     }
 }

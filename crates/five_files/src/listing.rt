@@ -1,6 +1,6 @@
 // READDIR.
 ghost use Rattle.std.specs.Prelude.{◌≡◌, ◌≤◌, All, map, drop, IfOk};
-ghost use Rattle.fuse_answer.specs.Entries.{entry_of, IsNamed};
+ghost use Rattle.fuse_answer.specs.Entries.{directory_entry_of, IsNamed};
 ghost use Rattle.five_files.specs.Listing as listing;
 ghost use Rattle.five_files.specs.Listing.{file_entry, link_entry, entries, entries_following};
 ghost use Rattle.five_files.specs.declared.limits.TheConstants.{MAX_READ as max_read};
@@ -20,7 +20,7 @@ const REGULAR_FILE: u32 = 8;
 const SYMBOLIC_LINK: u32 = 10;
 
 fn file_dirent<'a>(node: Node, cookie: u64) -> Dirent<'a>
-    ensures { entry_of result ≡ file_entry node cookie }
+    ensures { directory_entry_of result ≡ file_entry node cookie }
 {
     Dirent {
         ino: node.number(),
@@ -31,7 +31,7 @@ fn file_dirent<'a>(node: Node, cookie: u64) -> Dirent<'a>
 }
 
 fn link_dirent<'a>(node: Node, cookie: u64) -> Dirent<'a>
-    ensures { entry_of result ≡ link_entry node cookie }
+    ensures { directory_entry_of result ≡ link_entry node cookie }
 {
     Dirent {
         ino: node.number(),
@@ -42,7 +42,8 @@ fn link_dirent<'a>(node: Node, cookie: u64) -> Dirent<'a>
 }
 
 fn dots<'a>(cookie: u64, name: &'a [u8]) -> Dirent<'a>
-    ensures { entry_of result ≡ record { ino = 1; off = cookie; kind = 4; name = name.now } }
+    ensures { directory_entry_of result
+        ≡ record { ino = 1; off = cookie; kind = 4; name = name.now } }
 {
     Dirent {
         ino: 1,
@@ -54,8 +55,8 @@ fn dots<'a>(cookie: u64, name: &'a [u8]) -> Dirent<'a>
 
 // All entries. The offset of each is its place, counted from 1.
 fn all_dirents<'a>() -> [Dirent<'a>; 6]
-    ensures entries { map entry_of result ≡ entries }
-    ensures named { All (λ d. IsNamed (entry_of d)) result }
+    ensures entries { map directory_entry_of result ≡ entries }
+    ensures named { All (λ d. IsNamed (directory_entry_of d)) result }
 {
     [
         dots(1, b"."),
@@ -78,9 +79,10 @@ fn after<'a, 'b>(dirents: &'b [Dirent<'a>], offset: u64) -> &'b [Dirent<'a>]
 // As many entries as fit.
 #[tactic(auto, using(crate::proofs::Prefixes::prefix_listed))]
 fn list_prefix(alloc: Global, dirents: &[Dirent<'_>], size: u32) -> Result<Answer, Memory>
-    requires named { All (λ d. IsNamed (entry_of d)) dirents.now }
+    requires named { All (λ d. IsNamed (directory_entry_of d)) dirents.now }
     requires size { size ≤ max_read }
-    ensures { IfOk result (λ answer. answer ≡ listing.list (map entry_of dirents.now) size) }
+    ensures { IfOk result
+        (λ answer. answer ≡ listing.list (map directory_entry_of dirents.now) size) }
 {
     match pack(alloc, dirents, size) {
         Ok(packed) => Ok(Answer::success(packed.body)),

@@ -19,9 +19,9 @@ use Rattle.fuse_answer.specs.Entries.{IsListing}
 use Rattle.fuse_answer.specs.PlusEntries.{IsPlusListing}
 use Rattle.fuse_answer.specs.Wire.{negated, wire, wire_head}
 use Rattle.fuse_answer.specs.Replies.{Kind, AnEntry, ACreate, Attributes, AnOpen, AWrite, AStatfs, AnXattr, AnLseek, AnInit, Data, Directory, DirectoryPlus}
-use Rattle.fuse_answer.specs.Replies.{Nothing, Unknown, kind_of, size_of, most_of, Content, of_entry, of_create, of_attributes, of_open, of_write, of_statfs}
-use Rattle.fuse_answer.specs.Replies.{of_xattr, of_lseek, of_init, of_data, of_directory, of_directory_plus, of_nothing, of_unknown, content, kind_is}
-use Rattle.fuse_answer.specs.Replies.{content_parts, IsProper, Holds, Told, told, IsAtMost, IsOf, Answers, IsOtherThan, IsOver, IsNoListing, BodyFault}
+use Rattle.fuse_answer.specs.Replies.{Nothing, Unknown, kind_of, size_of, most_of, ReplyContent, of_entry, of_create, of_attributes, of_open, of_write, of_statfs}
+use Rattle.fuse_answer.specs.Replies.{of_xattr, of_lseek, of_init, of_data, of_directory, of_directory_plus, of_nothing, of_unknown, reply_content, kind_is}
+use Rattle.fuse_answer.specs.Replies.{reply_parts, IsProper, HoldsBody, Told, told_reply, IsAtMost, IsOfOpcode, Answers, IsOtherThan, IsOver, IsNoListing, BodyFault}
 use Rattle.fuse_answer.specs.Replies.{errno_in, IsMeasured, FirstFault}
 
 -- a body of a kind by its places
@@ -56,7 +56,7 @@ entry_at b = record {
   attr = attr_at 40 b;
 }
 
-content_at : Kind → List ℕ → Content
+content_at : Kind → List ℕ → ReplyContent
 content_at AnEntry b = of_entry (entry_at b)
 content_at ACreate b =
     of_create (record {
@@ -103,7 +103,7 @@ content_at Unknown b = of_unknown b
 all : (xs b : List ℕ) → Lays (bytes xs ∷ []) b → b ≡ xs
 all xs b h = h.1 ∙ ap (λ (x : List ℕ). xs ++ x) h.2 ∙ append-nil xs
 
-content_is : LayoutsStand → (c : Content) (b : List ℕ) → Lays (content_parts c) b → IsProper c → content_at (kind_is c) b ≡ c
+content_is : LayoutsStand → (c : ReplyContent) (b : List ℕ) → Lays (reply_parts c) b → IsProper c → content_at (kind_is c) b ≡ c
 unfolding content_at entry_at attr_at
 content_is laws (of_entry e) b h proper =
     let p = laws.stands (entry_parts e) b h in
@@ -195,7 +195,7 @@ content_is laws of_nothing b h proper = refl
 content_is laws (of_unknown xs) b h proper = ap of_unknown (all xs b h)
 
 -- a body of a fixed size has it
-sized : LayoutsStand → (c : Content) (b : List ℕ) → Lays (content_parts c) b → IsOtherThan (size_of (kind_is c)) (length b) → ⊥
+sized : LayoutsStand → (c : ReplyContent) (b : List ℕ) → Lays (reply_parts c) b → IsOtherThan (size_of (kind_is c)) (length b) → ⊥
 sized laws (of_entry e) b h other = other (laws.len (entry_parts e) b h)
 sized laws (of_create c) b h other = other (laws.len (create_parts c) b h)
 sized laws (of_statfs s) b h other = other (laws.len (statfs_parts s) b h)
@@ -211,7 +211,7 @@ sized laws (of_directory_plus xs) b h other = other
 sized laws of_nothing b h other = other (ap length h)
 sized laws (of_unknown xs) b h other = other
 
-listed : (c : Content) (b : List ℕ) → Lays (content_parts c) b → IsProper c → IsNoListing (kind_is c) b → ⊥
+listed : (c : ReplyContent) (b : List ℕ) → Lays (reply_parts c) b → IsProper c → IsNoListing (kind_is c) b → ⊥
 listed (of_directory xs) b h proper bad = bad (subst IsListing (sym (all xs b h)) proper)
 listed (of_directory_plus xs) b h proper bad = bad (subst IsPlusListing (sym (all xs b h)) proper)
 listed (of_entry e) b h proper bad = bad
@@ -233,7 +233,7 @@ not_over None len within over = over
 not_over (Some most) len within over = absurd (omega (arith, within, over))
 
 -- what is held has no fault
-held : LayoutsStand → (opcode size : ℕ) (c : Content) (b : List ℕ) (f : BadAnswer) → Holds (kind_of opcode size) c b
+held : LayoutsStand → (opcode size : ℕ) (c : ReplyContent) (b : List ℕ) (f : BadAnswer) → HoldsBody (kind_of opcode size) c b
     → IsAtMost (most_of opcode size) (length b) → BodyFault opcode size b f → ⊥
 held laws opcode size c b BodyLength h within (inl other) =
     sized laws c b h.laid (subst (λ (k : Kind). IsOtherThan (size_of k) (length b)) (sym h.of_kind) other)
@@ -252,7 +252,7 @@ record HasPlaces (t : Told) (body m : List ℕ) : Type 0 where
   pub unique : number_of 8 (drop 8 m) ≡ t.unique
   pub body_is : drop 16 m ≡ body
 
-few_of : (opcode size : ℕ) (t : Told) (body : List ℕ) → IsOf opcode size t body → t.errno ≤ 511
+few_of : (opcode size : ℕ) (t : Told) (body : List ℕ) → IsOfOpcode opcode size t body → t.errno ≤ 511
 few_of opcode size t body (inl h) = omega (arith, h.0)
 few_of opcode size t body (inr h) = h.1
 
@@ -284,7 +284,7 @@ told_at opcode size m = record {
   content = if errno_in m == 0 then content_at (kind_of opcode size) (drop 16 m) else of_nothing;
 }
 
-content_of : LayoutsStand → (opcode size : ℕ) (t : Told) (body : List ℕ) → IsOf opcode size t body
+content_of : LayoutsStand → (opcode size : ℕ) (t : Told) (body : List ℕ) → IsOfOpcode opcode size t body
     → (if t.errno == 0 then content_at (kind_of opcode size) body else of_nothing) ≡ t.content
 content_of laws opcode size t body (inl h) =
     let held = h.1 in
@@ -297,11 +297,11 @@ is_at laws opcode size t m a =
     let p = has_places laws opcode size t m a in
     rw (p.unique, p.errno, p.body_is, content_of laws opcode size t a.body a.said) refl
 
-of_error : (opcode size : ℕ) (t : Told) (body : List ℕ) → IsOf opcode size t body → t.errno ≢ 0 → body ≡ []
+of_error : (opcode size : ℕ) (t : Told) (body : List ℕ) → IsOfOpcode opcode size t body → t.errno ≢ 0 → body ≡ []
 of_error opcode size t body (inl h) some = absurd (some h.0)
 of_error opcode size t body (inr h) some = h.3
 
-of_success : LayoutsStand → (opcode size : ℕ) (t : Told) (body : List ℕ) (f : BadAnswer) → IsOf opcode size t body → t.errno ≡ 0 → BodyFault opcode size body f → ⊥
+of_success : LayoutsStand → (opcode size : ℕ) (t : Told) (body : List ℕ) (f : BadAnswer) → IsOfOpcode opcode size t body → t.errno ≡ 0 → BodyFault opcode size body f → ⊥
 of_success laws opcode size t body f (inl h) none fault = held laws opcode size t.content body f h.1 h.2 fault
 of_success laws opcode size t body f (inr h) none fault = h.0 none
 
@@ -321,10 +321,10 @@ no_fault laws opcode size t m BadDirent a fault =
     of_success laws opcode size t a.body BadDirent a.said (sym p.errno ∙ fault.1) (subst (λ (x : List ℕ). BodyFault opcode size x BadDirent) p.body_is fault.2)
 
 -- what a reader answers is the one answer, where there is one
-pub only_one : LayoutsStand → (opcode size : ℕ) (m : List ℕ) (r : Result Reply BadAnswer) → IfOk r (λ q. Answers opcode size (told q) m)
+pub only_one : LayoutsStand → (opcode size : ℕ) (m : List ℕ) (r : Result Reply BadAnswer) → IfOk r (λ q. Answers opcode size (told_reply q) m)
     → IfErr r (λ f. FirstFault opcode size m f)
-    → (t : Told) → Answers opcode size t m → IsOkAnd r (λ q. told q ≡ t)
-only_one laws opcode size m (Ok q) found fault t a = sym (is_at laws opcode size (told q) m found) ∙ is_at laws opcode size t m a
+    → (t : Told) → Answers opcode size t m → IsOkAnd r (λ q. told_reply q ≡ t)
+only_one laws opcode size m (Ok q) found fault t a = sym (is_at laws opcode size (told_reply q) m found) ∙ is_at laws opcode size t m a
 only_one laws opcode size m (Err f) found fault t a = absurd (no_fault laws opcode size t m f a fault)
 
 regroup : (a b c d : List ℕ) → (a ++ (b ++ (c ++ []))) ++ d ≡ a ++ (b ++ (c ++ d))
@@ -333,7 +333,7 @@ regroup a b c d =
 
 -- what is said at the places is answered
 pub answered : NumbersRead → (opcode size : ℕ) (t : Told) (m : List ℕ) → IsBytes m → 16 ≤ length m → number_of 4 m ≡ length m → t.errno ≡ errno_in m
-    → t.unique ≡ number_of 8 (drop 8 m) → IsOf opcode size t (drop 16 m) → Answers opcode size t m
+    → t.unique ≡ number_of 8 (drop 8 m) → IsOfOpcode opcode size t (drop 16 m) → Answers opcode size t m
 unfolding wire wire_head
 answered laws opcode size t m fits long len errno unique said =
     let q0 = laws.prefix 4 m (omega (arith, long)) fits in
@@ -362,11 +362,11 @@ body_fault opcode size m LenDiffers measured e h = absurd h
 body_fault opcode size m ErrorRange measured e h = absurd h
 body_fault opcode size m BodyAfterError measured e h = absurd h
 
-proper_of : (opcode size : ℕ) (t : Told) (body : List ℕ) → IsOf opcode size t body → IsProper t.content
+proper_of : (opcode size : ℕ) (t : Told) (body : List ℕ) → IsOfOpcode opcode size t body → IsProper t.content
 proper_of opcode size t body (inl h) = h.1.proper
 proper_of opcode size t body (inr h) = subst IsProper (sym h.2) tt
 
 -- the body that was read is proper
-pub proper : (opcode size : ℕ) (m : List ℕ) (r : Result Reply BadAnswer) → IfOk r (λ q. Answers opcode size (told q) m) → IfOk r (λ q. IsProper (content q.body))
-proper opcode size m (Ok q) found = proper_of opcode size (told q) found.body found.said
+pub proper : (opcode size : ℕ) (m : List ℕ) (r : Result Reply BadAnswer) → IfOk r (λ q. Answers opcode size (told_reply q) m) → IfOk r (λ q. IsProper (reply_content q.body))
+proper opcode size m (Ok q) found = proper_of opcode size (told_reply q) found.body found.said
 proper opcode size m (Err f) found = tt

@@ -7,7 +7,7 @@ use Rattle.fuse_wire.specs.Layout.{Part, number, unused, text, bytes, Lays, HasF
 use Rattle.fuse_wire.specs.Laws.{NumbersRead, LayoutsStand}
 use Rattle.fuse_wire.specs.Written.{AllFit}
 use Rattle.fuse_answer.specs.inner.NoText.{HasNoText}
-use Rattle.fuse_answer.specs.Bodies.{header_parts, header_bytes, attr_parts, entry_parts, entry_bytes}
+use Rattle.fuse_answer.specs.Bodies.{out_header_parts, header_bytes, attr_parts, entry_parts, entry_bytes}
 use Rattle.fuse_answer.specs.Laws.{BeginsWithLen}
 use Rattle.fuse_answer.specs.Wire.{negated, wire, wire_head}
 use Rattle.fuse_answer.specs.declared.records.OutHeader.{OutHeader}
@@ -25,9 +25,9 @@ on_ok (Ok x) P Q f h = f h
 on_ok (Err e) P Q f h = tt
 
 -- the bytes of a header are laid out as it is
-pub laid_header : LayoutsStand → (h : OutHeader) (body : List ℕ) → body ≡ header_bytes h → HasForm (header_parts h) → Lays (header_parts h) body
+pub laid_header : LayoutsStand → (h : OutHeader) (body : List ℕ) → body ≡ header_bytes h → HasForm (out_header_parts h) → Lays (out_header_parts h) body
 unfolding header_bytes
-laid_header laws h body e f = subst (Lays (header_parts h)) (sym e) (laws.formed (header_parts h) f)
+laid_header laws h body e f = subst (Lays (out_header_parts h)) (sym e) (laws.formed (out_header_parts h) f)
 
 -- parts that have a form, one after the other
 pub has-append : (ps qs : List Part) → HasForm ps → HasForm qs → HasForm (ps ++ qs)

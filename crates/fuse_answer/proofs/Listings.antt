@@ -8,9 +8,9 @@ use Rattle.std.specs.Option.{option_map_or}
 use Rattle.fuse_wire.specs.Bytes.{number_of, IsBytes}
 use Rattle.fuse_wire.specs.Layout.{Part, number, unused, bytes, Lays, Placed, widths}
 use Rattle.fuse_wire.specs.Laws.{LayoutsStand}
-use Rattle.fuse_answer.specs.Entries.{Entry, padding, dirent_parts, StandsBefore, Lists, IsListing, entry_len}
+use Rattle.fuse_answer.specs.Entries.{DirectoryEntry, padding, dirent_parts, StandsBefore, Lists, IsListing, entry_len}
 use Rattle.fuse_answer.specs.PlusEntries.{PlusLists, IsPlusListing}
-use Rattle.fuse_answer.specs.FirstEntry.{name_len, entry_at, leading_entry, entries_by}
+use Rattle.fuse_answer.specs.FirstEntry.{name_len, directory_entry_at, leading_entry, entries_by}
 
 -- a payload that ends what is laid out
 all_bytes : (xs b : List ℕ) → Lays (bytes xs ∷ []) b → b ≡ xs
@@ -20,7 +20,7 @@ bytes_laid : (xs : List ℕ) → Lays (bytes xs ∷ []) xs
 bytes_laid xs = ([], sym (append-nil xs), refl)
 
 -- an entry that stands first is read there
-pub leading_back : LayoutsStand → (e : Entry) (rest b : List ℕ) → StandsBefore e rest b → leading_entry b ≡ Some (e, rest)
+pub leading_back : LayoutsStand → (e : DirectoryEntry) (rest b : List ℕ) → StandsBefore e rest b → leading_entry b ≡ Some (e, rest)
 leading_back laws e rest b s =
     let n : ℕ = length e.name in
     let ps : List Part = dirent_parts e ++ bytes rest ∷ [] in
@@ -81,7 +81,7 @@ leading_laid laws b ino off n kind name rest fits long ino_is off_is n_is kind_i
     }
 
 -- the tests of leading_entry, and what follows from them
-by_tests : (a c d f : Bool) (x : Entry × List ℕ)
+by_tests : (a c d f : Bool) (x : DirectoryEntry × List ℕ)
     → ((if a then None else if c then None else if d then None else if f then None else Some x) ≡ None)
     ⊎ ((a ≡ false) × ((if a then None else if c then None else if d then None else if f then None else Some x) ≡ Some x))
 by_tests true c d f x = inl refl
@@ -91,10 +91,10 @@ by_tests false false false true x = inl refl
 by_tests false false false false x = inr (refl, refl)
 
 -- no entry is read, or one that is not empty
-pub leading_cases : (b : List ℕ) → (leading_entry b ≡ None) ⊎ ((p : Entry × List ℕ) × (leading_entry b ≡ Some p) × (length p.1 < length b))
+pub leading_cases : (b : List ℕ) → (leading_entry b ≡ None) ⊎ ((p : DirectoryEntry × List ℕ) × (leading_entry b ≡ Some p) × (length p.1 < length b))
 leading_cases b =
     elim (by_tests (nat_lt (length b) 24) (name_len b == 0) (nat_lt 255 (name_len b)) (nat_lt (length b) (entry_len (name_len b)))
-    (entry_at b, drop (entry_len (name_len b)) b)) [
+    (directory_entry_at b, drop (entry_len (name_len b)) b)) [
       | inl none ↦ inl none
       | inr some ↦ (let long : 24 ≤ length b = ltb-false (length b) 24 some.0 in inr (_, some.1, omega (arith, long, length-drop (entry_len (name_len b)) b)))
     ]
@@ -115,69 +115,69 @@ entries_more (suc n) zero b few many = entries_none (suc n) b (leading_empty b m
 entries_more (suc n) (suc m) b few many =
     elim (leading_cases b) [
       | inl none ↦ rw none refl
-      | inr some ↦ rw some.1 (ap (λ (es : List Entry). some.0.0 ∷ es) (entries_more n m some.0.1 (omega (arith, some.2, few)) (omega (arith, some.2, many))))
+      | inr some ↦ rw some.1 (ap (λ (es : List DirectoryEntry). some.0.0 ∷ es) (entries_more n m some.0.1 (omega (arith, some.2, few)) (omega (arith, some.2, many))))
     ]
 
-leading_shorter : (e : Entry) (rest b : List ℕ) → leading_entry b ≡ Some (e, rest) → length rest < length b
+leading_shorter : (e : DirectoryEntry) (rest b : List ℕ) → leading_entry b ≡ Some (e, rest) → length rest < length b
 leading_shorter e rest b is =
     elim (leading_cases b) [
-      | inl none ↦ (let no : ◌≡◌ {A = Option (Entry × List ℕ)} None (Some (e, rest)) = sym none ∙ is in absurd cc)
-      | inr some ↦ (let same : ◌≡◌ {A = Option (Entry × List ℕ)} (Some some.0) (Some (e, rest)) = sym some.1 ∙ is in
-          let follows : some.0.1 ≡ rest = ap (λ (o : Option (Entry × List ℕ)). option_map_or (λ p. p.1) o []) same in
+      | inl none ↦ (let no : ◌≡◌ {A = Option (DirectoryEntry × List ℕ)} None (Some (e, rest)) = sym none ∙ is in absurd cc)
+      | inr some ↦ (let same : ◌≡◌ {A = Option (DirectoryEntry × List ℕ)} (Some some.0) (Some (e, rest)) = sym some.1 ∙ is in
+          let follows : some.0.1 ≡ rest = ap (λ (o : Option (DirectoryEntry × List ℕ)). option_map_or (λ p. p.1) o []) same in
           omega (arith, some.2, ap length follows))
     ]
 
-pub entries_some : (n : ℕ) (e : Entry) (rest b : List ℕ) → length b ≤ n → leading_entry b ≡ Some (e, rest) → entries_by n b ≡ e ∷ entries_by (length rest) rest
+pub entries_some : (n : ℕ) (e : DirectoryEntry) (rest b : List ℕ) → length b ≤ n → leading_entry b ≡ Some (e, rest) → entries_by n b ≡ e ∷ entries_by (length rest) rest
 entries_some zero e rest b few is = absurd (omega (arith, leading_shorter e rest b is, few))
 entries_some (suc n) e rest b few is =
-    rw is (ap (λ (es : List Entry). e ∷ es) (entries_more n (length rest) rest (omega (arith, leading_shorter e rest b is, few)) (omega arith)))
+    rw is (ap (λ (es : List DirectoryEntry). e ∷ es) (entries_more n (length rest) rest (omega (arith, leading_shorter e rest b is, few)) (omega arith)))
 
 -- the entries that bytes list are read
-pub entries_are : LayoutsStand → (es : List Entry) (n : ℕ) (b : List ℕ) → length b ≤ n → Lists es b → entries_by n b ≡ es
+pub entries_are : LayoutsStand → (es : List DirectoryEntry) (n : ℕ) (b : List ℕ) → length b ≤ n → Lists es b → entries_by n b ≡ es
 entries_are laws [] n b few h = entries_none n b (leading_empty b (omega (arith, ap length h)))
 entries_are laws (e ∷ es) n b few h =
     let is = leading_back laws e h.0 b h.1 in
-    entries_some n e h.0 b few is ∙ ap (λ (xs : List Entry). e ∷ xs) (entries_are laws es (length h.0) h.0 (omega arith) h.2)
+    entries_some n e h.0 b few is ∙ ap (λ (xs : List DirectoryEntry). e ∷ xs) (entries_are laws es (length h.0) h.0 (omega arith) h.2)
 
 -- the bytes after the first entry of a listing
-pub listing_rest : LayoutsStand → (e : Entry) (rest b : List ℕ) → StandsBefore e rest b → IsListing b → IsListing rest
+pub listing_rest : LayoutsStand → (e : DirectoryEntry) (rest b : List ℕ) → StandsBefore e rest b → IsListing b → IsListing rest
 listing_rest laws e rest b s ([], h) = absurd (omega (arith, leading_shorter e rest b (leading_back laws e rest b s), ap length h))
 listing_rest laws e rest b s (e' ∷ es, h) =
-    let same : ◌≡◌ {A = Option (Entry × List ℕ)} (Some (e', h.0)) (Some (e, rest)) = sym (leading_back laws e' h.0 b h.1) ∙ leading_back laws e rest b s in
-    let follows : h.0 ≡ rest = ap (λ (o : Option (Entry × List ℕ)). option_map_or (λ p. p.1) o []) same in
+    let same : ◌≡◌ {A = Option (DirectoryEntry × List ℕ)} (Some (e', h.0)) (Some (e, rest)) = sym (leading_back laws e' h.0 b h.1) ∙ leading_back laws e rest b s in
+    let follows : h.0 ≡ rest = ap (λ (o : Option (DirectoryEntry × List ℕ)). option_map_or (λ p. p.1) o []) same in
     (es, subst (Lists es) follows h.2)
 
-pub listing_more : (e : Entry) (rest b : List ℕ) → StandsBefore e rest b → IsListing rest → IsListing b
+pub listing_more : (e : DirectoryEntry) (rest b : List ℕ) → StandsBefore e rest b → IsListing rest → IsListing b
 listing_more e rest b s h = (e ∷ h.0, (rest, s, h.1))
 
 -- bytes without a first entry
 pub not_listing : LayoutsStand → (b : List ℕ) → leading_entry b ≡ None → 0 < length b → IsListing b → ⊥
 not_listing laws b none some ([], h) = absurd (omega (arith, ap length h, some))
 not_listing laws b none some (e ∷ es, h) =
-    let no : ◌≡◌ {A = Option (Entry × List ℕ)} None (Some (e, h.0)) = sym none ∙ leading_back laws e h.0 b h.1 in
+    let no : ◌≡◌ {A = Option (DirectoryEntry × List ℕ)} None (Some (e, h.0)) = sym none ∙ leading_back laws e h.0 b h.1 in
     absurd cc
 
 -- ---- entries of READDIRPLUS
 
 -- the bytes after the first entry of a listing
-pub plus_rest : LayoutsStand → (e : Entry) (rest b : List ℕ) → StandsBefore e rest (drop 128 b) → IsPlusListing b → IsPlusListing rest
+pub plus_rest : LayoutsStand → (e : DirectoryEntry) (rest b : List ℕ) → StandsBefore e rest (drop 128 b) → IsPlusListing b → IsPlusListing rest
 plus_rest laws e rest b s ([], h) =
     absurd (omega (arith, leading_shorter e rest (drop 128 b) (leading_back laws e rest (drop 128 b) s), length-drop 128 b, ap length h))
 plus_rest laws e rest b s (e' ∷ es, h) =
-    let same : ◌≡◌ {A = Option (Entry × List ℕ)} (Some (e', h.0)) (Some (e, rest)) =
+    let same : ◌≡◌ {A = Option (DirectoryEntry × List ℕ)} (Some (e', h.0)) (Some (e, rest)) =
     sym (leading_back laws e' h.0 (drop 128 b) h.1) ∙ leading_back laws e rest (drop 128 b) s in
-    let follows : h.0 ≡ rest = ap (λ (o : Option (Entry × List ℕ)). option_map_or (λ p. p.1) o []) same in
+    let follows : h.0 ≡ rest = ap (λ (o : Option (DirectoryEntry × List ℕ)). option_map_or (λ p. p.1) o []) same in
     (es, subst (PlusLists es) follows h.2)
 
-pub plus_shorter : LayoutsStand → (e : Entry) (rest b : List ℕ) → StandsBefore e rest (drop 128 b) → length rest < length b
+pub plus_shorter : LayoutsStand → (e : DirectoryEntry) (rest b : List ℕ) → StandsBefore e rest (drop 128 b) → length rest < length b
 plus_shorter laws e rest b s = omega (arith, leading_shorter e rest (drop 128 b) (leading_back laws e rest (drop 128 b) s), length-drop 128 b)
 
-pub plus_more : (e : Entry) (rest b : List ℕ) → StandsBefore e rest (drop 128 b) → IsPlusListing rest → IsPlusListing b
+pub plus_more : (e : DirectoryEntry) (rest b : List ℕ) → StandsBefore e rest (drop 128 b) → IsPlusListing rest → IsPlusListing b
 plus_more e rest b s h = (e ∷ h.0, (rest, s, h.1))
 
 -- bytes without a first entry
 pub not_plus : LayoutsStand → (b : List ℕ) → leading_entry (drop 128 b) ≡ None → 0 < length b → IsPlusListing b → ⊥
 not_plus laws b none some ([], h) = absurd (omega (arith, ap length h, some))
 not_plus laws b none some (e ∷ es, h) =
-    let no : ◌≡◌ {A = Option (Entry × List ℕ)} None (Some (e, h.0)) = sym none ∙ leading_back laws e h.0 (drop 128 b) h.1 in
+    let no : ◌≡◌ {A = Option (DirectoryEntry × List ℕ)} None (Some (e, h.0)) = sym none ∙ leading_back laws e h.0 (drop 128 b) h.1 in
     absurd cc

@@ -16,7 +16,7 @@ use Rattle.fuse_answer.specs.declared.records.OpenOut.{OpenOut}
 use Rattle.fuse_answer.specs.declared.records.WriteOut.{WriteOut}
 use Rattle.fuse_answer.specs.Bodies.{entry_parts, attr_out_parts, open_parts, write_parts, init_parts, entry_bytes, attr_out_bytes, open_bytes, write_bytes}
 use Rattle.fuse_answer.specs.Bodies.{init_bytes}
-use Rattle.fuse_answer.specs.Entries.{Entry, IsNamed, Lists, dirent_parts, entries_bytes}
+use Rattle.fuse_answer.specs.Entries.{DirectoryEntry, IsNamed, Lists, dirent_parts, entries_bytes}
 use Rattle.fuse_answer.specs.declared.further.CreateOut.{CreateOut}
 use Rattle.fuse_answer.specs.declared.further.LseekOut.{LseekOut}
 use Rattle.fuse_answer.specs.declared.further.StatfsOut.{StatfsOut}
@@ -197,33 +197,33 @@ data_body b = (of_data b, record { of_kind = refl; laid = ([], sym (append-nil b
 
 -- ---- the entries of a directory
 
-low_entry : Entry → Entry
+low_entry : DirectoryEntry → DirectoryEntry
 low_entry e = record { ino = low 8 e.ino; off = low 8 e.off; kind = low 4 e.kind; name = e.name }
 
-low_entries : List Entry → List Entry
+low_entries : List DirectoryEntry → List DirectoryEntry
 low_entries [] = []
 low_entries (e ∷ es) = low_entry e ∷ low_entries es
 
-dirent_lays : NumbersRead → (e : Entry) → length e.name ≤ 255 → Lays (dirent_parts (low_entry e)) (form (dirent_parts e))
+dirent_lays : NumbersRead → (e : DirectoryEntry) → length e.name ≤ 255 → Lays (dirent_parts (low_entry e)) (form (dirent_parts e))
 unfolding lowered HasNoText low_entry
 dirent_lays laws e few =
     let same : low 4 (length e.name) ≡ length e.name = low_same laws 4 (length e.name) (omega (arith, few)) in
     rw same at (lays laws (dirent_parts e) tt)
 
-lists : NumbersRead → (es : List Entry) → AllByRecursion IsNamed es → Lists (low_entries es) (entries_bytes es)
+lists : NumbersRead → (es : List DirectoryEntry) → AllByRecursion IsNamed es → Lists (low_entries es) (entries_bytes es)
 unfolding low_entries low_entry
 lists laws [] named = refl
 lists laws (e ∷ es) named =
     (entries_bytes es, record { prefix = form (dirent_parts e); whole = refl; named = named.0; laid = dirent_lays laws e named.0.1 }, lists laws es named.1)
 
-pub listing_body : NumbersRead → (es : List Entry) → AllByRecursion IsNamed es → IsBody Directory (entries_bytes es)
+pub listing_body : NumbersRead → (es : List DirectoryEntry) → AllByRecursion IsNamed es → IsBody Directory (entries_bytes es)
 listing_body laws es named =
     let b : List ℕ = entries_bytes es in
     (of_directory b, record { of_kind = refl; laid = ([], sym (append-nil b), refl); proper = (low_entries es, lists laws es named) })
 
 -- ---- the entries of READDIRPLUS
 
-low_plus : List PlusEntry → List Entry
+low_plus : List PlusEntry → List DirectoryEntry
 low_plus [] = []
 low_plus (e ∷ es) = low_entry e.entry ∷ low_plus es
 

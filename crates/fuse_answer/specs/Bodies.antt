@@ -12,12 +12,12 @@ use Rattle.fuse_answer.specs.declared.records.WriteOut.{WriteOut}
 use Rattle.fuse_answer.specs.declared.init_out.InitOut.{InitOut}
 
 -- of a header: its length, the bits of its error, and its unique
-abbrev pub head_parts : ℕ → ℕ → ℕ → List Part
-head_parts len error unique = number 4 len ∷ number 4 error ∷ number 8 unique ∷ []
+abbrev pub out_head_parts : ℕ → ℕ → ℕ → List Part
+out_head_parts len error unique = number 4 len ∷ number 4 error ∷ number 8 unique ∷ []
 
 -- the error in two's complement
-abbrev pub header_parts : OutHeader → List Part
-header_parts h = head_parts h.len (cast_unsigned w32 h.error) h.unique
+abbrev pub out_header_parts : OutHeader → List Part
+out_header_parts h = out_head_parts h.len (cast_unsigned w32 h.error) h.unique
 
 abbrev pub attr_parts : Attr → List Part
 attr_parts a =
@@ -48,7 +48,7 @@ init_parts i =
 
 -- the bytes of each record
 unfoldable pub header_bytes : OutHeader → List ℕ
-header_bytes h = form (header_parts h)
+header_bytes h = form (out_header_parts h)
 
 unfoldable pub attr_bytes : Attr → List ℕ
 attr_bytes a = form (attr_parts a)

@@ -10,7 +10,7 @@ use Rattle.fuse_answer.specs.declared.records.EntryOut.{EntryOut}
 use Rattle.fuse_answer.specs.declared.records.OpenOut.{OpenOut}
 use Rattle.fuse_answer.specs.declared.records.WriteOut.{WriteOut}
 use Rattle.fuse_answer.specs.Bodies.{entry_bytes, attr_out_bytes, open_bytes, write_bytes, init_bytes}
-use Rattle.fuse_answer.specs.Entries.{Entry, IsNamed, packed_len, entries_bytes}
+use Rattle.fuse_answer.specs.Entries.{DirectoryEntry, IsNamed, packed_len, entries_bytes}
 use Rattle.fuse_answer.specs.declared.further.CreateOut.{CreateOut}
 use Rattle.fuse_answer.specs.declared.further.LseekOut.{LseekOut}
 use Rattle.fuse_answer.specs.declared.further.StatfsOut.{StatfsOut}
@@ -41,7 +41,7 @@ RecordSizes =
     × ((o : OpenOut) → length (open_bytes o) ≡ open_out_size)
     × ((w : WriteOut) → length (write_bytes w) ≡ write_out_size)
     × ((i : InitOut) → length (init_bytes i) ≡ init_out_size)
-    × ((es : List Entry) → length (entries_bytes es) ≡ sum_by packed_len es)
+    × ((es : List DirectoryEntry) → length (entries_bytes es) ≡ sum_by packed_len es)
 
 -- an answer that fits, is of the kind that is asked and not too long is read; each record is a body of its kind, and so are named
 -- entries, and any bytes as data
@@ -58,5 +58,5 @@ pub record ReadBack : Type 0 where
   pub lseek : (l : LseekOut) → IsBody AnLseek (lseek_bytes l)
   pub init : (i : InitOut) → IsBody AnInit (init_bytes i)
   pub data_bytes : (b : List ℕ) → IsBody Data b
-  pub listing : (es : List Entry) → AllByRecursion IsNamed es → IsBody Directory (entries_bytes es)
+  pub listing : (es : List DirectoryEntry) → AllByRecursion IsNamed es → IsBody Directory (entries_bytes es)
   pub listing_plus : (es : List PlusEntry) → AllByRecursion (λ e. IsNamed e.entry) es → IsBody DirectoryPlus (plus_bytes es)

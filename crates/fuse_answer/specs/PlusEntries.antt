@@ -6,15 +6,15 @@ use Rattle.fuse_answer.specs.declared.records.EntryOut.{EntryOut}
 use Rattle.fuse_answer.specs.declared.plus.PlusDirent.{PlusDirent}
 use Rattle.fuse_answer.specs.Sizes.{entry_out_size}
 use Rattle.fuse_answer.specs.Bodies.{entry_bytes}
-use Rattle.fuse_answer.specs.Entries.{Entry, entry_of, dirent_parts, packed_len, StandsBefore}
+use Rattle.fuse_answer.specs.Entries.{DirectoryEntry, directory_entry_of, dirent_parts, packed_len, StandsBefore}
 
 -- an entry of READDIR, and before it what LOOKUP of its name answers, or nothing
 pub record PlusEntry : Type 0 where
   pub out : Option EntryOut
-  pub entry : Entry
+  pub entry : DirectoryEntry
 
 abbrev pub plus_of : PlusDirent → PlusEntry
-plus_of d = record { out = d.entry_out; entry = entry_of d.dirent }
+plus_of d = record { out = d.entry_out; entry = directory_entry_of d.dirent }
 
 -- how many bytes it takes
 abbrev pub plus_len : PlusEntry → ℕ
@@ -34,9 +34,9 @@ plus_bytes [] = []
 plus_bytes (e ∷ es) = plus_form e ++ plus_bytes es
 
 -- the bytes are these entries, one after the other, and before each those of a fuse_entry_out, whatever they are
-abbrev pub PlusLists : List Entry → List ℕ → Type 0
+abbrev pub PlusLists : List DirectoryEntry → List ℕ → Type 0
 PlusLists [] b = b ≡ []
 PlusLists (e ∷ es) b = (rest : List ℕ) × StandsBefore e rest (drop entry_out_size b) × PlusLists es rest
 
 abbrev pub IsPlusListing : List ℕ → Type 0
-IsPlusListing b = (es : List Entry) × PlusLists es b
+IsPlusListing b = (es : List DirectoryEntry) × PlusLists es b

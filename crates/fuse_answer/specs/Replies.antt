@@ -120,39 +120,39 @@ most_of opcode size =
     else None
 
 -- a body without where its bytes lie in memory
-pub data Content : Type 0 where
-  of_entry : EntryOut → Content
-  of_create : CreateOut → Content
-  of_attributes : AttrOut → Content
-  of_open : OpenOut → Content
-  of_write : WriteOut → Content
-  of_statfs : StatfsOut → Content
-  of_xattr : XattrOut → Content
-  of_lseek : LseekOut → Content
-  of_init : InitOut → Content
-  of_data : List ℕ → Content
-  of_directory : List ℕ → Content
-  of_directory_plus : List ℕ → Content
-  of_nothing : Content
-  of_unknown : List ℕ → Content
+pub data ReplyContent : Type 0 where
+  of_entry : EntryOut → ReplyContent
+  of_create : CreateOut → ReplyContent
+  of_attributes : AttrOut → ReplyContent
+  of_open : OpenOut → ReplyContent
+  of_write : WriteOut → ReplyContent
+  of_statfs : StatfsOut → ReplyContent
+  of_xattr : XattrOut → ReplyContent
+  of_lseek : LseekOut → ReplyContent
+  of_init : InitOut → ReplyContent
+  of_data : List ℕ → ReplyContent
+  of_directory : List ℕ → ReplyContent
+  of_directory_plus : List ℕ → ReplyContent
+  of_nothing : ReplyContent
+  of_unknown : List ℕ → ReplyContent
 
-abbrev pub content : ReplyBody → Content
-content (bodies.Entry e) = of_entry e
-content (bodies.Create c) = of_create c
-content (bodies.Attributes a) = of_attributes a
-content (bodies.Open o) = of_open o
-content (bodies.Write w) = of_write w
-content (bodies.Statfs s) = of_statfs s
-content (bodies.Xattr x) = of_xattr x
-content (bodies.Lseek l) = of_lseek l
-content (bodies.Init i) = of_init i
-content (bodies.Data b) = of_data b.now
-content (bodies.Directory b) = of_directory b.now
-content (bodies.DirectoryPlus b) = of_directory_plus b.now
-content bodies.Nothing = of_nothing
-content (bodies.Unknown b) = of_unknown b.now
+abbrev pub reply_content : ReplyBody → ReplyContent
+reply_content (bodies.Entry e) = of_entry e
+reply_content (bodies.Create c) = of_create c
+reply_content (bodies.Attributes a) = of_attributes a
+reply_content (bodies.Open o) = of_open o
+reply_content (bodies.Write w) = of_write w
+reply_content (bodies.Statfs s) = of_statfs s
+reply_content (bodies.Xattr x) = of_xattr x
+reply_content (bodies.Lseek l) = of_lseek l
+reply_content (bodies.Init i) = of_init i
+reply_content (bodies.Data b) = of_data b.now
+reply_content (bodies.Directory b) = of_directory b.now
+reply_content (bodies.DirectoryPlus b) = of_directory_plus b.now
+reply_content bodies.Nothing = of_nothing
+reply_content (bodies.Unknown b) = of_unknown b.now
 
-abbrev pub kind_is : Content → Kind
+abbrev pub kind_is : ReplyContent → Kind
 kind_is (of_entry e) = AnEntry
 kind_is (of_create c) = ACreate
 kind_is (of_attributes a) = Attributes
@@ -169,24 +169,24 @@ kind_is of_nothing = Nothing
 kind_is (of_unknown b) = Unknown
 
 -- the layout of each body
-abbrev pub content_parts : Content → List Part
-content_parts (of_entry e) = entry_parts e
-content_parts (of_create c) = create_parts c
-content_parts (of_attributes a) = attr_out_parts a
-content_parts (of_open o) = open_parts o
-content_parts (of_write w) = write_parts w
-content_parts (of_statfs s) = statfs_parts s
-content_parts (of_xattr x) = xattr_parts x
-content_parts (of_lseek l) = lseek_parts l
-content_parts (of_init i) = init_parts i
-content_parts (of_data b) = bytes b ∷ []
-content_parts (of_directory b) = bytes b ∷ []
-content_parts (of_directory_plus b) = bytes b ∷ []
-content_parts of_nothing = []
-content_parts (of_unknown b) = bytes b ∷ []
+abbrev pub reply_parts : ReplyContent → List Part
+reply_parts (of_entry e) = entry_parts e
+reply_parts (of_create c) = create_parts c
+reply_parts (of_attributes a) = attr_out_parts a
+reply_parts (of_open o) = open_parts o
+reply_parts (of_write w) = write_parts w
+reply_parts (of_statfs s) = statfs_parts s
+reply_parts (of_xattr x) = xattr_parts x
+reply_parts (of_lseek l) = lseek_parts l
+reply_parts (of_init i) = init_parts i
+reply_parts (of_data b) = bytes b ∷ []
+reply_parts (of_directory b) = bytes b ∷ []
+reply_parts (of_directory_plus b) = bytes b ∷ []
+reply_parts of_nothing = []
+reply_parts (of_unknown b) = bytes b ∷ []
 
 -- a signed number fits its field, and the bytes of a directory are entries
-abbrev pub IsProper : Content → Type 0
+abbrev pub IsProper : ReplyContent → Type 0
 IsProper (of_create c) = FitsSigned w32 c.open.backing_id
 IsProper (of_open o) = FitsSigned w32 o.backing_id
 IsProper (of_directory b) = IsListing b
@@ -194,22 +194,22 @@ IsProper (of_directory_plus b) = IsPlusListing b
 IsProper _ = Unit {0}
 
 -- the bytes b are the body c, with any padding, of a kind
-pub record Holds (kind : Kind) (c : Content) (b : List ℕ) : Type 0 where
+pub record HoldsBody (kind : Kind) (c : ReplyContent) (b : List ℕ) : Type 0 where
   pub of_kind : kind_is c ≡ kind
-  pub laid : Lays (content_parts c) b
+  pub laid : Lays (reply_parts c) b
   pub proper : IsProper c
 
 -- the bytes are a body of a kind
 abbrev pub IsBody : Kind → List ℕ → Type 0
-IsBody kind b = (c : Content) × Holds kind c b
+IsBody kind b = (c : ReplyContent) × HoldsBody kind c b
 
 pub record Told : Type 0 where
   pub unique : ℕ
   pub errno : ℕ
-  pub content : Content
+  pub content : ReplyContent
 
-abbrev pub told : Reply → Told
-told r = record { unique = r.unique; errno = r.errno.0; content = content r.body }
+abbrev pub told_reply : Reply → Told
+told_reply r = record { unique = r.unique; errno = r.errno.0; content = reply_content r.body }
 
 -- a body of so many bytes is not too long
 abbrev pub IsAtMost : Option ℕ → ℕ → Type 0
@@ -217,9 +217,9 @@ IsAtMost None len = Unit {0}
 IsAtMost (Some most) len = len ≤ most
 
 -- an error and no body, or no error and a body of what is asked
-abbrev pub IsOf : ℕ → ℕ → Told → List ℕ → Type 0
-IsOf opcode size t body =
-    ((t.errno ≡ 0) × Holds (kind_of opcode size) t.content body × IsAtMost (most_of opcode size) (length body))
+abbrev pub IsOfOpcode : ℕ → ℕ → Told → List ℕ → Type 0
+IsOfOpcode opcode size t body =
+    ((t.errno ≡ 0) × HoldsBody (kind_of opcode size) t.content body × IsAtMost (most_of opcode size) (length body))
     ⊎ ((t.errno ≢ 0) × (t.errno ≤ max_error_number) × (t.content ≡ of_nothing) × (body ≡ []))
 
 -- the message answers a request of this opcode that asks for `size` bytes, and says t
@@ -228,12 +228,12 @@ pub record Answers (opcode size : ℕ) (t : Told) (message : List ℕ) : Type 0 
   pub whole : message ≡ wire t.errno body t.unique
   pub len : length message < 2 ^ 32
   pub unique : t.unique < 2 ^ 64
-  pub said : IsOf opcode size t body
+  pub said : IsOfOpcode opcode size t body
 
 -- it is read as the answer to such a request, whichever its unique is
 abbrev pub IsRead : ℕ → ℕ → Said → Type 0
 IsRead opcode size a =
-    (unique : ℕ) → unique < 2 ^ 64 → (c : Content) × Answers opcode size (record { unique = unique; errno = a.errno; content = c }) (wire a.errno a.body unique)
+    (unique : ℕ) → unique < 2 ^ 64 → (c : ReplyContent) × Answers opcode size (record { unique = unique; errno = a.errno; content = c }) (wire a.errno a.body unique)
 
 -- an error and no body, or no error and a body of the kind
 abbrev pub IsOfKind : Kind → Said → Type 0

@@ -8,7 +8,7 @@ ghost use Rattle.fuse_answer.specs.Replies as replies;
 ghost use Rattle.fuse_answer.specs.Replies.{kind_of, AnEntry, ACreate, Attributes, AnOpen};
 ghost use Rattle.fuse_answer.specs.Replies.{AWrite, AStatfs, AnXattr, AnLseek, AnInit, Data};
 ghost use Rattle.fuse_answer.specs.Replies.{Directory, DirectoryPlus, Nothing as NothingKind};
-ghost use Rattle.fuse_answer.specs.inner.Readers.{Reads, ReadsAsked};
+ghost use Rattle.fuse_answer.specs.inner.Readers.{ReadsReply, ReadsAsked};
 
 use crate::further::{CreateOut, LseekOut, StatfsOut, XattrOut};
 use crate::init_out::InitOut;
@@ -80,7 +80,7 @@ fn open_in(bytes: &[u8]) -> OpenOut
 }
 
 fn entry_of(body: &[u8]) -> Result<ReplyBody<'_>, BadAnswer>
-    ensures { Reads AnEntry body.now result }
+    ensures { ReadsReply AnEntry body.now result }
 {
     if body.len() != EntryOut::SIZE {
         return Err(BadAnswer::BodyLength);
@@ -89,7 +89,7 @@ fn entry_of(body: &[u8]) -> Result<ReplyBody<'_>, BadAnswer>
 }
 
 fn create_of(body: &[u8]) -> Result<ReplyBody<'_>, BadAnswer>
-    ensures { Reads ACreate body.now result }
+    ensures { ReadsReply ACreate body.now result }
 {
     layouts_stand();
     if body.len() != CreateOut::SIZE {
@@ -103,7 +103,7 @@ fn create_of(body: &[u8]) -> Result<ReplyBody<'_>, BadAnswer>
 }
 
 fn attributes_of(body: &[u8]) -> Result<ReplyBody<'_>, BadAnswer>
-    ensures { Reads Attributes body.now result }
+    ensures { ReadsReply Attributes body.now result }
 {
     numbers_read();
     layouts_stand();
@@ -119,7 +119,7 @@ fn attributes_of(body: &[u8]) -> Result<ReplyBody<'_>, BadAnswer>
 }
 
 fn open_of(body: &[u8]) -> Result<ReplyBody<'_>, BadAnswer>
-    ensures { Reads AnOpen body.now result }
+    ensures { ReadsReply AnOpen body.now result }
 {
     if body.len() != OpenOut::SIZE {
         return Err(BadAnswer::BodyLength);
@@ -128,7 +128,7 @@ fn open_of(body: &[u8]) -> Result<ReplyBody<'_>, BadAnswer>
 }
 
 fn write_of(body: &[u8]) -> Result<ReplyBody<'_>, BadAnswer>
-    ensures { Reads AWrite body.now result }
+    ensures { ReadsReply AWrite body.now result }
 {
     layouts_stand();
     if body.len() != WriteOut::SIZE {
@@ -140,7 +140,7 @@ fn write_of(body: &[u8]) -> Result<ReplyBody<'_>, BadAnswer>
 }
 
 fn statfs_of(body: &[u8]) -> Result<ReplyBody<'_>, BadAnswer>
-    ensures { Reads AStatfs body.now result }
+    ensures { ReadsReply AStatfs body.now result }
 {
     layouts_stand();
     if body.len() != StatfsOut::SIZE {
@@ -159,7 +159,7 @@ fn statfs_of(body: &[u8]) -> Result<ReplyBody<'_>, BadAnswer>
 }
 
 fn xattr_of(body: &[u8]) -> Result<ReplyBody<'_>, BadAnswer>
-    ensures { Reads AnXattr body.now result }
+    ensures { ReadsReply AnXattr body.now result }
 {
     layouts_stand();
     if body.len() != XattrOut::SIZE {
@@ -171,7 +171,7 @@ fn xattr_of(body: &[u8]) -> Result<ReplyBody<'_>, BadAnswer>
 }
 
 fn lseek_of(body: &[u8]) -> Result<ReplyBody<'_>, BadAnswer>
-    ensures { Reads AnLseek body.now result }
+    ensures { ReadsReply AnLseek body.now result }
 {
     layouts_stand();
     if body.len() != LseekOut::SIZE {
@@ -183,7 +183,7 @@ fn lseek_of(body: &[u8]) -> Result<ReplyBody<'_>, BadAnswer>
 }
 
 fn init_of(body: &[u8]) -> Result<ReplyBody<'_>, BadAnswer>
-    ensures { Reads AnInit body.now result }
+    ensures { ReadsReply AnInit body.now result }
 {
     layouts_stand();
     if body.len() != InitOut::SIZE {
@@ -206,7 +206,7 @@ fn init_of(body: &[u8]) -> Result<ReplyBody<'_>, BadAnswer>
 }
 
 fn directory_of(body: &[u8]) -> Result<ReplyBody<'_>, BadAnswer>
-    ensures { Reads Directory body.now result }
+    ensures { ReadsReply Directory body.now result }
 {
     if !is_listing(body) {
         return Err(BadAnswer::BadDirent);
@@ -215,7 +215,7 @@ fn directory_of(body: &[u8]) -> Result<ReplyBody<'_>, BadAnswer>
 }
 
 fn directory_plus_of(body: &[u8]) -> Result<ReplyBody<'_>, BadAnswer>
-    ensures { Reads DirectoryPlus body.now result }
+    ensures { ReadsReply DirectoryPlus body.now result }
 {
     if !is_plus_listing(body) {
         return Err(BadAnswer::BadDirent);
@@ -224,7 +224,7 @@ fn directory_plus_of(body: &[u8]) -> Result<ReplyBody<'_>, BadAnswer>
 }
 
 fn nothing_of(body: &[u8]) -> Result<ReplyBody<'_>, BadAnswer>
-    ensures { Reads NothingKind body.now result }
+    ensures { ReadsReply NothingKind body.now result }
 {
     if !body.is_empty() {
         return Err(BadAnswer::BodyLength);
@@ -234,7 +234,7 @@ fn nothing_of(body: &[u8]) -> Result<ReplyBody<'_>, BadAnswer>
 
 // A value or a list of names, and where no byte is asked for its length.
 fn xattr_or_data(size: u32, body: &[u8]) -> Result<ReplyBody<'_>, BadAnswer>
-    ensures { Reads (if size == 0 then AnXattr else Data) body.now result }
+    ensures { ReadsReply (if size == 0 then AnXattr else Data) body.now result }
 {
     if size == 0 {
         return xattr_of(body);
@@ -256,7 +256,7 @@ fn most_of(opcode: u32, size: u32) -> Option<u32>
 
 // A body by its kind.
 fn kind_read(opcode: u32, size: u32, body: &[u8]) -> Result<ReplyBody<'_>, BadAnswer>
-    ensures { Reads (kind_of opcode size) body.now result }
+    ensures { ReadsReply (kind_of opcode size) body.now result }
 {
     match opcode {
         LOOKUP | SYMLINK | MKNOD | MKDIR | LINK => entry_of(body),

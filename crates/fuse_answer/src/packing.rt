@@ -1,6 +1,7 @@
 ghost use Rattle.std.specs.Prelude.{◌≡◌, ◌≤◌, ◌↔◌, [], Err, All, length, map, take, IfOk, IsTrue};
 ghost use Rattle.fuse_wire.specs.Written.{Puts};
-ghost use Rattle.fuse_answer.specs.Entries.{entry_of, dirent_parts, entries_bytes, IsNamed, Lists};
+ghost use Rattle.fuse_answer.specs.Entries.{directory_entry_of, dirent_parts, entries_bytes};
+ghost use Rattle.fuse_answer.specs.Entries.{IsNamed, Lists};
 ghost use Rattle.fuse_answer.specs.Entries.{IsLongest, FirstIsTooBig};
 
 use crate::dirent::{Dirent, packed_len, padding};
@@ -37,8 +38,8 @@ impl From<Memory> for PackFault {
 
 // Appends an entry and its padding.
 pub(crate) fn put_dirent(out: &mut Vec<u8>, dirent: &Dirent<'_>) -> Result<(), Memory>
-    requires { IsNamed (entry_of dirent.now) }
-    ensures { Puts (dirent_parts (entry_of dirent.now)) out.old.items out.new.items result }
+    requires { IsNamed (directory_entry_of dirent.now) }
+    ensures { Puts (dirent_parts (directory_entry_of dirent.now)) out.old.items out.new.items result }
 {
     let name_len = dirent.name.len();
     put_fields(
@@ -56,12 +57,13 @@ pub(crate) fn put_dirent(out: &mut Vec<u8>, dirent: &Dirent<'_>) -> Result<(), M
 
 // Appends the entries as long as they fit, and says how many did.
 fn put_fitting(body: &mut Vec<u8>, entries: &[Dirent<'_>], size: usize) -> Result<usize, Memory>
-    requires named { All (λ d. IsNamed (entry_of d)) entries.now }
+    requires named { All (λ d. IsNamed (directory_entry_of d)) entries.now }
     requires empty { body.old.items ≡ [] }
-    ensures longest { IfOk result (λ taken. IsLongest (map entry_of entries.now) size taken) }
+    ensures longest { IfOk result
+        (λ taken. IsLongest (map directory_entry_of entries.now) size taken) }
     ensures bytes { IfOk result (λ taken. body.new.items
-        ≡ entries_bytes (take taken (map entry_of entries.now))) }
-    ensures lists { IfOk result (λ taken. Lists (take taken (map entry_of entries.now))
+        ≡ entries_bytes (take taken (map directory_entry_of entries.now))) }
+    ensures lists { IfOk result (λ taken. Lists (take taken (map directory_entry_of entries.now))
         body.new.items) }
     ensures within { IfOk result (λ taken. length body.new.items ≤ size) }
 {
@@ -76,8 +78,8 @@ fn put_fitting(body: &mut Vec<u8>, entries: &[Dirent<'_>], size: usize) -> Resul
 }
 
 fn first_is_too_big(entries: &[Dirent<'_>], size: usize) -> bool
-    requires { All (λ d. IsNamed (entry_of d)) entries.now }
-    ensures { IsTrue result ↔ (FirstIsTooBig (map entry_of entries.now) size) }
+    requires { All (λ d. IsNamed (directory_entry_of d)) entries.now }
+    ensures { IsTrue result ↔ (FirstIsTooBig (map directory_entry_of entries.now) size) }
 {
     match entries.first() {
         Some(first) => packed_len(first.name.len()) > size,
@@ -87,19 +89,20 @@ fn first_is_too_big(entries: &[Dirent<'_>], size: usize) -> bool
 
 /// The longest prefix of the entries that fits into `size` bytes.
 pub fn pack(alloc: Global, entries: &[Dirent<'_>], size: u32) -> Result<Packed, PackFault>
-    requires { All (λ d. IsNamed (entry_of d)) entries.now }
+    requires { All (λ d. IsNamed (directory_entry_of d)) entries.now }
 
     // How many are taken, and their bytes.
     ensures longest { IfOk result (λ packed. IsLongest
-        (map entry_of entries.now) size packed.taken) }
+        (map directory_entry_of entries.now) size packed.taken) }
     ensures bytes { IfOk result (λ packed. packed.body
-        ≡ entries_bytes (take packed.taken (map entry_of entries.now))) }
+        ≡ entries_bytes (take packed.taken (map directory_entry_of entries.now))) }
     // So `unpack` gives them back.
-    ensures lists { IfOk result (λ packed. Lists (take packed.taken (map entry_of entries.now))
+    ensures lists { IfOk result
+        (λ packed. Lists (take packed.taken (map directory_entry_of entries.now))
         packed.body) }
     ensures within { IfOk result (λ packed. length packed.body ≤ size) }
 
-    ensures first { FirstIsTooBig (map entry_of entries.now) size
+    ensures first { FirstIsTooBig (map directory_entry_of entries.now) size
         ↔ (result ≡ Err PackFault.FirstTooBig) }
 {
     let size = size as usize;

@@ -1,7 +1,8 @@
 // The entries of a directory as READDIRPLUS answers them.
 ghost use Rattle.std.specs.Prelude.{◌≡◌, ◌≤◌, ◌↔◌, ◌++◌, [], Err, All, length, map, take};
 ghost use Rattle.std.specs.Prelude.{IfOk, IsTrue, OnOk};
-ghost use Rattle.fuse_answer.specs.Entries.{IsNamed, IsLongestBy, FirstIsTooBigBy, entry_of};
+ghost use Rattle.fuse_answer.specs.Entries.{IsNamed, IsLongestBy, FirstIsTooBigBy};
+ghost use Rattle.fuse_answer.specs.Entries.{directory_entry_of};
 ghost use Rattle.fuse_answer.specs.PlusEntries as plus_entries;
 ghost use Rattle.fuse_answer.specs.PlusEntries.{out_bytes, plus_bytes, plus_form, plus_of};
 
@@ -21,7 +22,7 @@ pub struct PlusDirent<'a> {
 
 // How many bytes an entry takes.
 fn plus_len(plus: &PlusDirent<'_>) -> usize
-    requires { IsNamed (entry_of plus.now.dirent) }
+    requires { IsNamed (directory_entry_of plus.now.dirent) }
     ensures { result ≡ plus_entries.plus_len (plus_of plus.now) }
 {
     EntryOut::SIZE + packed_len(plus.dirent.name.len())
@@ -39,7 +40,7 @@ fn put_out(out: &mut Vec<u8>, entry_out: &Option<EntryOut>) -> Result<(), Memory
 
 // Appends an entry and its padding. An `Err` may leave a part of them.
 fn put_plus(out: &mut Vec<u8>, plus: &PlusDirent<'_>) -> Result<(), Memory>
-    requires { IsNamed (entry_of plus.now.dirent) }
+    requires { IsNamed (directory_entry_of plus.now.dirent) }
     ensures { OnOk result (out.new.items ≡ out.old.items ++ plus_form (plus_of plus.now)) }
 {
     put_out(out, &plus.entry_out)?;
@@ -52,7 +53,7 @@ fn put_fitting_plus(
     entries: &[PlusDirent<'_>],
     size: usize,
 ) -> Result<usize, Memory>
-    requires named { All (λ d. IsNamed (entry_of d.dirent)) entries.now }
+    requires named { All (λ d. IsNamed (directory_entry_of d.dirent)) entries.now }
     requires empty { body.old.items ≡ [] }
     ensures longest { IfOk result (λ taken. IsLongestBy plus_entries.plus_len
         (map plus_of entries.now) size taken) }
@@ -71,7 +72,7 @@ fn put_fitting_plus(
 }
 
 fn first_is_too_big(entries: &[PlusDirent<'_>], size: usize) -> bool
-    requires { All (λ d. IsNamed (entry_of d.dirent)) entries.now }
+    requires { All (λ d. IsNamed (directory_entry_of d.dirent)) entries.now }
     ensures { IsTrue result ↔ (FirstIsTooBigBy plus_entries.plus_len (map plus_of entries.now) size) }
 {
     match entries.first() {
@@ -83,7 +84,7 @@ fn first_is_too_big(entries: &[PlusDirent<'_>], size: usize) -> bool
 /// The longest prefix of the entries that fits into `size` bytes, as the body of an answer to
 /// READDIRPLUS.
 pub fn pack_plus(alloc: Global, entries: &[PlusDirent<'_>], size: u32) -> Result<Packed, PackFault>
-    requires { All (λ d. IsNamed (entry_of d.dirent)) entries.now }
+    requires { All (λ d. IsNamed (directory_entry_of d.dirent)) entries.now }
 
     // How many are taken, and their bytes.
     ensures longest { IfOk result (λ packed. IsLongestBy plus_entries.plus_len

@@ -2,7 +2,8 @@ ghost use Rattle.std.specs.Prelude.{◌≡◌, ◌++◌, length, IfOk, OnOk};
 ghost use Rattle.fuse_wire.specs.Layout.{HasForm, Lays, form, widths};
 ghost use Rattle.fuse_wire.specs.Written.{AllFit, Puts, laid};
 ghost use Rattle.fuse_answer.specs.inner.NoText.{HasNoText};
-ghost use Rattle.fuse_answer.specs.Bodies.{header_parts, attr_parts, entry_parts, attr_out_parts};
+ghost use Rattle.fuse_answer.specs.Bodies.{out_header_parts, attr_parts, entry_parts};
+ghost use Rattle.fuse_answer.specs.Bodies.{attr_out_parts};
 ghost use Rattle.fuse_answer.specs.Bodies.{open_parts, write_parts, header_bytes, attr_bytes};
 ghost use Rattle.fuse_answer.specs.Bodies.{entry_bytes, attr_out_bytes, open_bytes, write_bytes};
 ghost use Rattle.fuse_answer.specs.Sizes.{out_header_size, attr_size, entry_out_size};
@@ -84,7 +85,7 @@ impl OutHeader {
     #[tactic(auto, unfolding(crate::specs::Bodies::header_bytes, fuse_wire::specs::Bytes::le))]
     pub(crate) fn bytes(&self) -> [u8; 16]
         ensures bytes { result ≡ header_bytes self.now }
-        ensures fits { HasForm (header_parts self.now) }
+        ensures fits { HasForm (out_header_parts self.now) }
     {
         let OutHeader { len, error, unique } = *self;
         let mut bytes = [0; 16];
@@ -98,7 +99,7 @@ impl OutHeader {
     pub fn body_of(&self, alloc: Global) -> Result<Vec<u8>, Memory>
         ensures bytes { IfOk result (λ body. body.items ≡ header_bytes self.now) }
         ensures size { IfOk result (λ body. length body.items ≡ out_header_size) }
-        ensures laid { IfOk result (λ body. Lays (header_parts self.now) body.items) }
+        ensures laid { IfOk result (λ body. Lays (out_header_parts self.now) body.items) }
     {
         layouts_stand();
         Ok(Vec::from_slice(alloc, &self.bytes())?)

@@ -1,7 +1,8 @@
 ghost use Rattle.std.specs.Prelude.{◌≡◌, ◌≤◌, false, length, IfOk, IfErr, IsOkAnd};
 ghost use Rattle.fuse_wire.specs.Opcodes.{silent};
 ghost use Rattle.fuse_answer.specs.Sizes.{out_header_size};
-ghost use Rattle.fuse_answer.specs.Replies.{Told, told, content, Answers, IsProper, FirstFault};
+ghost use Rattle.fuse_answer.specs.Replies.{Told, told_reply, reply_content, Answers, IsProper};
+ghost use Rattle.fuse_answer.specs.Replies.{FirstFault};
 ghost use Rattle.fuse_answer.specs.Replies.{errno_in};
 
 use crate::bodies::body_of;
@@ -84,7 +85,7 @@ fn errno_at(bytes: &[u8]) -> u32
 
 // The content of an answer to such a request, or its first fault.
 fn read(opcode: u32, size: u32, bytes: &[u8]) -> Result<Reply<'_>, BadAnswer>
-    ensures found { IfOk result (λ r. Answers opcode size (told r) bytes.now) }
+    ensures found { IfOk result (λ r. Answers opcode size (told_reply r) bytes.now) }
     ensures fault { IfErr result (λ m. FirstFault opcode size bytes.now m) }
 {
     numbers_read();
@@ -125,11 +126,12 @@ pub fn read_answer(opcode: u32, size: u32, bytes: &[u8]) -> Result<Reply<'_>, Ba
     requires { silent opcode ≡ false }
 
     // What is read is answered so.
-    ensures found { IfOk result (λ r. Answers opcode size (told r) bytes.now) }
+    ensures found { IfOk result (λ r. Answers opcode size (told_reply r) bytes.now) }
     // What is answered is read.
-    ensures only { (t : Told) → Answers opcode size t bytes.now → IsOkAnd result (λ r. told r ≡ t) }
+    ensures only { (t : Told) → Answers opcode size t bytes.now
+        → IsOkAnd result (λ r. told_reply r ≡ t) }
     // The body of a directory is its entries, which `unpack` takes.
-    ensures proper { IfOk result (λ r. IsProper (content r.body)) }
+    ensures proper { IfOk result (λ r. IsProper (reply_content r.body)) }
 
     // Which fault it is.
     ensures fault { IfErr result (λ m. FirstFault opcode size bytes.now m) }

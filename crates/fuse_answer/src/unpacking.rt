@@ -1,6 +1,7 @@
 ghost use Rattle.std.specs.Prelude.{◌≡◌, ◌↔◌, List, None, drop, IsTrue, IfSome};
 ghost use Rattle.std.specs.Option.{option_map};
-ghost use Rattle.fuse_answer.specs.Entries.{Entry, entry_of, StandsBefore, Lists, IsListing};
+ghost use Rattle.fuse_answer.specs.Entries.{DirectoryEntry, directory_entry_of, StandsBefore};
+ghost use Rattle.fuse_answer.specs.Entries.{Lists, IsListing};
 ghost use Rattle.fuse_answer.specs.FirstEntry.{leading_entry, entries_left};
 ghost use Rattle.fuse_answer.specs.PlusEntries.{IsPlusListing};
 ghost use Rattle.fuse_answer.specs.Sizes.{entry_out_size};
@@ -11,8 +12,9 @@ use fuse_wire::{layouts_stand, u32_at, u64_at};
 
 // The first entry, and the bytes after it. `None` where the bytes begin with no whole entry.
 fn split_entry(bytes: &[u8]) -> Option<(Dirent<'_>, &[u8])>
-    ensures prefix { option_map (λ p. (entry_of p.0, p.1.now)) result ≡ leading_entry bytes.now }
-    ensures laid { IfSome result (λ p. StandsBefore (entry_of p.0) p.1.now bytes.now) }
+    ensures prefix { option_map (λ p. (directory_entry_of p.0, p.1.now)) result
+        ≡ leading_entry bytes.now }
+    ensures laid { IfSome result (λ p. StandsBefore (directory_entry_of p.0) p.1.now bytes.now) }
 {
     layouts_stand();
     if bytes.len() < Dirent::NAME_AT {
@@ -53,7 +55,8 @@ pub(crate) fn is_listing(body: &[u8]) -> bool
 // The bytes after the first entry of READDIRPLUS. `None` where the bytes begin with no whole one.
 fn split_plus(bytes: &[u8]) -> Option<&[u8]>
     ensures none { result ≡ None → leading_entry (drop entry_out_size bytes.now) ≡ None }
-    ensures laid { IfSome result (λ rest. (e : Entry) × StandsBefore e rest.now (drop entry_out_size bytes.now)) }
+    ensures laid { IfSome result
+        (λ rest. (e : DirectoryEntry) × StandsBefore e rest.now (drop entry_out_size bytes.now)) }
 {
     layouts_stand();
     if bytes.len() < EntryOut::SIZE {
@@ -88,7 +91,7 @@ pub struct Dirents<'a> {
 /// The entries of a body that `read_answer` accepted.
 pub fn unpack(body: &[u8]) -> Dirents<'_>
     requires { IsListing body.now }
-    ensures { (es : List Entry) → Lists es body.now → entries_left result ≡ es }
+    ensures { (es : List DirectoryEntry) → Lists es body.now → entries_left result ≡ es }
 {
     layouts_stand();
     Dirents { rest: body }
@@ -96,12 +99,12 @@ pub fn unpack(body: &[u8]) -> Dirents<'_>
 
 impl<'a> Iterator for Dirents<'a> {
     ghost use Rattle.std.specs.Iterator.{YieldsFirstBy, item_count};
-    ghost use Rattle.fuse_answer.specs.Entries.{entry_of};
+    ghost use Rattle.fuse_answer.specs.Entries.{directory_entry_of};
     ghost use Rattle.fuse_answer.specs.FirstEntry.{entries_left};
 
     type Item = Dirent<'a>;
 
-    ghost next_gives = { YieldsFirstBy entry_of entries_left };
+    ghost next_gives = { YieldsFirstBy directory_entry_of entries_left };
 
     ghost remaining = { item_count entries_left };
 

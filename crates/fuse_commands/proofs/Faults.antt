@@ -7,7 +7,7 @@ use Rattle.fuse_wire.specs.Bytes.{number_of}
 use Rattle.fuse_request.specs.declared.framer.FrameFault.{FrameFault}
 use Rattle.fuse_request.specs.declared.framer.FrameFault.TheVariants.{Short, TooLong, Cut, Memory}
 use Rattle.fuse_request.specs.Stream.{is_whole, CutSteps}
-use Rattle.fuse_request.specs.Framing.{Held, HasNone, GivesNext, bad_length, end_fault, needed}
+use Rattle.fuse_request.specs.Framing.{HeldBytes, HasNone, GivesNext, bad_length, end_fault, needed}
 use Rattle.fuse_commands.specs.declared.ending.Ending.{Ending}
 use Rattle.fuse_commands.specs.Endings.{stream_ending}
 use Rattle.fuse_commands.specs.inner.Failing.{GaveOut}
@@ -63,7 +63,7 @@ kept_known (Some xs) None at f h g = absurd h
 kept_known (Some xs) (Some ys) at f h g = rw (sym h) g
 
 -- the framer's fault is that of the stream
-pub faulty : (a : Option (List ℕ)) (old new : Held) (rest : Option (List ℕ)) (at : ℕ) (f : FrameFault) (ending : Ending) → CutSteps
+pub faulty : (a : Option (List ℕ)) (old new : HeldBytes) (rest : Option (List ℕ)) (at : ℕ) (f : FrameFault) (ending : Ending) → CutSteps
     → Keeps a (prepend_known old.bytes rest) → old.at ≡ at
     → GivesNext old new (Err f) → ending ≡ stream_ending f → GaveOut ending ⊎ HasFault a at ending
 faulty a old new rest at Memory ending steps kept here g is = inl (rw is (omega arith))

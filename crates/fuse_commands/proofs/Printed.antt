@@ -12,10 +12,10 @@ use Rattle.fuse_keeper.specs.Model.{Model}
 use Rattle.fuse_keeper.specs.History.{History, grown, said, SaidFits}
 use Rattle.fuse_keeper.specs.KeeperState.{KeeperState}
 use Rattle.fuse_session.specs.declared.counts.SessionCounts.{SessionCounts}
-use Rattle.fuse_session.specs.Processed.{Timed, kept_in, answers, answer_by, unique_of, message_id}
+use Rattle.fuse_session.specs.Processed.{Timed, kept_in, answers_to, answer_by, unique_of, message_id}
 use Rattle.fuse_commands.specs.declared.ending.Ending.{Ending}
 use Rattle.fuse_commands.specs.Replaying.{Replayed, Faulted, Prints, PrintsAnswers}
-use Rattle.fuse_commands.specs.inner.Sending.{IsAnswer, Sends}
+use Rattle.fuse_commands.specs.inner.Sending.{IsAnswer, SendsAnswers}
 
 begins_answer : (a : List ℕ) → BeginsWithLen a → IsAnswer a
 begins_answer [] b = tt
@@ -27,7 +27,7 @@ answer_begins len (Bare errno) o unique fits = begins_answer _ (len errno.0 [] u
 answer_begins len Kept None unique fits = tt
 answer_begins len Kept (Some a) unique fits = begins_answer _ (len a.errno a.body unique (fits a refl).short)
 
-answers_begin : (M : Model) → LenStandsFirst → SaidFits M → (s : M.State) (g : History) (timed : List Timed) → AllByRecursion IsAnswer (answers M s g timed)
+answers_begin : (M : Model) → LenStandsFirst → SaidFits M → (s : M.State) (g : History) (timed : List Timed) → AllByRecursion IsAnswer (answers_to M s g timed)
 answers_begin M len fits s g [] = tt
 answers_begin M len fits s g (t ∷ timed) = (
   answer_begins len (class_for M.serves t.bytes) (said M s g (message_id t.bytes)) (unique_of t.bytes) (fits s g (message_id t.bytes)),
@@ -37,7 +37,7 @@ answers_begin M len fits s g (t ∷ timed) = (
 pub printed : {M : Model} → LenStandsFirst → SaidFits M
     → (k k' : KeeperState M) (moment : Moment) (input sent : List ℕ) (counts : SessionCounts) (ending : Ending) (written written' : Option (List ℕ))
     → ((answers : List (List ℕ)) → AllByRecursion IsAnswer answers → sent ≡ joined answers → Prints written written' answers counts)
-    → Replayed k k' moment input ending (Sends sent counts) → Replayed k k' moment input ending (Prints written written')
+    → Replayed k k' moment input ending (SendsAnswers sent counts) → Replayed k k' moment input ending (Prints written written')
 printed {M} len fits k k' moment input sent counts ending written written' prints r = record {
   parts = r.parts;
   are = r.are;
@@ -48,7 +48,7 @@ printed {M} len fits k k' moment input sent counts ending written written' print
       record {
         works = d.works;
         stood = d.stood;
-        gave = subst (Prints written written' (answers M s g timed)) d.gave.1 (prints (answers M s g timed) (answers_begin M len fits s g timed) d.gave.0);
+        gave = subst (Prints written written' (answers_to M s g timed)) d.gave.1 (prints (answers_to M s g timed) (answers_begin M len fits s g timed) d.gave.0);
       };
   ends = r.ends;
 }
@@ -72,7 +72,7 @@ fault_printed {M} len fits k k' moment input sent ending written written' prints
         processed = record {
           works = d.processed.works;
           stood = d.processed.stood;
-          gave = prints (answers M s g d.prefix) (answers_begin M len fits s g d.prefix) d.processed.gave;
+          gave = prints (answers_to M s g d.prefix) (answers_begin M len fits s g d.prefix) d.processed.gave;
         };
       };
   may = f.may;

@@ -11,7 +11,8 @@ use Rattle.std.proofs.lemmas.List.Elements.{All-from_recursion, recursion_from_A
 use Rattle.fuse_request.specs.Classes.{is_zero}
 use Rattle.fuse_request.specs.Opcodes.{OpcodeSet}
 use Rattle.fuse_keeper.specs.declared.fault.StoreFault.{StoreFault}
-use Rattle.fuse_keeper.specs.Model.{Model, IsRowed}
+use Rattle.fuse_keeper.specs.declared.keeper.StoreCounts.{StoreCounts}
+use Rattle.fuse_keeper.specs.Model.{Model, IsOfGoodState}
 use Rattle.fuse_keeper.specs.History.{History, after}
 use Rattle.fuse_keeper.specs.Performance.{Performance, IsPerformanceLog}
 use Rattle.fuse_keeper.specs.Stands.{Records}
@@ -30,8 +31,8 @@ use Rattle.fuse_commands.specs.declared.simulate.Simulation.{Simulation}
 use Rattle.fuse_commands.specs.Endings.{status_of, store_ending}
 use Rattle.fuse_commands.specs.Scripts.{lines_of, WritesAll}
 use Rattle.fuse_commands.specs.Output.{line, store_line}
-use Rattle.fuse_commands.specs.Simulating.{outcome_line, outcome_lines, state_after, StandsAfter, BeginSo, AnsweredFault, StoreEnded, AreOfFirst}
-use Rattle.fuse_commands.specs.Simulating.{RefusedAgain, RefusedIn}
+use Rattle.fuse_commands.specs.Simulating.{outcome_line, outcome_lines, state_after, StandsFromStart, BeginSo, AnsweredFault, StoreEnded, AreOfFirst}
+use Rattle.fuse_commands.specs.Simulating.{RefusedAgain, RefusedIn, CountsAre}
 use Rattle.fuse_commands.specs.Simulating.{LeftBySome, LeftByScript, StoppedIn, Shown, SimulatedAll}
 use Rattle.fuse_commands.specs.inner.Simulating.{Went, RanScript}
 use Rattle.fuse_commands.proofs.Known.{consumes_then}
@@ -93,8 +94,8 @@ never_unfit (Memory n) events fit named unfit = unfit
 
 -- the counts of a keeper that stands for a history
 counted : {M : Model} (k : KeeperState M) (count : M.Rows → ℕ) (s : M.State) (h : History) (t : List ℕ) (n : ℕ) → StandsFor k s h t
-    → ((rows : M.Rows) (records : _) → k.holds rows records → IsRowed M rows → n ≡ count rows) → n ≡ count (M.held_for (after M s h))
-unfolding IsRowed
+    → ((rows : M.Rows) (records : _) → k.holds rows records → IsOfGoodState M rows → n ≡ count rows) → n ≡ count (M.held_for (after M s h))
+unfolding IsOfGoodState
 counted {M} k count s h t n so counts = counts so.rows so.records so.held (after M s h, so.stands.tree, so.stands.rows_are) ∙ ap count so.stands.rows_are
 
 stands_kept : {M : Model} (k k' : KeeperState M) (s : M.State) (h : History) (t : List ℕ) → KeepsHeld k k' → StandsFor k s h t → StandsFor k' s h t
@@ -113,14 +114,14 @@ looked_firm old new rows records sound keeps whole crash held firm x r holds =
 pub went : {M : Model} {K : Type 0} (told : K → KeeperState M) (old left : Option K) (k k' : K) (s : M.State) (events : List Event)
     (simulation : Simulation) → left ≡ Some k → Looked (told k) (told k') (Ok simulation.counts) → IsSound (told k') → (told k').is_honest
     → ((told_in told left).is_honest → map bytes_given simulation.outcomes.items ≡ map (outcome_of M s (committed M.serves [] events)) events)
-    → ((told_in told left).is_honest → StandsAfter told left s events)
+    → ((told_in told left).is_honest → StandsFromStart told left s events)
     → ((told_in told left).is_honest → IsFirm (told_in told old) → IsFirm (told_in told left))
     → Reports (told k) (told k') (λ rows records. simulation.counts.nodes ≡ M.nodes rows)
     → Reports (told k) (told k') (λ rows records. simulation.counts.handles ≡ M.handles rows)
     → Went told old (Some k') s events simulation
 went {M} told old left k k' s events simulation is looked sound last answers stands firm nodes handles =
     let good : (told_in told left).is_honest = subst (λ o. (told_in told o).is_honest) (sym is) (looked.called.honest last) in
-    let so : StandsFor (told k) s (committed M.serves [] events) (settled_by M.serves [] events) = subst (λ o. StandsAfter told o s events) is (stands good) in
+    let so : StandsFor (told k) s (committed M.serves [] events) (settled_by M.serves [] events) = subst (λ o. StandsFromStart told o s events) is (stands good) in
     record {
       outcomes = answers good;
       nodes = counted (told k) M.nodes s (committed M.serves [] events) (settled_by M.serves [] events) simulation.counts.nodes so (nodes last);
@@ -128,6 +129,23 @@ went {M} told old left k k' s events simulation is looked sound last answers sta
       stands = stands_kept (told k) (told k') s (committed M.serves [] events) (settled_by M.serves [] events) (looked.same last) so;
       firm = λ was. looked_firm (told k) (told k') so.rows so.records sound (looked.same last) looked.whole looked.crash so.held
           (subst (λ o. IsFirm (told_in told o)) is (firm good was));
+    }
+
+-- the counts are those of what is held then
+pub counts_are : {M : Model} {K : Type 0} (told : K → KeeperState M) (old left : Option K) (k k' : K) (events : List Event) (counts : StoreCounts)
+    → left ≡ Some k → Looked (told k) (told k') (Ok counts) → DeletesHanded told old left (performances M.serves events) events
+    → Reports (told k) (told k') (λ rows records. counts.nodes ≡ M.nodes rows)
+    → Reports (told k) (told k') (λ rows records. counts.handles ≡ M.handles rows)
+    → CountsAre told old (Some k') counts.nodes counts.handles
+counts_are {M} told old left k k' events counts is looked records nodes handles = λ last rows before held rowed.
+    let good = looked.called.honest last in
+    let there = subst (λ o. DeletesHanded told old o (performances M.serves events) events) is records good rows before held rowed in
+    record {
+      rows = there.rows;
+      records = there.records;
+      held = looked.same last there.rows there.records there.held;
+      nodes_are = nodes last there.rows there.records there.held there.rowed;
+      handles_are = handles last there.rows there.records there.held there.rowed;
     }
 
 -- it was asked for nothing more then
@@ -228,7 +246,7 @@ all_left {M} k old left x x' events is sound honest keeps stands records asked =
   stands = λ clean s so none.
       let good : (told_in k.told left).is_honest = subst (λ o. (told_in k.told o).is_honest) (sym is) (honest (sound.clean_is_honest clean)) in
       stands_kept (k.told x) (k.told x') s (committed M.serves [] events) (settled_by M.serves [] events) (keeps clean)
-      (subst (λ o. StandsAfter k.told o s events) is (stands good s [] [] so none));
+      (subst (λ o. StandsFromStart k.told o s events) is (stands good s [] [] so none));
   records = λ clean good rows before held rowed.
       let there = subst (λ o. DeletesHanded k.told old o (performances M.serves events) events) is records (honest good) rows before held rowed in
       record {
@@ -270,11 +288,12 @@ pub ran : {M : Model} {K : Type 0} (k : Seen M K) (old new : Option K) (r : Resu
     → IfOk r (λ simulation. length simulation.outcomes.items ≡ length events)
     → IfOk r (λ simulation. BeginSo k.told old new events (map bytes_given simulation.outcomes.items))
     → OnOk r (performed_in k.performed old new (performances M.serves events)) → OnOk r (Opened k.told k.became old new events)
+    → IfOk r (λ simulation. CountsAre k.told old new simulation.counts.nodes simulation.counts.handles)
     → IfSome known (λ xs. script ≡ xs) → slice ≡ script → WritesAll (lines_of slice) items → events ≡ items
     → IfOk r (λ simulation. IfSome known (λ xs. RanScript k old new xs simulation))
-ran k old new (Err ending) known script slice items events went count begin asked opened all same described is = tt
-ran k old new (Ok simulation) None script slice items events went count begin asked opened all same described is = tt
-ran k old new (Ok simulation) (Some xs) script slice items events went count begin asked opened all same described is =
+ran k old new (Err ending) known script slice items events went count begin asked opened counts all same described is = tt
+ran k old new (Ok simulation) None script slice items events went count begin asked opened counts all same described is = tt
+ran k old new (Ok simulation) (Some xs) script slice items events went count begin asked opened counts all same described is =
     record {
       events = events;
       described = subst (λ x. WritesAll (lines_of x) events) (same ∙ all) (subst (WritesAll (lines_of slice)) (sym is) described);
@@ -282,6 +301,7 @@ ran k old new (Ok simulation) (Some xs) script slice items events went count beg
       begin = begin;
       asked = asked;
       opened = opened;
+      counts = counts;
       went = went;
     }
 
@@ -435,4 +455,5 @@ simulated k keeper keeper' (Some script) simulation old new ran printed = λ sma
       printed = printed;
       count = length-map simulation.outcomes.items bytes_given ∙ ran.count;
       begin = ran.begin;
+      counts = ran.counts;
     }

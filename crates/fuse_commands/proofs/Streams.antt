@@ -29,13 +29,13 @@ use Rattle.fuse_session.specs.Counting.{counted}
 use Rattle.fuse_session.specs.Deeds.{Deeds, Hears}
 use Rattle.fuse_session.specs.Passage.{Passage, passage}
 use Rattle.fuse_session.specs.Exchange.{HoldsAt}
-use Rattle.fuse_session.specs.Serving.{Waiting, Turned, Whole, Run, nothing_waits}
+use Rattle.fuse_session.specs.Serving.{Waiting, TookTurn, Whole, Run, nothing_waits}
 use Rattle.fuse_session.specs.Ends.{EndsAs, counts_at}
 use Rattle.fuse_commands.specs.declared.ending.Ending.{Ending}
 use Rattle.fuse_commands.specs.declared.ending.Ending.TheVariants.{Done, ZeroUnique}
 use Rattle.fuse_commands.specs.Endings.{session_ending, stream_ending, store_ending, status_of, IsOfStream}
-use Rattle.fuse_commands.specs.Replaying.{Parts, Processed, EndsAt, EndsFaulty, Replayed, Faulted, StandsForPrefix, AsksFor}
-use Rattle.fuse_commands.specs.inner.Sending.{Sends}
+use Rattle.fuse_commands.specs.Replaying.{Parts, Processed, EndsAt, EndsFaulty, Replayed, Faulted, StandsForPrefix, AsksForGroups}
+use Rattle.fuse_commands.specs.inner.Sending.{SendsAnswers}
 use Rattle.fuse_commands.proofs.Rests.{came, cut_came, all_came, bad_came}
 use Rattle.fuse_commands.proofs.Unsettled.{IsTaken, all_taken, nothing_settled, none_again, asks_for}
 
@@ -70,11 +70,11 @@ each_prefix P (x ∷ xs) ys all = (all.0, each_prefix P xs ys all.1)
 record Settled {M : Model} (k' : KeeperState M) (at : Standing M) (timed : List Timed) (going : Bool) (sent : List ℕ) (counts : SessionCounts) : Type 0 where
   pub goes : going ≡ true → GoesOn M at.state at.history timed
   pub last : going ≡ false → EndsLast M at.state at.history timed
-  pub processed : Processed at timed (HoldsAt k') (λ answers. Sends sent counts answers (counted M.serves at.history timed))
+  pub processed : Processed at timed (HoldsAt k') (λ answers. SendsAnswers sent counts answers (counted M.serves at.history timed))
 
 settled : {M : Model} (k k' : KeeperState M) (did : Deeds → Type 0) (input sent : List ℕ) (port : PortState) (pending' : List ℕ)
     (prefix : List (List ℕ)) (going : Bool) (counts : SessionCounts) → PortEnds port sent
-    → (turned : Turned (over k k' did input port) [] pending' prefix going counts) → k'.is_honest
+    → (turned : TookTurn (over k k' did input port) [] pending' prefix going counts) → k'.is_honest
     → (s : M.State) (h : History) (t : List ℕ) → StandsFor k s h t → AllByRecursion (MayCome M.serves t) (bytes_of turned.work.timed)
     → Settled k' (at_standing s h t) turned.work.timed going sent counts
 settled {M} k k' did input sent port pending' prefix going counts port_ends turned honest s h t so may =
@@ -122,10 +122,10 @@ counts_shown session.Memory counts n shown unheard of_stream is so = absurd (ome
 processed_so : {M : Model} (k k' : KeeperState M) (moment : Moment) (did : Deeds → Type 0) (input sent : List ℕ) (port : PortState)
     (received pending' : List ℕ) (prefix others : List (List ℕ)) (going : Bool) (counts : SessionCounts) (ending : Ending)
     → IsFixed did moment → PortEnds port sent → (cut input).0 ≡ prefix ++ others
-    → (turned : Turned (over k k' (Hears did received) input port) [] pending' prefix going counts)
+    → (turned : TookTurn (over k k' (Hears did received) input port) [] pending' prefix going counts)
     → ((at : Standing M) → (going ≡ true → GoesOn M at.state at.history turned.work.timed) → (going ≡ false → EndsLast M at.state at.history turned.work.timed)
     → EndsAt at (parts_in input turned.work.timed others) ending)
-    → Replayed k k' moment input ending (Sends sent counts)
+    → Replayed k k' moment input ending (SendsAnswers sent counts)
 processed_so {M} k k' moment did input sent port received pending' prefix others going counts ending fixed port_ends parts turned ends =
     let timed = turned.work.timed in
     let here = settled k k' (Hears did received) input sent port pending' prefix going counts port_ends turned in
@@ -148,7 +148,7 @@ rested : {M : Model} (k k' : KeeperState M) (moment : Moment) (did : Deeds → T
     → (w : Whole (over k k' did input port) nothing_waits after counts) → (cut input).0 ≡ (cut w.received).0
     → ((at : Standing M) (timed : List Timed) → GoesOn M at.state at.history timed → after.at ≡ length (joined (bytes_of timed))
     → EndsAt at (parts_in input timed []) ending)
-    → Replayed k k' moment input ending (Sends sent counts)
+    → Replayed k k' moment input ending (SendsAnswers sent counts)
 rested k k' moment did input sent port after counts ending fixed port_ends w same ends =
     let place : after.at ≡ length (joined (bytes_of w.turned.work.timed)) = omega (arith, w.at, ap (λ ms. length (joined ms)) w.turned.bytes) in
     processed_so k k' moment did input sent port w.received after.pending (cut w.received).0 [] true counts ending fixed port_ends
@@ -162,11 +162,11 @@ zero_more (m ∷ ms) more zero = zero
 halted : CutJoins → {M : Model} (k k' : KeeperState M) (moment : Moment) (did : Deeds → Type 0) (input sent : List ℕ) (port : PortState)
     (received pending' : List ℕ) (n : ℕ) (going : Bool) (counts : SessionCounts) (place : ℕ) (ending : Ending) → IsFixed did moment → PortEnds port sent
     → Consumes (Some input) port.coming received → place ≡ 0 + length (joined (take n (cut received).0))
-    → Turned (over k k' (Hears did received) input port) [] pending' (take n (cut received).0) going counts
+    → TookTurn (over k k' (Hears did received) input port) [] pending' (take n (cut received).0) going counts
     → ((at : Standing M) (timed : List Timed) (more : List (List ℕ)) → (going ≡ true → GoesOn M at.state at.history timed)
     → (going ≡ false → EndsLast M at.state at.history timed) → place ≡ length (joined (bytes_of timed))
     → EndsAt at (parts_in input timed (drop n (cut received).0 ++ more)) ending)
-    → Replayed k k' moment input ending (Sends sent counts)
+    → Replayed k k' moment input ending (SendsAnswers sent counts)
 halted joins k k' moment did input sent port received pending' n going counts place ending fixed port_ends came_from place_is turned ends =
     let c = came input port.coming received came_from in
     let more = (cut ((cut received).1 ++ c.later)).0 in
@@ -188,7 +188,7 @@ faulty frame.Memory standing parts of_stream e = absurd (omega (arith, of_stream
 replayed : CutJoins → CutSteps → {M : Model} (k k' : KeeperState M) (moment : Moment) (did : Deeds → Type 0) (input sent : List ℕ) (port : PortState)
     (turns : ℕ) (e : Ended) (counts : SessionCounts) → IsFixed did moment → PortEnds port sent
     → EndsAs (over k k' did input port) nothing_waits turns e counts → IsOfStream (session_ending e)
-    → Replayed k k' moment input (session_ending e) (Sends sent counts)
+    → Replayed k k' moment input (session_ending e) (SendsAnswers sent counts)
 replayed joins steps k k' moment did input sent port turns session.End counts fixed port_ends e of_stream =
     let r = e.1 in
     let c = came input port.coming r.whole.received r.whole.came in
@@ -227,9 +227,9 @@ pub session_replayed : CutJoins → CutSteps → {M : Model} (k k' : KeeperState
     (old port : PortState) (turns : ℕ) (e : Ended) (counts : SessionCounts) (ending : Ending) → IsFixed did moment → PortEnds port sent
     → ending ≡ session_ending e → old ≡ fresh (Some input) (Some []) false → EndsAs (passage k k' old port did) nothing_waits turns e counts
     → IsOfStream ending
-    → Replayed k k' moment input ending (Sends sent counts)
+    → Replayed k k' moment input ending (SendsAnswers sent counts)
 session_replayed joins steps k k' moment did input sent old port turns e counts ending fixed port_ends is start ends of_stream =
-    subst (λ x. Replayed k k' moment input x (Sends sent counts)) (sym is)
+    subst (λ x. Replayed k k' moment input x (SendsAnswers sent counts)) (sym is)
     (replayed joins steps k k' moment did input sent port turns e counts fixed port_ends
     (subst (λ x. EndsAs (passage k k' x port did) nothing_waits turns e counts) start ends) (subst IsOfStream is of_stream))
 
@@ -333,8 +333,8 @@ kept joins {M} k k' e moment did performed input port fixed asks gone clean_hone
       asked = b.work.deeds.asked;
       was_asked = asks b.work.deeds b.work.done.0;
       asks =
-          subst (λ (x : List Timed). AsksFor M.serves x b.work.deeds.asked) (sym b.work.are.messages)
-          (subst (λ (a : List Performance). AsksFor M.serves (timed_in b.work.batches) a) (sym b.work.asked)
+          subst (λ (x : List Timed). AsksForGroups M.serves x b.work.deeds.asked) (sym b.work.are.messages)
+          (subst (λ (a : List Performance). AsksForGroups M.serves (timed_in b.work.batches) a) (sym b.work.asked)
           (asks_for M.serves b.work.batches (subst (AllByRecursion IsTaken) b.work.are.answers taken)));
       stands = λ clean s h t so may.
           let intact : IsIntact k' e = record { honest = clean_honest clean; clean = λ _. clean } in

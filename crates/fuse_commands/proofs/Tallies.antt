@@ -13,7 +13,7 @@ use Rattle.fuse_request.specs.Framing.{HasNone, end_fault}
 use Rattle.fuse_commands.specs.declared.check.MessageCounts.{MessageCounts}
 use Rattle.fuse_commands.specs.declared.messages.Placed.{Placed}
 use Rattle.fuse_commands.specs.declared.ending.Ending.{Ending}
-use Rattle.fuse_commands.specs.Messages.{fault_of}
+use Rattle.fuse_commands.specs.Messages.{stream_fault}
 use Rattle.fuse_commands.specs.inner.Messages.{GaveMessage, GaveSome, GivesPlaced, WentSoFar, WentThrough}
 use Rattle.fuse_commands.specs.Checking.{is_malformed, is_unsupported, checked}
 use Rattle.fuse_commands.proofs.Known.{consumes_then}
@@ -55,7 +55,7 @@ cut_known (Some w) (Some rest) at ms one steps some none =
     (one w).1 ms rest (record { whole = some.left_is; each = recursion_from_All IsMessage ms some.each; stuck = stuck rest (is_whole rest) refl steps none })
 
 pub went_faulty : (stream left : Option (List ℕ)) (at : ℕ) (P : List (List ℕ) → Type 0) (fault : FrameFault) → IsOneCut → CutSteps → WentSoFar stream left at P
-    → IfSome left (λ rest. HasNone rest × (end_fault at rest ≡ Some fault)) → IfSome stream (λ w. (fault_of w ≡ Some fault) × P (cut w).0)
+    → IfSome left (λ rest. HasNone rest × (end_fault at rest ≡ Some fault)) → IfSome stream (λ w. (stream_fault w ≡ Some fault) × P (cut w).0)
 went_faulty None left at P fault one steps some here = tt
 went_faulty (Some w) None at P fault one steps some here = absurd some.gave.left_is
 went_faulty (Some w) (Some rest) at P fault one steps some here =
@@ -67,7 +67,7 @@ unfolding cut
 none_left = refl
 
 pub went_whole : (stream left : Option (List ℕ)) (at : ℕ) (P : List (List ℕ) → Type 0) → IsOneCut → CutSteps → WentSoFar stream left at P
-    → IsAtEnd left → IfSome stream (λ w. (fault_of w ≡ None) × P (cut w).0)
+    → IsAtEnd left → IfSome stream (λ w. (stream_fault w ≡ None) × P (cut w).0)
 went_whole None left at P one steps some end = tt
 went_whole (Some w) None at P one steps some end = absurd some.gave.left_is
 went_whole (Some w) (Some rest) at P one steps some end =

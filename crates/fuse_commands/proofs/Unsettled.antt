@@ -8,8 +8,8 @@ use Rattle.fuse_keeper.specs.History.{Entry}
 use Rattle.fuse_keeper.specs.Performance.{Performance, performances_of}
 use Rattle.fuse_session.specs.Batches.{Batch, timed_in, marks_in, handed_over, pending_after}
 use Rattle.fuse_session.specs.Processed.{Timed, bytes_of, entries_at, kept_in}
-use Rattle.fuse_session.specs.Settling.{Mark, settles, settled_in, NoneComesAgain, MayCome, Places, PlaceFirst}
-use Rattle.fuse_commands.specs.Replaying.{AsksFor}
+use Rattle.fuse_session.specs.Settling.{Mark, settles_by_mark, settled_in, NoneComesAgain, MayCome, Places, PlaceFirst}
+use Rattle.fuse_commands.specs.Replaying.{AsksForGroups}
 
 abbrev pub IsTaken : Mark → Type 0
 IsTaken mark = mark.gone ≡ false
@@ -25,7 +25,7 @@ all_taken sent (m ∷ marks) places none p =
     let one = first_taken m.gone (append_known sent m.reply) (Places (append_known sent m.reply) marks) places none p in
     (one.0, all_taken _ marks places none one.1)
 
-settles_nothing : (V : OpcodeSet) (m : List ℕ) (mark : Mark) → mark.gone ≡ false → settles V false m mark ≡ []
+settles_nothing : (V : OpcodeSet) (m : List ℕ) (mark : Mark) → mark.gone ≡ false → settles_by_mark V false m mark ≡ []
 settles_nothing V m mark is = rw is refl
 
 settled_nothing : (V : OpcodeSet) (ms : List (List ℕ)) (marks : List Mark) → AllByRecursion IsTaken marks → settled_in V false ms marks ≡ []
@@ -41,7 +41,7 @@ pub none_again : (V : OpcodeSet) (t : List ℕ) (ms : List (List ℕ)) (marks : 
 none_again V t [] marks each may = tt
 none_again V t (m ∷ ms) [] each may = (may.0, none_again V t ms [] tt may.1)
 none_again V t (m ∷ ms) (mark ∷ marks) each may =
-    let same : t ++ settles V false m mark ≡ t = ap (λ (x : List ℕ). t ++ x) (settles_nothing V m mark each.0) ∙ append-nil t in
+    let same : t ++ settles_by_mark V false m mark ≡ t = ap (λ (x : List ℕ). t ++ x) (settles_nothing V m mark each.0) ∙ append-nil t in
     (may.0, subst (λ (u : List ℕ). NoneComesAgain V false u ms marks) (sym same) (none_again V t ms marks each.1 may.1))
 
 -- ---- what the keeper was asked to perform
@@ -70,15 +70,15 @@ taken_both (x ∷ xs) ys each = let both = taken_both xs ys each.1 in ((each.0, 
 
 -- what was asked for, batch by batch, where nothing is settled
 pub asks_for : (V : OpcodeSet) (batches : List Batch) → AllByRecursion IsTaken (marks_in batches)
-    → AsksFor V (timed_in batches) (handed_over V false [] batches)
+    → AsksForGroups V (timed_in batches) (handed_over V false [] batches)
 asks_for V [] taken = record { groups = refl; unsettled = tt }
 asks_for V (b ∷ bs) taken =
     let both = taken_both b.marks (marks_in bs) taken in
     let none : pending_after V false [] b ≡ [] =
     ap (λ (x : List ℕ). x ++ settled_in V false (bytes_of b.timed) b.marks) (none_pending (kept_in V b.timed))
     ∙ settled_nothing V (bytes_of b.timed) b.marks both.0 in
-    let later : AsksFor V (timed_in bs) (handed_over V false (pending_after V false [] b) bs) =
-    subst (λ (p : List ℕ). AsksFor V (timed_in bs) (handed_over V false p bs)) (sym none) (asks_for V bs both.1) in
+    let later : AsksForGroups V (timed_in bs) (handed_over V false (pending_after V false [] b) bs) =
+    subst (λ (p : List ℕ). AsksForGroups V (timed_in bs) (handed_over V false p bs)) (sym none) (asks_for V bs both.1) in
     record {
       groups = groups_of (kept_in V b.timed) (handed_over V false (pending_after V false [] b) bs)
           ∙ ap (λ (x : List Entry). kept_in V b.timed ++ x) later.groups ∙ sym (kept_both V b.timed (timed_in bs));

@@ -31,10 +31,10 @@ abbrev pub IsNumber : List ℕ → Type 0
 IsNumber text = IsNumeral 10 (without_leading_plus text) × (digits_value 10 (without_leading_plus text) < 2 ^ 64)
 
 -- the number in a text, where there is a text and it has one
-abbrev pub IsRead : Option (List ℕ) → Option ℕ → Type 0
-IsRead None number = number ≡ None
-IsRead (Some text) (Some n) = IsNumber text × (n ≡ digits_value 10 (without_leading_plus text))
-IsRead (Some text) None = IsNumber text → ⊥
+abbrev pub IsNumberIn : Option (List ℕ) → Option ℕ → Type 0
+IsNumberIn None number = number ≡ None
+IsNumberIn (Some text) (Some n) = IsNumber text × (n ≡ digits_value 10 (without_leading_plus text))
+IsNumberIn (Some text) None = IsNumber text → ⊥
 
 -- a text names an owner: two numbers in decimal digits, below 2^32, with a colon between them
 pub record IsOwner (text : List ℕ) (owner : AskedOwner) : Type 0 where
@@ -45,16 +45,16 @@ pub record IsOwner (text : List ℕ) (owner : AskedOwner) : Type 0 where
   pub gid : IsDecimal group owner.gid × (owner.gid < 2 ^ 32)
 
 -- the owner that a text names, where there is a text
-abbrev pub IsNamed : Option (List ℕ) → Option AskedOwner → Type 0
-IsNamed None owner = owner ≡ None
-IsNamed (Some text) None = ⊥
-IsNamed (Some text) (Some owner) = IsOwner text owner
+abbrev pub IsNamedOwner : Option (List ℕ) → Option AskedOwner → Type 0
+IsNamedOwner None owner = owner ≡ None
+IsNamedOwner (Some text) None = ⊥
+IsNamedOwner (Some text) (Some owner) = IsOwner text owner
 
 -- it is what these arguments ask for
 pub record AsksFor (f : Found) (asked : AskedStore) : Type 0 where
   pub profile : asked.profile ≡ profile_named (first_value f (codes "profile"))
-  pub capacity : IsRead (one_text f (codes "capacity")) asked.capacity
-  pub owner : IsNamed (first_value f (codes "owner")) asked.owner
+  pub capacity : IsNumberIn (one_text f (codes "capacity")) asked.capacity
+  pub owner : IsNamedOwner (first_value f (codes "owner")) asked.owner
 
 -- ---- in a command
 
@@ -66,10 +66,10 @@ asked_for (Replay db at wary new) = new
 asked_for (Simulate new) = new
 asked_for _ = plain_asked
 
-abbrev pub asked_in : Run → AskedStore
-asked_in (Serve db begin at wary new) = new
-asked_in (Read input work) = asked_for work
-asked_in _ = plain_asked
+abbrev pub asked_store_in : Run → AskedStore
+asked_store_in (Serve db begin at wary new) = new
+asked_store_in (Read input work) = asked_for work
+asked_store_in _ = plain_asked
 
 -- ---- the run
 
@@ -103,14 +103,14 @@ IsWork name f input Decode = (name ≡ codes "decode") × HasWord f (codes "file
 IsWork name f input Check = (name ≡ codes "check") × HasWord f (codes "file") input
 IsWork name f input (Replay db at wary new) =
     (name ≡ codes "replay") × HasWord f (codes "stream") input × (option_map (λ s. s.now) db ≡ first_value f (codes "db"))
-    × IsRead (one_text f (codes "at")) (Some at) × IsFlag f (codes "wary") wary × AsksFor f new
+    × IsNumberIn (one_text f (codes "at")) (Some at) × IsFlag f (codes "wary") wary × AsksFor f new
 IsWork name f input (Simulate new) = (name ≡ codes "simulate") × HasWord f (codes "script") input × AsksFor f new
 
 -- this command, with these arguments
 abbrev pub IsRun : List ℕ → Found → Run → Type 0
 IsRun name f (Read input work) = IsWork name f input work
 IsRun name f (Serve db begin at wary new) =
-    (name ≡ codes "serve") × HasWord f (codes "db") db × BeginsBy f begin × IsRead (one_text f (codes "at")) at × IsFlag f (codes "wary") wary
+    (name ≡ codes "serve") × HasWord f (codes "db") db × BeginsBy f begin × IsNumberIn (one_text f (codes "at")) at × IsFlag f (codes "wary") wary
     × AsksFor f new
 IsRun name f (Store file) = (name ≡ codes "store") × HasWord f (codes "file") file
 IsRun name f (runs.List file path) =

@@ -3,7 +3,7 @@ use Rattle.std.specs.Prelude.{◌≡◌, ◌&&◌, ℕ, zero, suc, Bool, true, f
 use Rattle.std.specs.List.{filter}
 use Rattle.std.specs.Io.KnownBytes.{Appends}
 use Rattle.fuse_request.specs.declared.framer.FrameFault.{FrameFault}
-use Rattle.fuse_request.specs.Act.{Act, Unsupported}
+use Rattle.fuse_request.specs.Act.{Act, Further}
 use Rattle.fuse_request.specs.Faults.{first_fault}
 use Rattle.fuse_request.specs.Places.{act_in}
 use Rattle.fuse_request.specs.Stream.{cut}
@@ -11,7 +11,7 @@ use Rattle.fuse_commands.specs.declared.check.MessageCounts.{MessageCounts}
 use Rattle.fuse_commands.specs.declared.ending.Ending.{Ending}
 use Rattle.fuse_commands.specs.declared.ending.Ending.TheVariants.{Done, Malformed}
 use Rattle.fuse_commands.specs.Endings.{stream_ending}
-use Rattle.fuse_commands.specs.Messages.{fault_of}
+use Rattle.fuse_commands.specs.Messages.{stream_fault}
 use Rattle.fuse_commands.specs.Output.{line}
 
 -- the message spells no request
@@ -19,7 +19,7 @@ abbrev pub is_malformed : List ℕ → Bool
 is_malformed m = is_some (first_fault m)
 
 abbrev pub asks_unsupported : Act → Bool
-asks_unsupported (Unsupported opcode body) = true
+asks_unsupported (Further opcode body) = true
 asks_unsupported _ = false
 
 -- the message spells a request outside the profile
@@ -43,4 +43,4 @@ check_ending None (suc n) = Malformed
 -- the counts of the messages of a stream were written, and the check ends with this
 pub record Checked (old new : Option (List ℕ)) (stream : List ℕ) (ending : Ending) : Type 0 where
   pub written : Appends old new (line (check_line (checked (cut stream).0)))
-  pub ends : ending ≡ check_ending (fault_of stream) (checked (cut stream).0).malformed
+  pub ends : ending ≡ check_ending (stream_fault stream) (checked (cut stream).0).malformed

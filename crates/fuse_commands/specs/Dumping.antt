@@ -10,7 +10,7 @@ use Rattle.fuse_request.specs.Header.{raw_of}
 use Rattle.fuse_request.specs.Opcodes.{name_of}
 use Rattle.fuse_request.specs.Stream.{cut}
 use Rattle.fuse_commands.specs.declared.ending.Ending.{Ending}
-use Rattle.fuse_commands.specs.Messages.{fault_of, look_ending}
+use Rattle.fuse_commands.specs.Messages.{stream_fault, look_ending}
 use Rattle.fuse_commands.specs.Output.{line}
 
 -- an opcode as its name, or as its number if it is outside the profile
@@ -55,4 +55,4 @@ dump_lines at (m ∷ ms) = line (dump_line at (raw_of m) (first_fault m)) ++ dum
 -- the lines of the messages of a stream were written, and the dump ends with this
 pub record Dumped (old new : Option (List ℕ)) (stream : List ℕ) (ending : Ending) : Type 0 where
   pub written : Appends old new (dump_lines 0 (cut stream).0)
-  pub ends : ending ≡ look_ending (fault_of stream)
+  pub ends : ending ≡ look_ending (stream_fault stream)

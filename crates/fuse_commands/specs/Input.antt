@@ -12,8 +12,8 @@ abbrev pub remaining_in : {R : Type 0} → {T : Type 0} → (R → Option (List 
 remaining_in remaining p = remaining p.reader
 
 -- its progress line
-abbrev pub line_of : {R : Type 0} → {T : Type 0} → ProgressReader R T → ProgressLine
-line_of p = p.line
+abbrev pub progress_line_of : {R : Type 0} → {T : Type 0} → ProgressReader R T → ProgressLine
+progress_line_of p = p.line
 
 -- the line after n more bytes, at most 2^64 - 1
 abbrev pub read_more : ProgressLine → ℕ → ProgressLine

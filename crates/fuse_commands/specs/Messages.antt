@@ -8,8 +8,8 @@ use Rattle.fuse_commands.specs.declared.ending.Ending.TheVariants.{Done}
 use Rattle.fuse_commands.specs.Endings.{stream_ending}
 
 -- the fault of a stream
-abbrev pub fault_of : List ℕ → Option FrameFault
-fault_of stream = end_fault (length (joined (cut stream).0)) (cut stream).1
+abbrev pub stream_fault : List ℕ → Option FrameFault
+stream_fault stream = end_fault (length (joined (cut stream).0)) (cut stream).1
 
 -- the ending of a command over a stream with this fault, or none
 abbrev pub look_ending : Option FrameFault → Ending

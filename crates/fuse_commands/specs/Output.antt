@@ -9,12 +9,12 @@ abbrev pub line : List ℕ → List ℕ
 line text = text ++ 10 ∷ []
 
 -- an answer in hexadecimal; a message without an answer has no line
-abbrev pub answer_line : List ℕ → List ℕ
-answer_line [] = []
-answer_line (x ∷ xs) = line (encode_lower (x ∷ xs))
+abbrev pub hex_line : List ℕ → List ℕ
+hex_line [] = []
+hex_line (x ∷ xs) = line (encode_lower (x ∷ xs))
 
 abbrev pub answer_lines : List (List ℕ) → List ℕ
-answer_lines answers = flat_map answer_line answers
+answer_lines answers = flat_map hex_line answers
 
 -- the counts of a session, without the line feed
 abbrev pub count_line : SessionCounts → List ℕ

@@ -15,7 +15,7 @@ use Rattle.fuse_keeper.specs.Performance.{Performance}
 use Rattle.fuse_keeper.specs.Stands.{Standing, StandsAt}
 use Rattle.fuse_keeper.specs.KeeperState.{KeeperState, StandsFor, Leaves, IsFirm}
 use Rattle.fuse_session.specs.declared.counts.SessionCounts.{SessionCounts}
-use Rattle.fuse_session.specs.Processed.{Timed, bytes_of, kept_in, answers, GoesOn, Works, EndsLast, StartsZero, moments_in}
+use Rattle.fuse_session.specs.Processed.{Timed, bytes_of, kept_in, answers_to, GoesOn, Works, EndsLast, StartsZero, moments_in}
 use Rattle.fuse_session.specs.Settling.{MayCome}
 use Rattle.fuse_session.specs.Exchange.{HoldsAt}
 use Rattle.fuse_session.specs.Counting.{counted}
@@ -66,7 +66,7 @@ pub record Processed {M : Model} (standing : Standing M) (timed : List Timed) (S
     : Type 0 where
   pub works : Works M standing.state standing.history timed
   pub stood : Stood (added standing timed)
-  pub gave : Gave (answers M standing.state (added standing timed).history timed)
+  pub gave : Gave (answers_to M standing.state (added standing timed).history timed)
 
 -- a prefix of these messages was processed
 pub record ProcessedPrefix {M : Model} (standing : Standing M) (timed : List Timed) (Stood : Standing M → Type 0) (Gave : List (List ℕ) → Type 0)
@@ -101,7 +101,7 @@ pub record Faulted {M : Model} (k k' : KeeperState M) (moment : Moment) (input :
   pub may : k'.is_clean → WhateverStood k parts.timed (λ standing. k.may_answer fault)
 
 -- a keeper was asked to perform the kept messages of these in groups, each once and in order, and no id was settled
-pub record AsksFor (V : OpcodeSet) (timed : List Timed) (asked : List Performance) : Type 0 where
+pub record AsksForGroups (V : OpcodeSet) (timed : List Timed) (asked : List Performance) : Type 0 where
   pub groups : flat_map (λ p. p.group) asked ≡ kept_in V timed
   pub unsettled : AllByRecursion (λ p. p.settled ≡ []) asked
 
@@ -112,7 +112,7 @@ pub record StandsForPrefix {M : Model} (k k' : KeeperState M) (performed : List 
   pub are : ArePartsOf input M.serves moment parts
   pub asked : List Performance
   pub was_asked : performed asked
-  pub asks : AsksFor M.serves parts.timed asked
+  pub asks : AsksForGroups M.serves parts.timed asked
   pub stands : k'.is_clean → WhateverStood k parts.timed (λ standing. ProcessedPrefix standing parts.timed (HoldsAt k') (λ _. Unit {0}))
   pub crash : k'.is_honest → IsFirm k → WhateverStood k parts.timed (λ standing. Leaves k'
       (λ x r. ProcessedPrefix standing parts.timed (StandsAt M (record { rows = x; records = r })) (λ _. Unit {0})))

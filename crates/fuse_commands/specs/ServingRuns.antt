@@ -1,5 +1,5 @@
 -- What serving a port does: at Resume the notices, then a session (defined by this project).
-use Rattle.std.specs.Prelude.{◌≡◌, ◌⊎◌, ℕ, true, List, [], Option, None, Ok, Err, OnOk}
+use Rattle.std.specs.Prelude.{◌≡◌, ◌⊎◌, ℕ, List, [], Option, None, Ok, Err, OnOk}
 use Rattle.fuse_wire.specs.declared.moment.Moment.{Moment}
 use Rattle.fuse_keeper.specs.Model.{Model}
 use Rattle.fuse_keeper.specs.Performance.{Performance}
@@ -8,11 +8,9 @@ use Rattle.fuse_session.specs.declared.counts.SessionCounts.{SessionCounts}
 use Rattle.fuse_session.specs.declared.ended.Served.{Served}
 use Rattle.fuse_session.specs.declared.resend.ResumeFault.{ResumeFault}
 use Rattle.fuse_session.specs.declared.resend.ResumeFault.TheVariants as resume
-use Rattle.fuse_session.specs.declared.device.DevicePort.{DevicePort}
-use Rattle.fuse_session.specs.Port.{PortState, fresh}
+use Rattle.fuse_session.specs.Port.{PortState}
 use Rattle.fuse_session.specs.Transcript.{PortEvent}
 use Rattle.fuse_session.specs.Deeds.{Did}
-use Rattle.fuse_session.specs.DevicePort.{device_told}
 use Rattle.fuse_session.specs.Passage.{passage}
 use Rattle.fuse_session.specs.Session.{Session}
 use Rattle.fuse_session.specs.Resuming.{Resumed, NotResumed, of_store}
@@ -55,16 +53,16 @@ pub record Notified {M : Model} {K P : Type 0} (v : Views M K P) (b : Between K 
   pub unasked : v.performed b.keeper b.keeper' []
 
 -- the notices before the session, at Resume
-abbrev pub Begins : {M : Model} {K P : Type 0} → Begin → Views M K P → Between K P → Type 0
-Begins Resume v b = Notified v b
-Begins Fresh v b = (b.keeper' ≡ b.keeper) × (b.port' ≡ b.port)
+abbrev pub BeginsServing : {M : Model} {K P : Type 0} → Begin → Views M K P → Between K P → Type 0
+BeginsServing Resume v b = Notified v b
+BeginsServing Fresh v b = (b.keeper' ≡ b.keeper) × (b.port' ≡ b.port)
 
 -- a session was served after it, and how it ended is the ending
 pub record SessionServed {M : Model} {K P : Type 0} (v : Views M K P) (gave : List Moment → Type 0) (b : Between K P) (begin : Begin) (ending : Ending)
     (counts : Option SessionCounts) : Type 0 where
   pub begun : K
   pub now : P
-  pub begins : Begins begin v (record { keeper = b.keeper; keeper' = begun; port = b.port; port' = now })
+  pub begins : BeginsServing begin v (record { keeper = b.keeper; keeper' = begun; port = b.port; port' = now })
   pub served : Served
   pub session : Session (passage (v.keeper begun) (v.keeper b.keeper') (v.port now) (v.port b.port')
       (Did gave (v.performed begun b.keeper') (v.became now b.port'))) most_turns served
@@ -92,12 +90,3 @@ pub record NotServed {M : Model} {K P : Type 0} (v : Views M K P) (b : Between K
 
 abbrev pub ServesPort : {M : Model} {K P : Type 0} → Views M K P → (List Moment → Type 0) → Between K P → Begin → Ending → Option SessionCounts → Type 0
 ServesPort v gave b begin ending counts = SessionServed v gave b begin ending counts ⊎ NotServed v b begin ending counts
-
--- so it is of a new port over these two sides of a device, and of what it became
-pub record OverDevice {R W : Type 0} (reader : R) (writer : W) (So : DevicePort R W → DevicePort R W → Type 0) : Type 0 where
-  pub port : DevicePort R W
-  pub port' : DevicePort R W
-  pub reads : port.reader ≡ reader
-  pub writes : port.writer ≡ writer
-  pub new : device_told port ≡ fresh None None true
-  pub so : So port port'

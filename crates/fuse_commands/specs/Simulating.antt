@@ -7,7 +7,8 @@ use Rattle.fuse_keeper.specs.declared.fault.StoreFault.{StoreFault}
 use Rattle.fuse_keeper.specs.Model.{Model}
 use Rattle.fuse_keeper.specs.History.{after}
 use Rattle.fuse_keeper.specs.Performance.{Performance}
-use Rattle.fuse_keeper.specs.KeeperState.{KeeperState, IsFirm}
+use Rattle.fuse_keeper.specs.Stands.{Records}
+use Rattle.fuse_keeper.specs.KeeperState.{KeeperState, IsFirm, Reports}
 use Rattle.fuse_sim.specs.declared.event.Event.{Event}
 use Rattle.fuse_sim.specs.declared.event.DriveFault.TheVariants.{Store}
 use Rattle.fuse_sim.specs.Driving.{committed, settled_by, outcome_of, NoneReused, told_in, became_in, performed_in, StandsIn, OutcomesBegin}
@@ -42,8 +43,8 @@ abbrev pub outcomes_of : (M : Model) → M.State → List Event → List (Option
 outcomes_of M s events = map (outcome_of M s (committed M.serves [] events)) events
 
 -- the keeper stands for the requests that events from a start committed
-abbrev pub StandsAfter : {M : Model} {K : Type 0} → (K → KeeperState M) → Option K → M.State → List Event → Type 0
-StandsAfter {M} told keeper s events = StandsIn told keeper s (committed M.serves [] events) (settled_by M.serves [] events)
+abbrev pub StandsFromStart : {M : Model} {K : Type 0} → (K → KeeperState M) → Option K → M.State → List Event → Type 0
+StandsFromStart {M} told keeper s events = StandsIn told keeper s (committed M.serves [] events) (settled_by M.serves [] events)
 
 -- the outcomes of the first events from a start are those that these lead to, up to a message that comes again though its answer was
 -- taken
@@ -107,7 +108,7 @@ pub record LeftBySome {M : Model} {K : Type 0} (k : Seen M K) (old new : Option 
   pub first : List Event
   pub rest : List Event
   pub parts : events ≡ first ++ rest
-  pub stands : (told_in k.told new).is_clean → (s : M.State) → StandsIn k.told old s [] [] → NoneReused M.serves [] first → StandsAfter k.told new s first
+  pub stands : (told_in k.told new).is_clean → (s : M.State) → StandsIn k.told old s [] [] → NoneReused M.serves [] first → StandsFromStart k.told new s first
   pub records : (told_in k.told new).is_clean → DeletesHanded k.told old new (performances M.serves first) first
   pub asked : ¬ (new ≡ None) → AskedSome k.performed old new (AreOfFirst M.serves events)
 
@@ -126,12 +127,24 @@ NotRun script _ = ⊥
 pub record Shown {M : Model} {K : Type 0} (told : K → KeeperState M) (old new : Option K) (prints : List ℕ → Type 0) (s : M.State)
     (events : List Event) : Type 0 where
   pub printed : prints (simulation_text M s events)
-  pub stands : StandsAfter told new s events
+  pub stands : StandsFromStart told new s events
   pub firm : IsFirm (told_in told old) → IsFirm (told_in told new)
 
+-- it holds so many nodes and handles
+pub record HoldsCounts {M : Model} (k : KeeperState M) (nodes handles : ℕ) : Type 0 where
+  pub rows : M.Rows
+  pub records : Records
+  pub held : k.holds rows records
+  pub nodes_are : nodes ≡ M.nodes rows
+  pub handles_are : handles ≡ M.handles rows
+
+-- so it is of the second keeper, if the first one holds something of a good state, whatever history that stands for, if any
+abbrev pub CountsAre : {M : Model} {K : Type 0} → (K → KeeperState M) → Option K → Option K → ℕ → ℕ → Type 0
+CountsAre told old new nodes handles = Reports (told_in told old) (told_in told new) (λ rows records. HoldsCounts (told_in told new) nodes handles)
+
 -- the events of a script were run to their end over the first keeper, which was opened again wherever the server dies. A line for each
--- was printed, and then the counts: those that the events lead to, if no message comes again whose answer was taken, and up to such a one
--- in any case
+-- was printed, and then the counts of what the keeper holds in the end. They are those that the events lead to, if no message comes again
+-- whose answer was taken; and up to such a one the lines are, in any case
 pub record SimulatedAll {M : Model} {K : Type 0} (k : Seen M K) (old new : Option K) (prints : List ℕ → Type 0) (script : List ℕ) : Type 0 where
   pub events : List Event
   pub described : WritesAll (lines_of script) events
@@ -145,6 +158,7 @@ pub record SimulatedAll {M : Model} {K : Type 0} (k : Seen M K) (old new : Optio
   pub printed : prints (outcome_lines outcomes ++ line (store_line nodes handles))
   pub count : length outcomes ≡ length events
   pub begin : BeginSo k.told old new events outcomes
+  pub counts : CountsAre k.told old new nodes handles
 
 -- so it was; or the first bad line of the script is reported, and nothing was done
 abbrev pub Simulated : {M : Model} {K : Type 0} → Seen M K → Option K → Option K → (List ℕ → Type 0) → List ℕ → Ending → Type 0

@@ -2,7 +2,7 @@
 ghost use Rattle.std.specs.Prelude.{◌≡◌, ◌⊎◌, codes, map, IfOk, IfSome};
 ghost use Rattle.clap.specs.Values.{kind_of};
 ghost use Rattle.clap.specs.Matches.{found_of, one_text};
-ghost use Rattle.fuse_commands.specs.Asking.{asked_in, BeginsBy, IsRead, IsFlag};
+ghost use Rattle.fuse_commands.specs.Asking.{asked_store_in, BeginsBy, IsNumberIn, IsFlag};
 ghost use Rattle.fuse_commands.specs.Asking.{HasWord, IsRun, AsksRun, ParsesTo};
 
 use crate::asked_store::{
@@ -131,7 +131,7 @@ pub enum Work<'a> {
 impl Run<'_> {
     /// The new store that is asked for. Of a command that makes none it is a plain one.
     pub fn new_store(&self) -> AskedStore
-        ensures { result ≡ asked_in self.now }
+        ensures { result ≡ asked_store_in self.now }
     {
         match self {
             Run::Serve { new, .. } => *new,
@@ -344,7 +344,7 @@ fn program_command<'a>(alloc: Global) -> Result<Command<'a>, AllocError> {
 
 // The second that is given.
 fn at_of(found: &ArgMatches<'_>) -> Option<u64>
-    ensures { IsRead (one_text (found_of found.now) (codes "at")) result }
+    ensures { IsNumberIn (one_text (found_of found.now) (codes "at")) result }
 {
     found.get_one::<u64>(AT)
 }

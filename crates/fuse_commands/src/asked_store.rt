@@ -1,7 +1,8 @@
 //! The new store that a command line asks for.
 ghost use Rattle.std.specs.Prelude.{◌≡◌, ◌<◌, ◌^◌, codes, option_map, IfSome};
 ghost use Rattle.clap.specs.Matches.{found_of, first_value, one_text};
-ghost use Rattle.fuse_commands.specs.Asking.{AsksFor, IsRead, IsOwner, IsNamed, profile_named};
+ghost use Rattle.fuse_commands.specs.Asking.{AsksFor, IsNumberIn, IsOwner, IsNamedOwner};
+ghost use Rattle.fuse_commands.specs.Asking.{profile_named};
 ghost use Rattle.fuse_commands.specs.Scripts.{IsDecimal};
 
 use crate::script::{number_of, split_at};
@@ -97,7 +98,7 @@ fn profile_of(name: Option<&str>) -> Profile
 
 // The number that is given as the capacity.
 fn capacity_of(found: &ArgMatches<'_>) -> Option<u64>
-    ensures { IsRead (one_text (found_of found.now) (codes "capacity")) result }
+    ensures { IsNumberIn (one_text (found_of found.now) (codes "capacity")) result }
 {
     found.get_one::<u64>(CAPACITY)
 }
@@ -130,7 +131,7 @@ pub(crate) fn names_no_owner(found: &ArgMatches<'_>) -> bool {
 
 // The owner that is named, if one is; none where the text of it names none.
 fn owner_named(found: &ArgMatches<'_>) -> Option<Option<AskedOwner>>
-    ensures { IfSome result (IsNamed (first_value (found_of found.now) (codes "owner"))) }
+    ensures { IfSome result (IsNamedOwner (first_value (found_of found.now) (codes "owner"))) }
 {
     match found.get_str(OWNER) {
         Some(text) => Some(Some(owner_of(text.as_bytes())?)),

@@ -29,7 +29,7 @@ struct MessageCounts {
 fn is_outside(op: &Op<'_>) -> bool
     ensures { result ≡ asks_unsupported (act op.now) }
 {
-    matches!(op, Op::Unsupported { .. })
+    matches!(op, Op::Further { .. })
 }
 
 impl MessageCounts {

@@ -29,5 +29,5 @@ pub use dump::run_dump;
 pub use ending::{Ending, FaultLine};
 pub use progress::{ProgressLine, ProgressReader};
 pub use replay::run_replay;
-pub use serve::{Begin, run_serve, serve_port};
+pub use serve::{Begin, run_serve};
 pub use simulate::{START, run_simulate};

@@ -3,7 +3,7 @@ ghost use Rattle.std.specs.Prelude.{◌≡◌, IfOk};
 ghost use Rattle.std.specs.Io.{ReadsAtMost};
 ghost use Rattle.std.specs.Io.KnownBytes.{ReadConsumes};
 ghost use Rattle.fuse_commands.specs.Output.{mebibytes};
-ghost use Rattle.fuse_commands.specs.Input.{reader_in, remaining_in, line_of, read_more};
+ghost use Rattle.fuse_commands.specs.Input.{reader_in, remaining_in, progress_line_of, read_more};
 
 use fuse_session::Source;
 use std::fmt;
@@ -61,7 +61,7 @@ impl<R: Source, T: Clock + Eprint> ProgressReader<R, T> {
     /// if known.
     pub fn new(reader: R, terminal: T, total: Option<u64>) -> ProgressReader<R, T>
         ensures reader { remaining_in R.remaining result ≡ R.remaining reader }
-        ensures line { line_of result ≡ record { read = 0; total = total } }
+        ensures line { progress_line_of result ≡ record { read = 0; total = total } }
     {
         let second = second_of(&terminal);
         ProgressReader {
@@ -123,7 +123,8 @@ impl<R: Source, T: Clock + Eprint> Read for ProgressReader<R, T> {
         // The inner reader was read once, and its result and bytes are passed on.
         ensures once { R.was_read (reader_in self.old) (reader_in self.new) result buf.new }
         // The line counts the bytes.
-        ensures line { IfOk result (λ n. line_of self.new ≡ read_more (line_of self.old) n) }
+        ensures line { IfOk result
+            (λ n. progress_line_of self.new ≡ read_more (progress_line_of self.old) n) }
     {
         let count = match self.reader.read_once(buf) {
             Ok(count) => count,

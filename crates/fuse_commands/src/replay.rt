@@ -6,7 +6,7 @@ ghost use Rattle.fuse_session.specs.Serving.{KeepsFirm};
 ghost use Rattle.fuse_commands.specs.Endings.{status_of, IsOfStream};
 ghost use Rattle.fuse_commands.specs.Replaying.{Replayed, Faulted, StandsForPrefix, Prints};
 ghost use Rattle.fuse_commands.specs.Replaying.{PrintsAnswers};
-ghost use Rattle.fuse_commands.specs.inner.Sending.{IsAnswer, Sends};
+ghost use Rattle.fuse_commands.specs.inner.Sending.{IsAnswer, SendsAnswers};
 
 use crate::ending::Ending;
 use crate::input::MAX_READS;
@@ -48,7 +48,7 @@ fn serve_stream<K: Keeper, R: Read>(
     ensures replayed { IsOfStream result.ending → (input : List ℕ)
         → R.remaining reader.old ≡ Some input
         → Replayed (K.told keeper.old) (K.told keeper.new) moment input result.ending
-        (Sends result.sent.items result.counts) }
+        (SendsAnswers result.sent.items result.counts) }
     ensures faulted { status_of result.ending ≡ 3 → (input : List ℕ)
         → R.remaining reader.old ≡ Some input
         → Faulted (K.told keeper.old) (K.told keeper.new) moment input result.ending

@@ -1,18 +1,15 @@
 ghost use Rattle.std.specs.Prelude.{◌≡◌, ◌≢◌, ◌≤◌, ◌<◌, ◌^◌, true, false, None};
 ghost use Rattle.std.specs.Prelude.{IfErr, OnOk};
 ghost use Rattle.fuse_keeper.specs.KeeperState.{WhereHeld};
-ghost use Rattle.fuse_session.specs.DevicePort.{device_told};
 ghost use Rattle.fuse_session.specs.Serving.{KeepsFirm};
 ghost use Rattle.fuse_commands.specs.Endings.{status_of};
-ghost use Rattle.fuse_commands.specs.ServingRuns.{views, between, ServesPort, OverDevice};
-ghost use Rattle.fuse_commands.specs.ServingRuns.{Begins, NotServed, resume_ending};
+ghost use Rattle.fuse_commands.specs.ServingRuns.{views, between, ServesPort};
+ghost use Rattle.fuse_commands.specs.ServingRuns.{BeginsServing, NotServed, resume_ending};
 
 use crate::ending::Ending;
 use crate::input::MAX_READS;
 use fuse_keeper::Keeper;
-use fuse_session::{
-    Clock, DevicePort, Port, ResumeFault, SessionCounts, Sink, Source, resume, serve,
-};
+use fuse_session::{Clock, Port, ResumeFault, SessionCounts, resume, serve};
 use std::alloc::Global;
 
 /// How a server begins.
@@ -44,7 +41,7 @@ fn send_notices<K: Keeper, P: Port>(
     requires going { (K.told keeper.old).has_failed ≡ false }
     requires receives { (P.told port.old).receives < 2 ^ 62 }
     requires failures { (P.told port.old).failures < 2 ^ 62 }
-    ensures ok { OnOk result (Begins begin (views K.told K.performed P.told P.became)
+    ensures ok { OnOk result (BeginsServing begin (views K.told K.performed P.told P.became)
         (between keeper.old keeper.new port.old port.new)) }
     ensures still { OnOk result (((P.told port.new).receives ≡ (P.told port.old).receives)
         × ((P.told port.new).failures ≡ (P.told port.old).failures)) }
@@ -65,9 +62,10 @@ fn send_notices<K: Keeper, P: Port>(
     }
 }
 
-/// Serves a port. At `Begin::Resume` it first sends the notices of `resume`. Returns the ending, and
-/// the counts as the session has them.
-pub fn serve_port<K: Keeper, P: Port, C: Clock>(
+/// Serves a port. At `Begin::Resume` it first sends the notices of `resume`. Nothing else is done at
+/// the port, before the session or after it. Returns the ending, and the counts as the session has
+/// them.
+pub fn run_serve<K: Keeper, P: Port, C: Clock>(
     alloc: Global,
     keeper: &mut K,
     port: &mut P,
@@ -92,32 +90,4 @@ pub fn serve_port<K: Keeper, P: Port, C: Clock>(
     }
     let served = serve(alloc, keeper, port, clock, MAX_READS);
     (Ending::of_session(served.ended), served.counts)
-}
-
-/// Serves a FUSE device, of which the reader and the writer are the two sides. One read is one
-/// message and one write one answer, so neither may have a buffer. At `Begin::Resume` it first sends
-/// the notices of `resume`. Returns the ending, and the counts as the session has them.
-pub fn run_serve<K: Keeper, R: Source, W: Sink, C: Clock>(
-    alloc: Global,
-    keeper: &mut K,
-    reader: R,
-    writer: W,
-    clock: &mut C,
-    begin: Begin,
-) -> (Ending, Option<SessionCounts>)
-    requires going { (K.told keeper.old).has_failed ≡ false }
-    // The port that is served is the one over this reader and this writer.
-    ensures served { OverDevice reader writer (λ port port'. ServesPort
-        (views K.told K.performed device_told ⟦<DevicePort<R, W> as Port>⟧.became)
-        (C.gave clock.old clock.new) (between keeper.old keeper.new port port') begin
-        result.0 result.1) }
-    // A keeper that has not failed is as firm as before, for the next session.
-    ensures firm { (K.told keeper.new).has_failed ≡ false → WhereHeld (K.told keeper.old)
-        (KeepsFirm (K.told keeper.old) (K.told keeper.new)) }
-    ensures failed { (K.told keeper.new).has_failed ≡ true → 3 ≤ status_of result.0 }
-    ensures usage { status_of result.0 ≢ 2 }
-    ensures same { K.became keeper.old keeper.new 0 }
-{
-    let mut port = DevicePort::new(reader, writer);
-    serve_port(alloc, keeper, &mut port, clock, begin)
 }

@@ -10,6 +10,7 @@ ghost use Rattle.fuse_commands.specs.Endings.{status_of};
 ghost use Rattle.fuse_commands.specs.inner.Failing.{GaveOut};
 ghost use Rattle.fuse_commands.specs.Output.{line, store_line};
 ghost use Rattle.fuse_commands.specs.Simulating.{driven, BeginSo, StoreEnded, LeftBySome};
+ghost use Rattle.fuse_commands.specs.Simulating.{CountsAre};
 ghost use Rattle.fuse_commands.specs.Simulating.{RefusedAgain, RefusedIn};
 ghost use Rattle.fuse_commands.specs.Simulating.{NotRun, Simulated, StoppedIn};
 ghost use Rattle.fuse_commands.specs.inner.Simulating.{Went, RanScript};
@@ -52,6 +53,8 @@ fn run_events<K: Restart>(
         (λ simulation. length simulation.outcomes.items ≡ length events.now) }
     ensures begin { IfOk result (λ simulation. BeginSo K.told keeper.old keeper.new events.now
         (map bytes_given simulation.outcomes.items)) }
+    ensures counts { IfOk result (λ simulation. CountsAre K.told keeper.old keeper.new
+        simulation.counts.nodes simulation.counts.handles) }
     ensures asked { OnOk result (performed_in K.performed keeper.old keeper.new
         (performances K.model.serves events.now)) }
     ensures opened { OnOk result (Opened K.told K.became keeper.old keeper.new events.now) }

@@ -8,13 +8,13 @@ use Rattle.fuse_keeper.specs.declared.fault.StoreFault.{StoreFault}
 use Rattle.fuse_keeper.specs.declared.fault.StoreFault.TheVariants.{Memory, Sql, NotAStore, Version, Damaged}
 use Rattle.fuse_store_tables.specs.Faults.{IsOutside, IsPlain}
 use Rattle.fuse_store_tables.specs.Saying.{Says, IsTabled, ReportsVersion, HasFirst, HasOwn}
-use Rattle.fuse_store_tree.specs.Looking.{look_fault}
+use Rattle.fuse_store_tree.specs.Looking.{as_look_fault}
 use Rattle.fuse_show.specs.declared.fault.ShowFault.{ShowFault}
 use Rattle.fuse_show.specs.declared.fault.ShowFault.TheVariants.{Look, NotATree, NoSuchPath, NotDirectory, NotFile, Output}
 use Rattle.fuse_show.specs.Looks as looks
 use Rattle.fuse_commands.specs.Endings.{store_ending}
-use Rattle.fuse_files.specs.StoreShown.{SaysNothing, SaysSo, EndsAs, IsRefused}
-use Rattle.fuse_files.specs.inner.Showing.{look_ending, shown_ending}
+use Rattle.fuse_files.specs.StoreShown.{SaysNothing, SaysSo, EndsAsShown, IsRefused}
+use Rattle.fuse_files.specs.inner.Showing.{showing_ending, shown_ending}
 
 -- ---- of a fault of the store
 
@@ -94,7 +94,7 @@ plain_loud Damaged so is = is
 -- ---- of what was shown
 
 pub shown_so : (d : Database) → IsTabled d → (fault : Option StoreFault) (shown : Result (Unit {0}) ShowFault) → OnErr shown (IfSome fault IsPlain)
-    → SaysSo d (shown_ending (look_ending fault) shown)
+    → SaysSo d (shown_ending (showing_ending fault) shown)
 shown_so d tabled fault (Ok done) plain = tabled
 shown_so d tabled None (Err (Look f)) plain = tabled_own d tabled
 shown_so d tabled (Some g) (Err (Look f)) plain = plain_so d tabled g plain
@@ -105,7 +105,7 @@ shown_so d tabled fault (Err NotFile) plain = tabled
 shown_so d tabled fault (Err Output) plain = tabled
 
 pub shown_silent : (fault : Option StoreFault) (shown : Result (Unit {0}) ShowFault) (old new : Option (List ℕ)) → OnErr shown (IfSome fault IsPlain)
-    → IfErr shown (λ f. looks.is_of_path f ≡ true → new ≡ old) → IsRefused (shown_ending (look_ending fault) shown) → new ≡ old
+    → IfErr shown (λ f. looks.is_of_path f ≡ true → new ≡ old) → IsRefused (shown_ending (showing_ending fault) shown) → new ≡ old
 shown_silent fault (Ok done) old new plain silent is = absurd is
 shown_silent None (Err (Look f)) old new plain silent is = absurd is
 shown_silent (Some g) (Err (Look f)) old new plain silent is = absurd (plain_loud g plain is)
@@ -115,8 +115,8 @@ shown_silent fault (Err NotDirectory) old new plain silent is = silent refl
 shown_silent fault (Err NotFile) old new plain silent is = silent refl
 shown_silent fault (Err Output) old new plain silent is = absurd is
 
-pub ends : (fault : Option StoreFault) (shown : Result (Unit {0}) ShowFault) → look_fault fault ≡ looks.look_fault shown
-    → OnErr shown (IfSome fault IsOutside) → EndsAs shown (shown_ending (look_ending fault) shown)
+pub ends : (fault : Option StoreFault) (shown : Result (Unit {0}) ShowFault) → as_look_fault fault ≡ looks.look_fault_in shown
+    → OnErr shown (IfSome fault IsOutside) → EndsAsShown shown (shown_ending (showing_ending fault) shown)
 ends fault (Ok done) same so = refl
 ends None (Err (Look f)) same so = absurd (cc)
 ends (Some g) (Err (Look f)) same so = says_nothing g so

@@ -1,5 +1,5 @@
 -- A run over the files of a store is a life of their mount.
-use Rattle.std.proofs.Common.{inl, inr, ℕ, zero, suc, List, [], ◌∷◌, take}
+use Rattle.std.proofs.Common.{◌≡◌, inl, inr, ℕ, zero, suc, List, [], ◌∷◌, take, subst}
 use Rattle.sqlite_disk.specs.declared.Disk.{Ghosts}
 use Rattle.sqlite_wal.specs.Recovery.{Image}
 use Rattle.sqlite_store.specs.declared.store.FileStore.{FileStore}
@@ -10,15 +10,12 @@ use Rattle.fuse_keeper.specs.Stands.{Standing}
 use Rattle.fuse_keeper.specs.KeeperState.{KeeperState}
 use Rattle.fuse_keeper.specs.Model.{Model}
 use Rattle.fuse_tree.specs.State.{State as TreeState}
-use Rattle.fuse_tree.specs.Rows.{rowed}
+use Rattle.fuse_tree.specs.Rowed.{rowed}
 use Rattle.fuse_init.specs.declared.profile.Profile.{Profile}
 use Rattle.fuse_tree.specs.TheTree.{tree_of}
-use Rattle.fuse_session.specs.declared.device.DevicePort.{DevicePort}
-use Rattle.fuse_session.specs.DevicePort.{device_told}
 use Rattle.fuse_session.specs.Deeds.{Did}
 use Rattle.fuse_session.specs.Exchange.{HoldsAt}
 use Rattle.fuse_session.specs.Passage.{passage}
-use Rattle.fuse_session.specs.Transcript.{PortEvent}
 use Rattle.fuse_store.specs.declared.new_store.StoreKind.{StoreKind}
 use Rattle.fuse_store.specs.declared.table_keeper.TableKeeper.{TableKeeper}
 use Rattle.fuse_store.specs.TableKeeper.{keeper_told}
@@ -32,9 +29,10 @@ use Rattle.fuse_sim.specs.FileLives.{FileRun, IsRunFrom, AreRuns}
 use Rattle.fuse_sim.specs.inner.FilesLived.{stands_more}
 use Rattle.fuse_sim.specs.Lives.{RunsAreLives}
 use Rattle.fuse_commands.specs.declared.serve.Begin.{Begin}
+use Rattle.fuse_commands.specs.declared.serve.Begin.TheVariants.{Resume}
 use Rattle.fuse_commands.specs.ServingRuns.{views, between}
 use Rattle.fuse_files.specs.declared.serving.StoreRun.{StoreRun}
-use Rattle.fuse_files.specs.StoreRuns.{Sides, StoreServed}
+use Rattle.fuse_files.specs.StoreRuns.{Task, AroundViews, Around, OpensBy, StoreServed}
 use Rattle.fuse_files.specs.StoreLives.{MayBeLeft, RunsOn, file_run, new_at}
 use Rattle.fuse_files.proofs.Lots.{closed_some}
 use Rattle.fuse_files.proofs.Served.{Keeps, served_life}
@@ -74,25 +72,30 @@ runs_on p k (Any new) first r opened life =
 runs_on p k (Fresh new) first r opened life =
     (λ at stand. life (begun_at p at) (λ honest. (opened honest).0 at stand), λ nothing. life (new_at p new) (λ honest. ((opened honest).1 nothing).stands))
 
-module _ {P D R W C : Type 0} {g : Ghosts D} (p : Profile) (first : Image) (became : DevicePort R W → DevicePort R W → List PortEvent → Type 0) (gave : C → C → List Moment → Type 0)
-    (sides : Sides R W C) (begin : Begin) (kind : StoreKind) (run : StoreRun D g) (x : StoreServed P p first became gave sides begin kind run)
-    (lives : (k k' : TableKeeper P (FileStore D g) over_files) (o o' : DevicePort R W) (c c' : C)
-    → RunsAreLives (passage (keeper_told p over_files k) (keeper_told p over_files k') (device_told o) (device_told o') (Did (gave c c') (λ _. Unit {0}) (became o o')))) where
-  pub file_lives : (image : Image) → MayBeLeft x.ran.closed image → RunsOn p x.how first (file_run x.ran.served.so image)
+-- a run that was to resume opens the files as they are
+pub resumed_how : {C : Type 0} (gave : C → C → List Moment → Type 0) (begin : Begin) (kind : StoreKind) (clock mid : C) (how : Opening) → begin ≡ Resume
+    → OpensBy gave begin kind clock mid how → how ≡ Existing
+resumed_how gave begin kind clock mid how is opens = (subst (λ b. OpensBy gave b kind clock mid how) is opens).0
+
+module _ {P D O C : Type 0} {g : Ghosts D} (p : Profile) (v : AroundViews O C) (x : Around O C) (task : Task) (run : StoreRun D g)
+    (s : StoreServed P p v x task run)
+    (lives : (k k' : TableKeeper P (FileStore D g) over_files) (o o' : O) (c c' : C)
+    → RunsAreLives (passage (keeper_told p over_files k) (keeper_told p over_files k') (v.port o) (v.port o') (Did (v.gave c c') (λ _. Unit {0}) (v.became o o')))) where
+  pub file_lives : (image : Image) → MayBeLeft s.ran.closed image → RunsOn p s.how task.first (file_run s.ran.served image)
   file_lives image left =
-      let k = keeper_told p over_files x.keeper in
-      let k' = keeper_told p over_files x.ran.keeper' in
+      let k = keeper_told p over_files s.keeper in
+      let k' = keeper_told p over_files s.ran.keeper' in
       let some : k'.leaves_whole → HoldSome (TreesTell k'.may_leave) image = λ whole. elim left [
-        | inl own ↦ x.ran.closed.before whole own.0 image own.1
+        | inl own ↦ s.ran.closed.before whole own.0 image own.1
         | inr later ↦ elim later [
-          | inl may ↦ x.ran.closed.at_end whole image may
-          | inr may ↦ closed_some (TreesTell k'.may_leave) x.ran.left image (x.ran.closed.closed whole) (x.ran.closed.uncopied whole) may
+          | inl may ↦ s.ran.closed.at_end whole image may
+          | inr may ↦ closed_some (TreesTell k'.may_leave) s.ran.left image (s.ran.closed.closed whole) (s.ran.closed.uncopied whole) may
         ]
       ] in
-      runs_on p k x.how first (file_run x.ran.served.so image) x.from.opened (λ at holds.
-      served_life (views (keeper_told p over_files) (λ a b list. Unit {0}) device_told became) (gave x.mid sides.clock') (FilesStand p) (files_more p)
-      (between x.keeper x.ran.keeper' x.ran.served.port x.ran.served.port') begin run.ending run.counts x.ran.served.so at image
-      (λ a b o o'. lives a b o o' x.mid sides.clock') holds x.from.firm
+      runs_on p k s.how task.first (file_run s.ran.served image) s.from.opened (λ at holds.
+      served_life (views (keeper_told p over_files) (λ a b list. Unit {0}) v.port v.became) (v.gave s.mid x.clock') (FilesStand p) (files_more p)
+      (between s.keeper s.ran.keeper' x.port x.port') task.begin run.ending run.counts s.ran.served at image
+      (λ a b o o'. lives a b o o' s.mid x.clock') holds s.from.firm
       (λ whole.
       let hold = some (λ clean. whole clean clean) in
       (hold.so.so.clean, kept_files p k' image hold)))

@@ -7,6 +7,8 @@ mod Refused
 mod Scripted
 mod Served
 mod Summed
+mod Sunk
 mod Usage
 pub mod Lots
 mod Verified
+mod Written

@@ -12,7 +12,7 @@ use Rattle.sqlite_store.specs.Laws.{settled_at}
 use Rattle.sqlite.specs.Effect.{Database, IsDatabase}
 use Rattle.sqlite.specs.Held.{AreDatabases}
 use Rattle.sqlite.specs.Files.{file_state, over_files}
-use Rattle.fuse_tree.specs.Rows.{Rows}
+use Rattle.fuse_rows.specs.Rows.{Rows}
 use Rattle.fuse_init.specs.declared.profile.Profile.{Profile}
 use Rattle.fuse_keeper.specs.Stands.{Records}
 use Rattle.fuse_keeper.specs.Lots.{AreReopened}

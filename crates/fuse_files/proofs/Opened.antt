@@ -1,7 +1,8 @@
 -- Bytes that were read are opened as files in memory.
-use Rattle.std.proofs.Common.{◌≡◌, ℕ, List, Option, true, inl, inr, refl, sym, subst, ap₂}
+use Rattle.std.proofs.Common.{◌≡◌, ℕ, List, [], Option, true, inl, inr, refl, sym, subst, ap₂}
 use Rattle.std.specs.Prelude.{Result, Ok, Err, IfErr, IsErrAnd}
 use Rattle.std.proofs.Math.Logic.{∥∥₁_elim}
+use Rattle.std.proofs.KnownBytes.{Appends-nil}
 use Rattle.sqlite_disk.specs.declared.Disk.{Ghosts}
 use Rattle.sqlite_disk.specs.declared.Files.{Files}
 use Rattle.sqlite_pool.specs.Pool.{state}
@@ -19,6 +20,7 @@ use Rattle.sqlite.specs.declared.error.Error.{Error}
 use Rattle.sqlite.specs.declared.file.Leftover.{Leftover}
 use Rattle.sqlite.specs.declared.file.Leftover.TheVariants as left
 use Rattle.fuse_store_tables.specs.Content.{LeftAs}
+use Rattle.fuse_store.specs.Creating.{IsBlank}
 use Rattle.fuse_store.specs.Opening.{Stored, StoredFor, WasFor}
 use Rattle.fuse_store.specs.Storing.{opening_fault}
 use Rattle.fuse_store_files.specs.Files.{FilesHold, AreTheirs}
@@ -26,6 +28,7 @@ use Rattle.fuse_tree.specs.declared.look.LookFault.TheVariants.{Failed}
 use Rattle.fuse_show.specs.declared.fault.ShowFault.TheVariants.{Look}
 use Rattle.fuse_commands.specs.declared.ending.Ending.{Ending}
 use Rattle.fuse_commands.specs.Endings.{store_ending}
+use Rattle.fuse_files.specs.StoreSimulations.{FindsBlank}
 use Rattle.fuse_files.specs.StoreShown.{SaysNothing, SaysSo, Shows, SaysTrue, IsUnopened}
 use Rattle.fuse_files.proofs.Summed.{nothing_summed}
 use Rattle.fuse_files.specs.declared.showing.Show.{Show}
@@ -100,8 +103,8 @@ module _ (image : Image) (z : Stored) (held : FilesHold image z) where
 -- an ending that says nothing of the store is that of a look that failed
 pub stopped : (what : Show) (z : Stored) (now : Option (List ℕ)) (e : Ending) → SaysNothing e → Shows what z now now e
 stopped show.Summary z now e so = nothing_summed z now e so
-stopped (show.Directory path) z now e so = record { shown = Err (Look Failed); lists = tt; ends = so }
-stopped (show.File path) z now e so = record { shown = Err (Look Failed); prints = tt; ends = so }
+stopped (show.Directory path) z now e so = record { shown = Err (Look Failed); bytes = []; written = Appends-nil now; lists = inl refl; ends = so }
+stopped (show.File path) z now e so = record { shown = Err (Look Failed); bytes = []; written = Appends-nil now; prints = inl refl; ends = so }
 
 -- what is said of the database is said of the files
 pub says_true : (image : Image) (s : State) (e : Ending) → Opens s → IsLive s → AreTheirs image s.committed.trees → SaysSo s.now e → SaysTrue image e
@@ -110,4 +113,13 @@ says_true image s e opens live theirs says = record {
   sound = (live opens.is_open).0;
   theirs = subst (λ (d : Database). AreTheirs image d.trees) (sym opens.clean) theirs;
   says = says;
+}
+
+-- and of a blank one
+pub finds_blank : (image : Image) (s : State) → Opens s → IsLive s → AreTheirs image s.committed.trees → IsBlank s → FindsBlank image
+finds_blank image s opens live theirs blank = record {
+  database = s.now;
+  sound = (live opens.is_open).0;
+  theirs = subst (λ (d : Database). AreTheirs image d.trees) (sym opens.clean) theirs;
+  blank = blank.1;
 }

@@ -19,7 +19,7 @@ use Rattle.fuse_commands.specs.Endings.{status_of, store_ending}
 use Rattle.fuse_commands.specs.Simulating.{SimulatedFrom}
 use Rattle.fuse_files.specs.StoreReplays.{Streams}
 use Rattle.fuse_files.specs.StoreShown.{IsUnopened}
-use Rattle.fuse_files.specs.StoreSimulations.{new_state, crashing, SimulatesOver, StoreSimulated, AreSure, NotSimulated}
+use Rattle.fuse_files.specs.StoreSimulations.{new_state, crashing, SimulatesOver, StoreSimulated, AreSure, WereBlank, NotSimulated}
 use Rattle.fuse_files.proofs.InMemory.{always_clean, simulated}
 
 -- a fault of the store has no such status
@@ -39,11 +39,11 @@ module _ {P D : Type 0} {g : Ghosts D} (p : Profile) (kind : StoreKind) (crashed
   pub ran_new : (files : Files D) (r : Result (CrashKeeper P (FileStore D g) over_files) StoreFault)
       → IfOk r (λ k. (crash_told p over_files k).is_honest → StandsFor (crash_told p over_files k) (new_state p kind) [] [])
       → IfOk r (λ k. (crash_told p over_files k).is_honest → IsFirm (crash_told p over_files k))
-      → IfErr r (λ f. AreSure g → IsUnopened (image_of g files) (store_ending f)) → IfOk r (λ k. SimulatesOver (crashing p crashed) k streams ending)
+      → IfOk r (λ k. WereBlank g files) → IfErr r (λ f. AreSure g → IsUnopened (image_of g files) (store_ending f)) → IfOk r (λ k. SimulatesOver (crashing P p g crashed) k streams ending)
       → IfErr r (λ f. (ending ≡ store_ending f) × (streams.written' ≡ streams.written))
-      → StoreSimulated P p kind g crashed streams ending ⊎ NotSimulated g files streams ending
-  ran_new files (Ok k) stands firm fault ran failed = inl (record { keeper = k; stands = stands; firm = firm; ran = ran })
-  ran_new files (Err f) stands firm fault ran failed = inr (record {
+      → (StoreSimulated p kind (crashing P p g crashed) streams ending × WereBlank g files) ⊎ NotSimulated g files streams ending
+  ran_new files (Ok k) stands firm blank fault ran failed = inl (record { keeper = k; stands = stands; firm = firm; ran = ran }, blank)
+  ran_new files (Err f) stands firm blank fault ran failed = inr (record {
     fault = f;
     ending_is = failed.0;
     unwritten = failed.1;
@@ -52,10 +52,10 @@ module _ {P D : Type 0} {g : Ghosts D} (p : Profile) (kind : StoreKind) (crashed
 
   pub simulated_new : AreSure g → (r : Result (CrashKeeper P (FileStore D g) over_files) StoreFault)
       → IfOk r (λ k. (crash_told p over_files k).is_honest → StandsFor (crash_told p over_files k) (new_state p kind) [] [])
-      → IfOk r (λ k. SimulatesOver (crashing p crashed) k streams ending)
+      → IfOk r (λ k. SimulatesOver (crashing P p g crashed) k streams ending)
       → IfErr r (λ f. (ending ≡ store_ending f) × (streams.written' ≡ streams.written))
       → IfSome streams.input (λ script. status_of ending ≤ 1 → SimulatedFrom (tree_of p) (new_state p kind) (Appends streams.written streams.written') script ending)
   simulated_new sure (Ok k) stands ran failed =
-      simulated (crashing p crashed) (new_state p kind) k streams ending (λ x. always_clean sure x.inner.look.conn) (stands (always_clean sure k.inner.look.conn)) ran
+      simulated (crashing P p g crashed) (new_state p kind) k streams ending (λ x. always_clean sure x.inner.look.conn) (stands (always_clean sure k.inner.look.conn)) ran
   simulated_new sure (Err f) stands ran failed =
       never (λ script. SimulatedFrom (tree_of p) (new_state p kind) (Appends streams.written streams.written') script ending) streams.input f ending failed.0

@@ -16,7 +16,7 @@ use Rattle.fuse_commands.specs.declared.ending.Ending.{Ending}
 use Rattle.fuse_commands.specs.declared.serve.Begin.{Begin}
 use Rattle.fuse_commands.specs.declared.serve.Begin.TheVariants.{Fresh, Resume}
 use Rattle.fuse_session.specs.Done.{life_of}
-use Rattle.fuse_commands.specs.ServingRuns.{Views, Between, Begins, SessionServed, NotServed, ServesPort}
+use Rattle.fuse_commands.specs.ServingRuns.{Views, Between, BeginsServing, SessionServed, NotServed, ServesPort}
 use Rattle.fuse_files.specs.StoreLives.{file_run}
 
 -- files hold rows and records that a crash may leave of the keeper, and stand for what these stand for
@@ -48,7 +48,7 @@ stands_these M rows x records r at these stands = record {
 module _ {M : Model} {K P Image : Type 0} (v : Views M K P) (gave : List Moment → Type 0) (Stand : Image → Standing M → Type 0)
     (more : (image : Image) (s : M.State) (h : History) (t u : List ℕ) → Includes u t → Stand image (record { state = s; history = h; settled = t }) → Stand image (record { state = s; history = h; settled = u })) where
   -- after the notice
-  begun_holds : (begin : Begin) (b : Between K P) (at : Standing M) → Begins begin v b → (v.keeper b.keeper').is_honest → Holds (v.keeper b.keeper) at → Holds (v.keeper b.keeper') at
+  begun_holds : (begin : Begin) (b : Between K P) (at : Standing M) → BeginsServing begin v b → (v.keeper b.keeper').is_honest → Holds (v.keeper b.keeper) at → Holds (v.keeper b.keeper') at
   begun_holds Fresh b at begins honest holds = subst (λ k. Holds (v.keeper k) at) (sym begins.0) holds
   begun_holds Resume b at begins honest holds =
       let s = holds.stands in
@@ -57,7 +57,7 @@ module _ {M : Model} {K P Image : Type 0} (v : Views M K P) (gave : List Moment 
         firm = begins.firm honest s.rows s.records s.held holds.firm;
       }
 
-  begun_honest : (begin : Begin) (b : Between K P) → Begins begin v b → (v.keeper b.keeper').is_honest → (v.keeper b.keeper).is_honest
+  begun_honest : (begin : Begin) (b : Between K P) → BeginsServing begin v b → (v.keeper b.keeper').is_honest → (v.keeper b.keeper).is_honest
   begun_honest Fresh b begins honest = subst (λ k. (v.keeper k).is_honest) begins.0 honest
   begun_honest Resume b begins honest = begins.looked.called.honest honest
 

@@ -5,7 +5,7 @@ use Rattle.sqlite_tied.specs.Compute.{everything}
 use Rattle.sqlite_schema.specs.Names.{table_named}
 use Rattle.sqlite.specs.Schema.{Schema}
 use Rattle.sqlite.specs.Effect.{Database}
-use Rattle.fuse_keeper.specs.Model.{IsRowed}
+use Rattle.fuse_keeper.specs.Model.{IsOfGoodState}
 use Rattle.fuse_keeper.specs.Stands.{Records}
 use Rattle.fuse_keeper.specs.declared.fault.StoreFault.{StoreFault}
 use Rattle.fuse_init.specs.declared.profile.Profile.{Profile}
@@ -51,8 +51,8 @@ pub rests_now : (b t : Bool) → b ≡ not t → t ≡ false → IsTrue b
 rests_now b t same is = rw (same, is) refl
 
 -- what holds the rows of a store holds a good state
-pub of_good_state : {m : Option Meta} → (p : Profile) (s : State) (rows : _) (records : Records) → (held : HoldsIn m s rows records) → profile_of held.holding.tree ≡ p → IsRowed (tree_of p) rows
-unfolding IsRowed
+pub of_good_state : {m : Option Meta} → (p : Profile) (s : State) (rows : _) (records : Records) → (held : HoldsIn p m s rows records) → profile_of held.holding.tree ≡ p → IsOfGoodState (tree_of p) rows
+unfolding IsOfGoodState
 of_good_state p s rows records held is = (held.holding.tree, record { tree = held.rests.holds.tree; profile = is }, held.is_of.rows_are)
 
 -- ---- its ending

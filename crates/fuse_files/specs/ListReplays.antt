@@ -8,8 +8,8 @@ use Rattle.fuse_init.specs.declared.profile.EverydayProfile.{EverydayProfile}
 use Rattle.fuse_keeper.specs.declared.plain.PlainKeeper.{PlainKeeper}
 use Rattle.fuse_keeper.specs.KeeperState.{KeeperState, StandsFor}
 use Rattle.fuse_keeper.specs.PlainKeeper.{plain_told}
-use Rattle.fuse_tree.specs.declared.plain_tree.PlainTree.{PlainTree}
-use Rattle.fuse_tree.specs.PlainTree.{tree_held}
+use Rattle.fuse_lists.specs.declared.plain_tree.PlainTree.{PlainTree}
+use Rattle.fuse_lists.specs.PlainTree.{tree_held}
 use Rattle.fuse_tree.specs.TheTree.{tree_of}
 use Rattle.fuse_store.specs.declared.new_store.StoreKind.{StoreKind}
 use Rattle.fuse_commands.specs.declared.ending.Ending.{Ending}

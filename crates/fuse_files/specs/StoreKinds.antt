@@ -3,9 +3,9 @@
 use Rattle.std.specs.Prelude.{◌/◌, ◌%◌, ◌==◌, ◌&&◌, nat_lt, if◌then◌else◌, ℕ, Option, Some, None}
 use Rattle.fuse_init.specs.declared.profile.Profile.{Profile}
 use Rattle.fuse_init.specs.declared.profile.Profile.TheVariants.{Plain, Everyday}
-use Rattle.fuse_tree.specs.Bounds.{block_bytes, capacity_end, default_capacity}
-use Rattle.fuse_tree.specs.State.{superuser}
-use Rattle.fuse_tree.specs.declared.origin.Owner.{Owner}
+use Rattle.fuse_rows.specs.Bounds.{block_bytes, capacity_end, default_capacity}
+use Rattle.fuse_rows.specs.Origins.{superuser}
+use Rattle.fuse_rows.specs.declared.origin.Owner.{Owner}
 use Rattle.fuse_commands.specs.declared.asked_store.AskedOwner.{AskedOwner}
 
 -- so many bytes, if they are whole blocks and not too many

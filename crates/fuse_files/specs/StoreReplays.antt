@@ -39,11 +39,20 @@ start = record { secs = 0; nanos = 0 }
 abbrev pub made_then : StoreKind → NewStore
 made_then kind = record { kind = kind; now = start }
 
+-- what a replay finds and is to do: what the two files held, the kind of a store that is made, and the moment of all requests
+pub record ReplayTask : Type 0 where
+  pub first : Image
+  pub kind : StoreKind
+  pub moment : Moment
+
 -- the bytes that a reader will give, and those that a writer holds before and after, where they are known
 pub record Streams : Type 0 where
   pub input : Option (List ℕ)
   pub written : Option (List ℕ)
   pub written' : Option (List ℕ)
+
+abbrev pub streams : Option (List ℕ) → Option (List ℕ) → Option (List ℕ) → Streams
+streams input written written' = record { input = input; written = written; written' = written' }
 
 -- the stream was replayed over this keeper: the clauses of `run_replay`
 pub record ReplaysOver (p : Profile) (k k' : KeeperState (tree_of p)) (moment : Moment) (streams : Streams) (ending : Ending) : Type 0 where
@@ -55,34 +64,33 @@ pub record ReplaysOver (p : Profile) (k k' : KeeperState (tree_of p)) (moment : 
 
 -- the stream was replayed over this keeper, and no other; and then it was closed
 pub record KeeperReplayed {P D : Type 0} {g : Ghosts D} (p : Profile) (keeper : TableKeeper P (FileStore D g) over_files) (moment : Moment) (streams : Streams)
-    (ending : Ending) (left : Option (Leftover D g)) : Type 0 where
+    (result : Ending × Option (Leftover D g)) : Type 0 where
   pub keeper' : TableKeeper P (FileStore D g) over_files
-  pub replays : ReplaysOver p (keeper_told p over_files keeper) (keeper_told p over_files keeper') moment streams ending
+  pub replays : ReplaysOver p (keeper_told p over_files keeper) (keeper_told p over_files keeper') moment streams result.0
   pub files : Result (Files D) (FileStore D g)
   pub closed : Closes p keeper' files
-  pub left_is : left ≡ Some (left_closed files)
+  pub left_is : result.1 ≡ Some (left_closed files)
 
 -- a keeper of the files was opened, or made where they held nothing; the stream was replayed over it
-pub record StoreReplayed {D : Type 0} {g : Ghosts D} (P : Type 0) (p : Profile) (first : Image) (kind : StoreKind) (moment : Moment) (streams : Streams)
-    (ending : Ending) (left : Option (Leftover D g)) : Type 0 where
+pub record StoreReplayed {D : Type 0} {g : Ghosts D} (P : Type 0) (p : Profile) (task : ReplayTask) (streams : Streams)
+    (result : Ending × Option (Leftover D g)) : Type 0 where
   pub keeper : TableKeeper P (FileStore D g) over_files
-  pub from : OpenedFrom p (Any (made_then kind)) first keeper
-  pub ran : KeeperReplayed p keeper moment streams ending left
+  pub from : OpenedFrom p (Any (made_then task.kind)) task.first keeper
+  pub ran : KeeperReplayed p keeper task.moment streams result
 
 -- so it was under one of the profiles
-abbrev pub IsReplayed : {D : Type 0} {g : Ghosts D} → Image → StoreKind → Moment → Streams → Ending → Option (Leftover D g) → Type 0
-IsReplayed first kind moment streams ending left =
-    StoreReplayed PlainProfile profiles.Plain first kind moment streams ending left
-    ⊎ StoreReplayed EverydayProfile profiles.Everyday first kind moment streams ending left
+abbrev pub IsReplayed : {D : Type 0} {g : Ghosts D} → ReplayTask → Streams → Ending × Option (Leftover D g) → Type 0
+IsReplayed task streams result =
+    StoreReplayed PlainProfile profiles.Plain task streams result ⊎ StoreReplayed EverydayProfile profiles.Everyday task streams result
 
 -- no keeper was opened, and nothing was written. A store that is refused is left as it was found; else a crash leaves what was
 -- found, or what the opening makes of it; and the fault says nothing of a sound store, and of any other database what is so
-pub record NotReplayed {D : Type 0} {g : Ghosts D} (first : Image) (kind : StoreKind) (streams : Streams) (ending : Ending) (left : Option (Leftover D g)) : Type 0 where
+pub record NotReplayed {D : Type 0} {g : Ghosts D} (task : ReplayTask) (streams : Streams) (result : Ending × Option (Leftover D g)) : Type 0 where
   pub fault : StoreFault
-  pub ending_is : ending ≡ store_ending fault
+  pub ending_is : result.0 ≡ store_ending fault
   pub unwritten : streams.written' ≡ streams.written
-  pub crash : IfSome left (LeavesOpening (Any (made_then kind)) first)
-  pub untouched : IsRefusal fault → IfSome left (LeavesAsFound first)
-  pub fails : IfSome left (FailsOver (Any (made_then kind)) first fault)
-  pub unopened : left ≡ None → IsNeverOpened fault
-  pub outside : IfSome left (λ it. IsCleanLeft it → (z : Stored) → FilesHold first z → IsOutside fault)
+  pub crash : IfSome result.1 (LeavesOpening (Any (made_then task.kind)) task.first)
+  pub untouched : IsRefusal fault → IfSome result.1 (LeavesAsFound task.first)
+  pub fails : IfSome result.1 (FailsOver (Any (made_then task.kind)) task.first fault)
+  pub unopened : result.1 ≡ None → IsNeverOpened fault
+  pub outside : IfSome result.1 (λ it. IsCleanLeft it → (z : Stored) → FilesHold task.first z → IsOutside fault)

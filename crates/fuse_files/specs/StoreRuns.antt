@@ -14,8 +14,7 @@ use Rattle.fuse_init.specs.declared.profile.PlainProfile.{PlainProfile}
 use Rattle.fuse_init.specs.declared.profile.EverydayProfile.{EverydayProfile}
 use Rattle.fuse_keeper.specs.declared.fault.StoreFault.{StoreFault}
 use Rattle.fuse_keeper.specs.declared.fault.StoreFault.TheVariants.{NotAStore}
-use Rattle.fuse_session.specs.declared.device.DevicePort.{DevicePort}
-use Rattle.fuse_session.specs.DevicePort.{device_told}
+use Rattle.fuse_session.specs.Port.{PortState}
 use Rattle.fuse_session.specs.Transcript.{PortEvent}
 use Rattle.fuse_store_tables.specs.Faults.{IsOutside}
 use Rattle.fuse_store_tables.specs.Saying.{IsRefusal}
@@ -31,16 +30,34 @@ use Rattle.fuse_store_files.specs.Left.{Closes, LeavesAsFound, LeavesOpening}
 use Rattle.fuse_commands.specs.declared.serve.Begin.{Begin}
 use Rattle.fuse_commands.specs.declared.serve.Begin.TheVariants.{Fresh, Resume}
 use Rattle.fuse_commands.specs.Endings.{store_ending}
-use Rattle.fuse_commands.specs.ServingRuns.{views, between, ServesPort, OverDevice}
+use Rattle.fuse_commands.specs.ServingRuns.{views, between, ServesPort}
 use Rattle.fuse_files.specs.declared.serving.StoreRun.{StoreRun}
 use Rattle.fuse_files.specs.StoreOpened.{OpenedFrom}
 
--- the two sides of a device, and a clock before and after
-pub record Sides (R W C : Type 0) : Type 0 where
-  pub reader : R
-  pub writer : W
+-- what a server finds and is to do: what the two files held, how the mount begins, and the kind of a store that is made
+pub record Task : Type 0 where
+  pub first : Image
+  pub begin : Begin
+  pub kind : StoreKind
+
+-- how contracts see a port and a clock
+pub record AroundViews (O C : Type 0) : Type 1 where
+  pub port : O → PortState
+  pub became : O → O → List PortEvent → Type 0
+  pub gave : C → C → List Moment → Type 0
+
+abbrev pub around_views : {O C : Type 0} → (O → PortState) → (O → O → List PortEvent → Type 0) → (C → C → List Moment → Type 0) → AroundViews O C
+around_views port became gave = record { port = port; became = became; gave = gave }
+
+-- what is around a server: a port and a clock, before and after
+pub record Around (O C : Type 0) : Type 0 where
+  pub port : O
+  pub port' : O
   pub clock : C
   pub clock' : C
+
+abbrev pub around : {O C : Type 0} → O → O → C → C → Around O C
+around port port' clock clock' = record { port = port; port' = port'; clock = clock; clock' = clock' }
 
 -- how the files are opened: to resume a mount as they are, and to begin one at the first moment that the clock gives
 abbrev pub OpensBy : {C : Type 0} → (C → C → List Moment → Type 0) → Begin → StoreKind → C → C → Opening → Type 0
@@ -52,46 +69,41 @@ abbrev pub left_closed : {D : Type 0} {g : Ghosts D} → Result (Files D) (FileS
 left_closed (Ok files) = leftover.Files files
 left_closed (Err it) = leftover.Store it
 
--- the keeper was served over a device with these two sides, and no other; and then it was closed
-pub record KeeperServed {P D R W : Type 0} {g : Ghosts D} (p : Profile) (keeper : TableKeeper P (FileStore D g) over_files)
-    (became : DevicePort R W → DevicePort R W → List PortEvent → Type 0) (gave : List Moment → Type 0) (reader : R) (writer : W) (begin : Begin)
-    (run : StoreRun D g) : Type 0 where
+-- the port was served over the keeper, and nothing else was done at it; and then the keeper was closed
+pub record KeeperServed {P D O C : Type 0} {g : Ghosts D} (p : Profile) (keeper : TableKeeper P (FileStore D g) over_files) (v : AroundViews O C)
+    (x : Around O C) (begin : Begin) (run : StoreRun D g) : Type 0 where
   pub keeper' : TableKeeper P (FileStore D g) over_files
-  pub served : OverDevice reader writer (λ port port'. ServesPort (views (keeper_told p over_files) (λ a b list. Unit {0}) device_told became)
-      gave (between keeper keeper' port port') begin run.ending run.counts)
+  pub served : ServesPort (views (keeper_told p over_files) (λ a b list. Unit {0}) v.port v.became) (v.gave x.clock x.clock')
+      (between keeper keeper' x.port x.port') begin run.ending run.counts
   pub left : Result (Files D) (FileStore D g)
   pub closed : Closes p keeper' left
   pub left_is : run.left ≡ Some (left_closed left)
 
--- a keeper of the files was opened, under the profile of the store; it was served, and then closed
-pub record StoreServed {D R W C : Type 0} {g : Ghosts D} (P : Type 0) (p : Profile) (first : Image)
-    (became : DevicePort R W → DevicePort R W → List PortEvent → Type 0) (gave : C → C → List Moment → Type 0) (sides : Sides R W C) (begin : Begin)
-    (kind : StoreKind) (run : StoreRun D g) : Type 0 where
+-- a keeper of the files was opened, under the profile of the store; the port was served over it, and then it was closed
+pub record StoreServed {D O C : Type 0} {g : Ghosts D} (P : Type 0) (p : Profile) (v : AroundViews O C) (x : Around O C) (task : Task)
+    (run : StoreRun D g) : Type 0 where
   pub keeper : TableKeeper P (FileStore D g) over_files
   pub mid : C
   pub how : Opening
-  pub opens : OpensBy gave begin kind sides.clock mid how
-  pub from : OpenedFrom p how first keeper
-  pub ran : KeeperServed p keeper became (gave mid sides.clock') sides.reader sides.writer begin run
+  pub opens : OpensBy v.gave task.begin task.kind x.clock mid how
+  pub from : OpenedFrom p how task.first keeper
+  pub ran : KeeperServed p keeper v (around x.port x.port' mid x.clock') task.begin run
 
 -- so it was under one of the profiles
-abbrev pub IsServed : {D R W C : Type 0} {g : Ghosts D} → Image → (DevicePort R W → DevicePort R W → List PortEvent → Type 0)
-    → (C → C → List Moment → Type 0) → Sides R W C → Begin → StoreKind → StoreRun D g → Type 0
-IsServed first became gave sides begin kind run =
-    StoreServed PlainProfile profiles.Plain first became gave sides begin kind run
-    ⊎ StoreServed EverydayProfile profiles.Everyday first became gave sides begin kind run
+abbrev pub IsServed : {D O C : Type 0} {g : Ghosts D} → AroundViews O C → Around O C → Task → StoreRun D g → Type 0
+IsServed v x task run = StoreServed PlainProfile profiles.Plain v x task run ⊎ StoreServed EverydayProfile profiles.Everyday v x task run
 
--- no keeper was opened, and nothing was served. A store that is refused is left as it was found; else a crash leaves what was
--- found, or what the opening makes of it; and the fault says nothing of a sound store, and of any other database what is so
-pub record StoreRefused {D R W C : Type 0} {g : Ghosts D} (first : Image) (gave : C → C → List Moment → Type 0) (sides : Sides R W C) (begin : Begin)
-    (kind : StoreKind) (run : StoreRun D g) : Type 0 where
+-- no keeper was opened, and nothing was read from the port or sent to it. A store that is refused is left as it was found; else a crash
+-- leaves what was found, or what the opening makes of it; and the fault says nothing of a sound store, and of any other database what is so
+pub record StoreRefused {D O C : Type 0} {g : Ghosts D} (v : AroundViews O C) (x : Around O C) (task : Task) (run : StoreRun D g) : Type 0 where
   pub how : Opening
-  pub opens : OpensBy gave begin kind sides.clock sides.clock' how
+  pub opens : OpensBy v.gave task.begin task.kind x.clock x.clock' how
+  pub still : x.port' ≡ x.port
   pub fault : StoreFault
   pub ending_is : run.ending ≡ store_ending fault
   pub uncounted : run.counts ≡ None
-  pub crash : IfSome run.left (LeavesOpening how first)
-  pub untouched : IsRefusal fault → IfSome run.left (LeavesAsFound first)
-  pub fails : IfSome run.left (FailsOver how first fault)
+  pub crash : IfSome run.left (LeavesOpening how task.first)
+  pub untouched : IsRefusal fault → IfSome run.left (LeavesAsFound task.first)
+  pub fails : IfSome run.left (FailsOver how task.first fault)
   pub unopened : run.left ≡ None → IsNeverOpened fault ⊎ ((how ≡ opening.Existing) × (fault ≡ NotAStore))
-  pub outside : IfSome run.left (λ it. IsCleanLeft it → (z : Stored) → FilesHold first z → IsOutside fault)
+  pub outside : IfSome run.left (λ it. IsCleanLeft it → (z : Stored) → FilesHold task.first z → IsOutside fault)

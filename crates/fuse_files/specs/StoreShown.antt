@@ -2,13 +2,15 @@
 use Rattle.std.specs.Prelude.{◌≡◌, ◌⊎◌, ⊤, ℕ, List, length, Option, Result, Ok, Err}
 use Rattle.std.specs.List.{sum_by}
 use Rattle.std.specs.Io.KnownBytes.{Appends}
+use Rattle.std.specs.declared.io.Error.{Error}
 use Rattle.sqlite_wal.specs.Recovery.{Image}
 use Rattle.sqlite.specs.Tree.{Trees}
 use Rattle.sqlite.specs.Effect.{Database, IsDatabase}
 use Rattle.sqlite.specs.Files.{HoldsDatabase, IsNothing}
 use Rattle.fuse_keeper.specs.declared.fault.StoreFault.TheVariants as fault
 use Rattle.fuse_keeper.specs.Stands.{Records, CountsRecords}
-use Rattle.fuse_tree.specs.Rows.{Rows, rowed}
+use Rattle.fuse_rows.specs.Rows.{Rows}
+use Rattle.fuse_tree.specs.Rowed.{rowed}
 use Rattle.fuse_store_tables.specs.Saying.{Says, IsTabled}
 use Rattle.fuse_store_tree.specs.Store.{records_of}
 use Rattle.fuse_store.specs.Opening.{Stored, opened_for, version_for}
@@ -17,6 +19,8 @@ use Rattle.fuse_show.specs.declared.fault.ShowFault.{ShowFault}
 use Rattle.fuse_show.specs.declared.fault.ShowFault.TheVariants.{Look, NotATree, NoSuchPath, NotDirectory, NotFile, Output}
 use Rattle.fuse_show.specs.Paths.{names_of}
 use Rattle.fuse_show.specs.Shown.{ShowsListing, ShowsContent}
+use Rattle.fuse_show.specs.Listing.{AreLines}
+use Rattle.fuse_show.specs.Sinks.{IsPartOf, Way, Flushed, Failed, Left, Outputs}
 use Rattle.fuse_show.specs.Summary.{store_text}
 use Rattle.fuse_show.specs.declared.summary.Summary.{Summary}
 use Rattle.fuse_commands.specs.declared.ending.Ending.{Ending}
@@ -41,26 +45,30 @@ SaysNothing (ending.Sql _) = ⊤
 SaysNothing _ = ⊥
 
 -- the ending of what was shown
-abbrev pub EndsAs : Result (Unit {0}) ShowFault → Ending → Type 0
-EndsAs (Ok _) e = e ≡ ending.Done
-EndsAs (Err (Look f)) e = SaysNothing e
-EndsAs (Err NotATree) e = e ≡ ending.Damaged
-EndsAs (Err NoSuchPath) e = e ≡ ending.NoSuchPath
-EndsAs (Err NotDirectory) e = e ≡ ending.NotDirectory
-EndsAs (Err NotFile) e = e ≡ ending.NotFile
-EndsAs (Err Output) e = e ≡ ending.PortFailed
+abbrev pub EndsAsShown : Result (Unit {0}) ShowFault → Ending → Type 0
+EndsAsShown (Ok _) e = e ≡ ending.Done
+EndsAsShown (Err (Look f)) e = SaysNothing e
+EndsAsShown (Err NotATree) e = e ≡ ending.Damaged
+EndsAsShown (Err NoSuchPath) e = e ≡ ending.NoSuchPath
+EndsAsShown (Err NotDirectory) e = e ≡ ending.NotDirectory
+EndsAsShown (Err NotFile) e = e ≡ ending.NotFile
+EndsAsShown (Err Output) e = e ≡ ending.PortFailed
 
 -- the listing of the directory at this path, or why there is none
-pub record Lists (path : List ℕ) (z : Stored) (old new : Option (List ℕ)) (e : Ending) : Type 0 where
+pub record ListsDirectory (path : List ℕ) (z : Stored) (old new : Option (List ℕ)) (e : Ending) : Type 0 where
   pub shown : Result (Unit {0}) ShowFault
-  pub lists : ShowsListing (rows_in z) (names_of path) old new shown
-  pub ends : EndsAs shown e
+  pub bytes : List ℕ
+  pub written : Appends old new bytes
+  pub lists : ShowsListing (rows_in z) (names_of path) bytes shown
+  pub ends : EndsAsShown shown e
 
 -- the bytes of the file at this path, or why there are none
-pub record Prints (path : List ℕ) (z : Stored) (old new : Option (List ℕ)) (e : Ending) : Type 0 where
+pub record PrintsFile (path : List ℕ) (z : Stored) (old new : Option (List ℕ)) (e : Ending) : Type 0 where
   pub shown : Result (Unit {0}) ShowFault
-  pub prints : ShowsContent (rows_in z) (names_of path) old new shown
-  pub ends : EndsAs shown e
+  pub bytes : List ℕ
+  pub written : Appends old new bytes
+  pub prints : ShowsContent (rows_in z) (names_of path) bytes shown
+  pub ends : EndsAsShown shown e
 
 -- the summary says what these rows and records hold, in so many lots
 pub record SumsUp (x : Rows) (r : Records) (n : ℕ) (it : Summary) : Type 0 where
@@ -72,22 +80,22 @@ pub record SumsUp (x : Rows) (r : Records) (n : ℕ) (it : Summary) : Type 0 whe
   pub room : it.room ≡ x.counters.room
   pub agreed : it.agreed ≡ x.settings
 
--- its summary is written
-pub record IsSummed (z : Stored) (old new : Option (List ℕ)) : Type 0 where
+-- its summary is a text of which this is so
+pub record IsSummed (z : Stored) (Written : List ℕ → Type 0) : Type 0 where
   pub summary : Summary
   pub version : summary.version ≡ version_for z
   pub so : SumsUp (rows_in z) (records_of (opened_for z).kept) (length (opened_for z).lots) summary
-  pub written : Appends old new (store_text summary.version summary.counts summary.bytes summary.room summary.agreed)
+  pub written : Written (store_text summary.version summary.counts summary.bytes summary.room summary.agreed)
 
 abbrev pub Sums : Stored → Option (List ℕ) → Option (List ℕ) → Ending → Type 0
-Sums z old new ending.Done = IsSummed z old new
-Sums z old new ending.PortFailed = ⊤
+Sums z old new ending.Done = IsSummed z (Appends old new)
+Sums z old new ending.PortFailed = IsSummed z (λ text. (bytes : List ℕ) × Appends old new bytes × IsPartOf bytes text)
 Sums z old new e = SaysNothing e × (new ≡ old)
 
 abbrev pub Shows : Show → Stored → Option (List ℕ) → Option (List ℕ) → Ending → Type 0
 Shows show.Summary z old new e = Sums z old new e
-Shows (show.Directory path) z old new e = Lists path.now z old new e
-Shows (show.File path) z old new e = Prints path.now z old new e
+Shows (show.Directory path) z old new e = ListsDirectory path.now z old new e
+Shows (show.File path) z old new e = PrintsFile path.now z old new e
 
 -- ---- of any files
 
@@ -111,6 +119,37 @@ pub record SaysTrue (image : Image) (e : Ending) : Type 0 where
 abbrev pub IsUnopened : Image → Ending → Type 0
 IsUnopened image e =
     SaysNothing e ⊎ ((e ≡ ending.NotAStore) × ((db : Trees) → HoldsDatabase image db → ⊥) × (IsNothing image → ⊥))
+
+-- an output that ended so wrote bytes of which this is so
+abbrev pub OutputsAs : {W : Type 0} → (W → W → Result ℕ Error → List ℕ → Type 0) → (W → W → Result (Unit {0}) Error → Type 0) → W → W
+    → (Way → List ℕ → Type 0) → Type 0
+OutputsAs written flushed a b P = (way : Way) × Outputs written flushed a b way (P way)
+
+-- the ending of what was not shown to its end, though no output failed
+abbrev pub MayCutShort : Ending → Type 0
+MayCutShort ending.Done = ⊥
+MayCutShort ending.PortFailed = ⊥
+MayCutShort _ = ⊤
+
+-- the first bytes of a text of which this is so
+abbrev pub IsPartOfOne : (List ℕ → Type 0) → List ℕ → Type 0
+IsPartOfOne Is bytes = (text : List ℕ) × Is text × IsPartOf bytes text
+
+-- a whole text and a flush, a part before output failed, or a part before something else did
+abbrev pub ShowsText : (List ℕ → Type 0) → Ending → Way → List ℕ → Type 0
+ShowsText Is e Flushed bytes = (e ≡ ending.Done) × Is bytes
+ShowsText Is e Failed bytes = (e ≡ ending.PortFailed) × IsPartOfOne Is bytes
+ShowsText Is e Left bytes = MayCutShort e × IsPartOfOne Is bytes
+
+-- some summary
+abbrev pub IsSummary : List ℕ → Type 0
+IsSummary text = (s : Summary) × (text ≡ store_text s.version s.counts s.bytes s.room s.agreed)
+
+-- a text of the form of what is asked for: a summary, lines of entries, or any bytes
+abbrev pub IsTextOf : Show → List ℕ → Type 0
+IsTextOf show.Summary = IsSummary
+IsTextOf (show.Directory path) = AreLines
+IsTextOf (show.File path) = λ _. ⊤
 
 -- no store of a version that is known, or nothing at the path that can be shown
 abbrev pub IsRefused : Ending → Type 0

@@ -4,6 +4,8 @@ use Rattle.std.specs.Io.KnownBytes.{Appends}
 use Rattle.sqlite_disk.specs.declared.Disk.{Ghosts}
 use Rattle.sqlite_disk.specs.declared.Files.{Files}
 use Rattle.sqlite_store.specs.declared.store.FileStore.{FileStore}
+use Rattle.sqlite_wal.specs.Recovery.{Image}
+use Rattle.sqlite.specs.Effect.{Database, IsDatabase}
 use Rattle.sqlite.specs.Files.{over_files, image_of}
 use Rattle.fuse_init.specs.declared.profile.Profile.{Profile}
 use Rattle.fuse_init.specs.declared.profile.Profile.TheVariants.{Plain, Everyday}
@@ -18,6 +20,8 @@ use Rattle.fuse_sim.specs.Twice.{Seen}
 use Rattle.fuse_store.specs.declared.new_store.StoreKind.{StoreKind}
 use Rattle.fuse_store.specs.Creating.{origin_of}
 use Rattle.fuse_store_files.specs.declared.crash_keeper.CrashKeeper.{CrashKeeper}
+use Rattle.fuse_store_tables.specs.Layout.{no_schema}
+use Rattle.fuse_store_files.specs.Files.{AreTheirs}
 use Rattle.fuse_store_files.specs.Restarting.{crash_told, CrashRefuses}
 use Rattle.fuse_commands.specs.declared.ending.Ending.{Ending}
 use Rattle.fuse_commands.specs.Endings.{status_of, store_ending}
@@ -30,8 +34,8 @@ abbrev pub new_state : Profile → StoreKind → State
 new_state p kind = new_store p kind.capacity (origin_of (made_then kind))
 
 -- how contracts see keepers whose files crash before they are opened again
-abbrev pub crashing : {P D : Type 0} {g : Ghosts D} → (p : Profile) → (D → D → Type 0) → Seen (tree_of p) (CrashKeeper P (FileStore D g) over_files)
-crashing p crashed = driven (crash_told p over_files) (λ a b n. Unit {0}) (λ a b list. Unit {0}) (CrashRefuses p crashed)
+abbrev pub crashing : {D : Type 0} → (P : Type 0) → (p : Profile) → (g : Ghosts D) → (D → D → Type 0) → Seen (tree_of p) (CrashKeeper P (FileStore D g) over_files)
+crashing P p g crashed = driven (crash_told p over_files) (λ a b n. Unit {0}) (λ a b list. Unit {0}) (CrashRefuses p crashed)
 
 -- the script was run over this keeper, and no other: the clauses of `run_simulate`
 pub record SimulatesOver {M : Model} {K : Type 0} (k : Seen M K) (keeper : K) (streams : Streams) (ending : Ending) : Type 0 where
@@ -43,21 +47,32 @@ pub record SimulatesOver {M : Model} {K : Type 0} (k : Seen M K) (keeper : K) (s
   pub kept : (script : List ℕ) → streams.input ≡ Some script → (keeper' ≡ Some keeper) ⊎ LeftByScript k (Some keeper) keeper' script
   pub emptied : (script : List ℕ) → streams.input ≡ Some script → keeper' ≡ None → RefusedIn k (Some keeper) script ending
 
--- It was run over a keeper of a new store. Wherever the server dies both files of the keeper crash, and what is left of them is opened.
-pub record StoreSimulated {D : Type 0} (P : Type 0) (p : Profile) (kind : StoreKind) (g : Ghosts D) (crashed : D → D → Type 0) (streams : Streams) (ending : Ending) : Type 0 where
-  pub keeper : CrashKeeper P (FileStore D g) over_files
-  pub stands : (crash_told p over_files keeper).is_honest → StandsFor (crash_told p over_files keeper) (new_state p kind) [] []
-  pub firm : (crash_told p over_files keeper).is_honest → IsFirm (crash_told p over_files keeper)
-  pub ran : SimulatesOver (crashing p crashed) keeper streams ending
+-- it was run over a keeper of a new store
+pub record StoreSimulated {K : Type 0} (p : Profile) (kind : StoreKind) (k : Seen (tree_of p) K) (streams : Streams) (ending : Ending) : Type 0 where
+  pub keeper : K
+  pub stands : (k.told keeper).is_honest → StandsFor (k.told keeper) (new_state p kind) [] []
+  pub firm : (k.told keeper).is_honest → IsFirm (k.told keeper)
+  pub ran : SimulatesOver k keeper streams ending
 
 -- so it was under this profile
 abbrev pub IsSimulated : {D : Type 0} → Profile → StoreKind → Ghosts D → (D → D → Type 0) → Streams → Ending → Type 0
-IsSimulated Plain kind g crashed streams ending = StoreSimulated PlainProfile Plain kind g crashed streams ending
-IsSimulated Everyday kind g crashed streams ending = StoreSimulated EverydayProfile Everyday kind g crashed streams ending
+IsSimulated Plain kind g crashed streams ending = StoreSimulated Plain kind (crashing PlainProfile Plain g crashed) streams ending
+IsSimulated Everyday kind g crashed streams ending = StoreSimulated Everyday kind (crashing EverydayProfile Everyday g crashed) streams ending
 
 -- the disks always return what was written, as those in memory do
 abbrev pub AreSure : {D : Type 0} → Ghosts D → Type 0
 AreSure {D} g = (d : D) → g.is_clean d ≡ true
+
+-- an open of the files finds a blank database
+pub record FindsBlank (image : Image) : Type 0 where
+  pub database : Database
+  pub sound : IsDatabase database
+  pub theirs : AreTheirs image database.trees
+  pub blank : database.schema ≡ no_schema
+
+-- if the disks are so, it did before the run
+abbrev pub WereBlank : {D : Type 0} → Ghosts D → Files D → Type 0
+WereBlank g files = AreSure g → FindsBlank (image_of g files)
 
 -- no store was made, and nothing was written. If the disks are so, the ending says nothing, or the files hold neither a database nor nothing
 pub record NotSimulated {D : Type 0} (g : Ghosts D) (files : Files D) (streams : Streams) (ending : Ending) : Type 0 where

@@ -5,8 +5,8 @@ ghost use Rattle.fuse_files.specs.StoreKinds.{whole_blocks, blocks_asked, owner_
 
 use fuse_commands::{AskedOwner, AskedStore};
 use fuse_init::Profile;
+use fuse_rows::{BLOCK_SIZE, CAPACITY_END, DEFAULT_CAPACITY, Owner};
 use fuse_store::StoreKind;
-use fuse_tree::{BLOCK_SIZE, CAPACITY_END, DEFAULT_CAPACITY, Owner};
 
 // The owner of the root.
 fn owner_of(asked: Option<AskedOwner>) -> Owner

@@ -1,12 +1,11 @@
 // Runs of servers over the files of a store, one after another.
-ghost use Rattle.std.specs.Prelude.{ℕ, List, [], ◌∷◌, take, Result};
+ghost use Rattle.std.specs.Prelude.{◌≡◌, ℕ, List, [], ◌∷◌, take, Result};
 ghost use Rattle.sqlite_disk.specs.declared.Files.{Files as TwoFiles};
 ghost use Rattle.sqlite_store.specs.declared.store.FileStore.{FileStore as OwnStore};
 ghost use Rattle.sqlite.specs.Files.{over_files};
 ghost use Rattle.sqlite_wal.specs.Recovery.{Image};
 ghost use Rattle.fuse_sim.specs.FileLives.{FileRun, no_run, IsMount, AllHaveNew, FilesLived};
 ghost use Rattle.fuse_tree.specs.TheTree.{tree_of};
-ghost use Rattle.fuse_store.specs.declared.new_store.StoreKind.{StoreKind};
 ghost use Rattle.fuse_keeper.specs.KeeperState.{WhereHeld};
 ghost use Rattle.fuse_keeper.specs.Lots.{AreReopened};
 ghost use Rattle.fuse_store.specs.Opening.{Stored};
@@ -16,15 +15,15 @@ ghost use Rattle.fuse_store_files.specs.declared.files.Opening.TheVariants.{Exis
 ghost use Rattle.fuse_store_files.specs.Files.{FilesStand, FilesHold};
 ghost use Rattle.fuse_store_files.specs.Left.{Closes};
 ghost use Rattle.fuse_store_files.specs.Starting.{KeepsStore};
-ghost use Rattle.fuse_commands.specs.declared.serve.Begin.{Begin as Beginning};
 ghost use Rattle.fuse_commands.specs.declared.serve.Begin.TheVariants.{Resume};
 ghost use Rattle.fuse_files.specs.declared.serving.StoreRun.{StoreRun};
-ghost use Rattle.fuse_files.specs.StoreRuns.{Sides, StoreServed, StoreRefused};
+ghost use Rattle.fuse_files.specs.StoreRuns.{Task, Around, around_views};
+ghost use Rattle.fuse_files.specs.StoreRuns.{StoreServed, StoreRefused};
 ghost use Rattle.fuse_files.specs.StoreLives.{MayBeLeft, MayBeLeftUnopened, Resumes, RunsOn};
 ghost use Rattle.fuse_files.specs.StoreLives.{file_run};
 
 use fuse_init::Profiled;
-use fuse_session::{Clock, DevicePort, Port, Sink, Source};
+use fuse_session::{Clock, Port};
 use fuse_sim::{lives, runs_are_lives};
 use fuse_store::{PlainKeeper, PlainTree, TableKeeper};
 use fuse_store_tree::lots_are_read;
@@ -34,19 +33,18 @@ use sqlite_disk::Disk;
 /// Each run of `serve_store` is a life: of the mount that the files held, or of the one that began.
 /// Whatever a crash leaves of the files, in the session or after the closing, stands for the history
 /// that it leads to. A run that opened no store is one too, in which nothing was done.
-pub fn runs_are_file_lives<P: Profiled, D: Disk + Drop, R: Source, W: Sink, C: Clock>()
-    ensures served { (first : Image) (sides : Sides R W C) (begin : Beginning)
-        (kind : StoreKind) (run : StoreRun D D.Disk)
-        (served : StoreServed P P.PROFILE first ⟦<DevicePort<R, W> as Port>⟧.became C.gave sides begin
-        kind run) (image : Image) → MayBeLeft served.ran.closed image
-        → RunsOn P.PROFILE served.how first (file_run served.ran.served.so image) }
+pub fn runs_are_file_lives<P: Profiled, D: Disk + Drop, O: Port, C: Clock>()
+    ensures served { (x : Around O C) (task : Task) (run : StoreRun D D.Disk)
+        (served : StoreServed P P.PROFILE (around_views O.told O.became C.gave) x task run)
+        (image : Image) → MayBeLeft served.ran.closed image
+        → RunsOn P.PROFILE served.how task.first (file_run served.ran.served image) }
     // A run that was to resume, whose store is not opened, leaves the files as they stood.
-    ensures refused { (first : Image) (sides : Sides R W C) (kind : StoreKind)
-        (run : StoreRun D D.Disk) → StoreRefused first C.gave sides Resume kind run
-        → (image : Image) → MayBeLeftUnopened first run.left image
-        → Resumes P.PROFILE first (no_run image) }
+    ensures refused { (x : Around O C) (task : Task) (run : StoreRun D D.Disk)
+        → StoreRefused (around_views O.told O.became C.gave) x task run → task.begin ≡ Resume
+        → (image : Image) → MayBeLeftUnopened task.first run.left image
+        → Resumes P.PROFILE task.first (no_run image) }
 {
-    runs_are_lives::<TableKeeper<P, FileStore<D>>, DevicePort<R, W>, C>();
+    runs_are_lives::<TableKeeper<P, FileStore<D>>, O, C>();
 }
 
 /// The lots outlive the closing of files. A keeper that holds the store which a crash may leave of

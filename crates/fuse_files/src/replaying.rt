@@ -6,7 +6,8 @@ ghost use Rattle.fuse_store.specs.TableKeeper.{keeper_told};
 ghost use Rattle.fuse_store_files.specs.Starting.{path_of};
 ghost use Rattle.fuse_commands.specs.Endings.{status_of};
 ghost use Rattle.fuse_keeper.specs.KeeperState.{StandsFor};
-ghost use Rattle.fuse_files.specs.StoreReplays.{KeeperReplayed, IsReplayed, NotReplayed};
+ghost use Rattle.fuse_files.specs.StoreReplays.{streams, KeeperReplayed, IsReplayed};
+ghost use Rattle.fuse_files.specs.StoreReplays.{NotReplayed};
 ghost use Rattle.fuse_files.specs.ListReplays.{lists_told, ListsReplayed, IsReplayedAnew};
 ghost use Rattle.fuse_files.specs.ListReplays.{NotReplayedAnew};
 ghost use Rattle.fuse_files.specs.StoreSimulations.{new_state};
@@ -14,9 +15,10 @@ ghost use Rattle.fuse_files.specs.StoreSimulations.{new_state};
 use crate::serving::{ending_of, left_of};
 use fuse_commands::{Ending, START, run_replay};
 use fuse_init::{EverydayProfile, PlainProfile, Profile, Profiled};
+use fuse_rows::Origin;
 use fuse_store::{NewStore, PlainKeeper, PlainTree, StoreKeeper, StoreKind, TableKeeper};
 use fuse_store_files::{Opening, StoreFiles, close_store, open_store};
-use fuse_tree::{Origin, new_store_is_tree};
+use fuse_tree::new_store_is_tree;
 use fuse_wire::{Memory, Moment};
 use sqlite::{FileFrom, FileStore, Leftover, Start};
 use sqlite_disk::Disk;
@@ -33,11 +35,8 @@ fn replay_keeper<P: Profiled, D: Disk + Drop, R: Read + Drop, W: Write>(
     moment: Moment,
 ) -> (Ending, Option<Leftover<D>>)
     requires going { (keeper_told P.PROFILE over_files keeper).has_failed ≡ false }
-    ensures ran { KeeperReplayed P.PROFILE keeper moment (record {
-      input = R.remaining reader;
-      written = W.contents writer.old;
-      written' = W.contents writer.new;
-    }) result.0 result.1 }
+    ensures ran { KeeperReplayed P.PROFILE keeper moment
+        (streams (R.remaining reader) (W.contents writer.old) (W.contents writer.new)) result }
     ensures usage { status_of result.0 ≢ 2 }
 {
     let ending = run_replay(alloc, &mut keeper, reader, writer, moment);
@@ -55,22 +54,14 @@ pub fn replay_store<S: Start, R: Read + Drop, W: Write>(
     writer: &mut W,
     moment: Moment,
 ) -> (Ending, Option<Leftover<FileFrom<S>>>)
-    ensures ran { IsReplayed (image_at S.Start) kind moment (record {
-      input = R.remaining reader;
-      written = W.contents writer.old;
-      written' = W.contents writer.new;
-    }) result.0 result.1
-        ⊎ NotReplayed (image_at S.Start) kind (record {
-          input = R.remaining reader;
-          written = W.contents writer.old;
-          written' = W.contents writer.new;
-        }) result.0 result.1 }
-    ensures memory { path_of files.entry ≡ codes ":memory:" → NotReplayed (image_at S.Start) kind
-        (record {
-          input = R.remaining reader;
-          written = W.contents writer.old;
-          written' = W.contents writer.new;
-        }) result.0 result.1 }
+    ensures ran { IsReplayed
+        (record { first = image_at S.Start; kind = kind; moment = moment })
+        (streams (R.remaining reader) (W.contents writer.old) (W.contents writer.new)) result
+        ⊎ NotReplayed (record { first = image_at S.Start; kind = kind; moment = moment })
+        (streams (R.remaining reader) (W.contents writer.old) (W.contents writer.new)) result }
+    ensures memory { path_of files.entry ≡ codes ":memory:" → NotReplayed
+        (record { first = image_at S.Start; kind = kind; moment = moment })
+        (streams (R.remaining reader) (W.contents writer.old) (W.contents writer.new)) result }
     ensures usage { status_of result.0 ≢ 2 }
 {
     match open_store(files, Opening::Any(NewStore { kind, now: START })) {
@@ -106,16 +97,10 @@ fn replay_lists<P: Profiled, R: Read + Drop, W: Write>(
     writer: &mut W,
     moment: Moment,
 ) -> Ending
-    ensures ran { ListsReplayed P P.PROFILE kind moment (record {
-      input = R.remaining reader;
-      written = W.contents writer.old;
-      written' = W.contents writer.new;
-    }) result
-        ⊎ NotReplayedAnew (record {
-          input = R.remaining reader;
-          written = W.contents writer.old;
-          written' = W.contents writer.new;
-        }) result }
+    ensures ran { ListsReplayed P P.PROFILE kind moment
+        (streams (R.remaining reader) (W.contents writer.old) (W.contents writer.new)) result
+        ⊎ NotReplayedAnew
+        (streams (R.remaining reader) (W.contents writer.old) (W.contents writer.new)) result }
     ensures usage { status_of result ≢ 2 }
 {
     match new_lists::<P>(alloc, kind) {
@@ -133,16 +118,10 @@ pub fn replay_in_memory<R: Read + Drop, W: Write>(
     writer: &mut W,
     moment: Moment,
 ) -> Ending
-    ensures ran { IsReplayedAnew kind.profile kind moment (record {
-      input = R.remaining reader;
-      written = W.contents writer.old;
-      written' = W.contents writer.new;
-    }) result
-        ⊎ NotReplayedAnew (record {
-          input = R.remaining reader;
-          written = W.contents writer.old;
-          written' = W.contents writer.new;
-        }) result }
+    ensures ran { IsReplayedAnew kind.profile kind moment
+        (streams (R.remaining reader) (W.contents writer.old) (W.contents writer.new)) result
+        ⊎ NotReplayedAnew
+        (streams (R.remaining reader) (W.contents writer.old) (W.contents writer.new)) result }
     ensures usage { status_of result ≢ 2 }
 {
     match kind.profile {

@@ -1,17 +1,17 @@
 // A run of a server over the files of a store.
-ghost use Rattle.std.specs.Prelude.{◌≡◌, ◌≢◌, ◌⊎◌, false, codes};
+ghost use Rattle.std.specs.Prelude.{◌≡◌, ◌≢◌, ◌⊎◌, ◌<◌, ◌^◌, false, codes};
 ghost use Rattle.sqlite_wal.specs.Files.{image_at};
 ghost use Rattle.sqlite.specs.Files.{over_files};
 ghost use Rattle.fuse_store.specs.TableKeeper.{keeper_told};
 ghost use Rattle.fuse_store_files.specs.Starting.{path_of};
 ghost use Rattle.fuse_commands.specs.Endings.{status_of, store_ending};
-ghost use Rattle.fuse_files.specs.StoreRuns.{OpensBy, left_closed, KeeperServed, IsServed};
-ghost use Rattle.fuse_files.specs.StoreRuns.{StoreRefused};
+ghost use Rattle.fuse_files.specs.StoreRuns.{around, around_views, OpensBy, left_closed};
+ghost use Rattle.fuse_files.specs.StoreRuns.{KeeperServed, IsServed, StoreRefused};
 
 use fuse_commands::{Begin, Ending, run_serve};
 use fuse_init::Profiled;
 use fuse_keeper::StoreFault;
-use fuse_session::{Clock, DevicePort, Port, SessionCounts, Sink, Source};
+use fuse_session::{Clock, Port, SessionCounts};
 use fuse_store::{StoreKeeper, StoreKind, TableKeeper};
 use fuse_store_files::{Opening, StoreFiles, close_store, open_store};
 use sqlite::{FileFrom, FileStore, Files, Leftover, Start};
@@ -56,22 +56,22 @@ pub(crate) fn left_of<D: Disk>(closed: Result<Files<D>, FileStore<D>>) -> Leftov
     }
 }
 
-// Serves a FUSE device over a keeper, of which the reader and the writer are the two sides. Then
-// closes its files.
-fn serve_keeper<P: Profiled, D: Disk + Drop, R: Source, W: Sink, C: Clock>(
+// Serves a port over a keeper. Then closes its files.
+fn serve_keeper<P: Profiled, D: Disk + Drop, O: Port, C: Clock>(
     alloc: Global,
     mut keeper: TableKeeper<P, FileStore<D>>,
-    reader: R,
-    writer: W,
+    port: &mut O,
     clock: &mut C,
     begin: Begin,
 ) -> StoreRun<D>
     requires going { (keeper_told P.PROFILE over_files keeper).has_failed ≡ false }
-    ensures ran { KeeperServed P.PROFILE keeper ⟦<DevicePort<R, W> as Port>⟧.became
-        (C.gave clock.old clock.new) reader writer begin result }
+    requires receives { (O.told port.old).receives < 2 ^ 62 }
+    requires failures { (O.told port.old).failures < 2 ^ 62 }
+    ensures ran { KeeperServed P.PROFILE keeper (around_views O.told O.became C.gave)
+        (around port.old port.new clock.old clock.new) begin result }
     ensures usage { status_of result.ending ≢ 2 }
 {
-    let (ending, counts) = run_serve(alloc, &mut keeper, reader, writer, clock, begin);
+    let (ending, counts) = run_serve(alloc, &mut keeper, port, clock, begin);
     StoreRun {
         ending,
         counts,
@@ -80,37 +80,35 @@ fn serve_keeper<P: Profiled, D: Disk + Drop, R: Source, W: Sink, C: Clock>(
 }
 
 /// Opens the store in these files, at `Begin::Fresh` for a mount that begins; where they hold
-/// nothing, a store of this kind is made. Serves a FUSE device over it, of which the reader and the
-/// writer are the two sides. Then closes the files.
-pub fn serve_store<S: Start, R: Source, W: Sink, C: Clock>(
+/// nothing, a store of this kind is made. Serves a port over it, and does nothing else at the port.
+/// Then closes the files.
+pub fn serve_store<S: Start, O: Port, C: Clock>(
     alloc: Global,
     files: StoreFiles<'_, '_, S>,
-    reader: R,
-    writer: W,
+    port: &mut O,
     clock: &mut C,
     begin: Begin,
     kind: StoreKind,
 ) -> StoreRun<FileFrom<S>>
-    ensures ran { IsServed (image_at S.Start) ⟦<DevicePort<R, W> as Port>⟧.became C.gave
-        (record { reader = reader; writer = writer; clock = clock.old; clock' = clock.new }) begin
-        kind result
-        ⊎ StoreRefused (image_at S.Start) C.gave
-        (record { reader = reader; writer = writer; clock = clock.old; clock' = clock.new }) begin
-        kind result }
+    requires receives { (O.told port.old).receives < 2 ^ 62 }
+    requires failures { (O.told port.old).failures < 2 ^ 62 }
+    ensures ran { IsServed (around_views O.told O.became C.gave)
+        (around port.old port.new clock.old clock.new)
+        (record { first = image_at S.Start; begin = begin; kind = kind }) result
+        ⊎ StoreRefused (around_views O.told O.became C.gave)
+        (around port.old port.new clock.old clock.new)
+        (record { first = image_at S.Start; begin = begin; kind = kind }) result }
     // A store in memory has no files.
-    ensures memory { path_of files.entry ≡ codes ":memory:" → StoreRefused (image_at S.Start) C.gave
-        (record { reader = reader; writer = writer; clock = clock.old; clock' = clock.new }) begin
-        kind result }
+    ensures memory { path_of files.entry ≡ codes ":memory:"
+        → StoreRefused (around_views O.told O.became C.gave)
+        (around port.old port.new clock.old clock.new)
+        (record { first = image_at S.Start; begin = begin; kind = kind }) result }
     ensures usage { status_of result.ending ≢ 2 }
 {
     let opening = opening_for(clock, begin, kind);
     match open_store(files, opening) {
-        Ok(StoreKeeper::Plain(keeper)) => {
-            serve_keeper(alloc, keeper, reader, writer, clock, begin)
-        }
-        Ok(StoreKeeper::Everyday(keeper)) => {
-            serve_keeper(alloc, keeper, reader, writer, clock, begin)
-        }
+        Ok(StoreKeeper::Plain(keeper)) => serve_keeper(alloc, keeper, port, clock, begin),
+        Ok(StoreKeeper::Everyday(keeper)) => serve_keeper(alloc, keeper, port, clock, begin),
         Err((fault, left)) => StoreRun {
             ending: ending_of(fault),
             counts: None,

@@ -1,10 +1,10 @@
 // What is shown of the store in files that were read.
-ghost use Rattle.std.specs.Prelude.{◌≡◌, ◌⊎◌, None, IfOk, IfErr, IsTrue};
+ghost use Rattle.std.specs.Prelude.{◌≡◌, ◌⊎◌, ⊤, None, IfOk, IfErr, IsTrue};
 ghost use Rattle.sqlite_disk.specs.Memory.{memory_bytes, memory_is_usable};
 ghost use Rattle.sqlite.specs.Held.{state};
 ghost use Rattle.sqlite.specs.Files.{file_state, IsOpened};
 ghost use Rattle.fuse_store_tables.specs.Saying.{IsTabled};
-ghost use Rattle.fuse_store_tree.specs.Looking.{look_fault};
+ghost use Rattle.fuse_store_tree.specs.Looking.{as_look_fault};
 ghost use Rattle.fuse_keeper.specs.Lots.{SameLots};
 ghost use Rattle.fuse_store_tree.specs.Store.{records_of};
 ghost use Rattle.fuse_store_tree.specs.Holding.{lots_of};
@@ -12,14 +12,17 @@ ghost use Rattle.fuse_store.specs.Opening.{Stored, WasFor, opened_for};
 ghost use Rattle.fuse_tree.specs.State.{profile_of};
 ghost use Rattle.fuse_store.specs.StoreKeeper.{own_profile, store_told};
 ghost use Rattle.fuse_store_files.specs.Files.{FilesHold, AreTheirs};
-ghost use Rattle.fuse_files.specs.StoreShown.{image_in, rows_in, Lists, Prints, Shows};
+ghost use Rattle.fuse_files.specs.StoreShown.{image_in, rows_in, ListsDirectory, PrintsFile, Shows};
 ghost use Rattle.fuse_files.specs.StoreShown.{SaysTrue, IsUnopened, IsRefused};
+ghost use Rattle.fuse_files.specs.StoreShown.{MayCutShort, IsTextOf, OutputsAs, ShowsText};
+ghost use Rattle.fuse_show.specs.Listing.{AreLines};
 ghost use Rattle.fuse_files.specs.inner.Showing.{IsAlwaysClean, Fails, LooksAt, ShowsOver};
-ghost use Rattle.fuse_files.specs.inner.Showing.{look_ending, shown_ending};
+ghost use Rattle.fuse_files.specs.inner.Showing.{showing_ending, shown_ending};
 
 use crate::summing::summary_of;
 use fuse_commands::Ending;
 use fuse_keeper::StoreFault;
+use fuse_session::Sink;
 use fuse_show::{ShowFault, show_content, show_listing};
 use fuse_store::{StoreKeeper, opening_fault};
 use fuse_store_tables::begin;
@@ -27,7 +30,6 @@ use fuse_store_tree::TableLook;
 use sqlite::{Alter, Connection, FileStore, Files, Options};
 use sqlite_disk::{Disk, Memory};
 use std::alloc::Global;
-use std::io::Write;
 
 /// What a command shows of a store.
 #[derive(Clone, Copy)]
@@ -65,6 +67,7 @@ pub(crate) fn open_keeper<S: Alter + Drop>(
     ensures tabled { IfOk result (λ k. (store_told k).is_honest
         → IsTabled (state S.Store conn).now) }
     ensures fails { IfErr result (λ e. IsAlwaysClean S.Store → Fails (state S.Store conn) e) }
+    ensures cut { IfErr result MayCutShort }
 {
     match StoreKeeper::open(alloc, conn) {
         Ok(keeper) => Ok(keeper),
@@ -74,12 +77,13 @@ pub(crate) fn open_keeper<S: Alter + Drop>(
 
 // A look at the store of a database.
 fn look_at<S: Alter + Drop>(alloc: Global, conn: Connection<S>) -> Result<TableLook<S>, Ending>
-    ensures begins { IfOk result (λ look. look_fault look.fault ≡ None) }
+    ensures begins { IfOk result (λ look. as_look_fault look.fault ≡ None) }
     ensures unknown { IfOk result (λ look. look.known ≡ None) }
     ensures fresh { IfOk result (λ look. look.last ≡ None) }
     ensures looks { IfOk result (λ look. IsAlwaysClean S.Store
         → LooksAt (state S.Store conn) (state S.Store look.conn)) }
     ensures fails { IfErr result (λ e. IsAlwaysClean S.Store → Fails (state S.Store conn) e) }
+    ensures cut { IfErr result MayCutShort }
 {
     let keeper = match open_keeper(alloc, conn) {
         Ok(keeper) => keeper,
@@ -94,7 +98,7 @@ fn look_at<S: Alter + Drop>(alloc: Global, conn: Connection<S>) -> Result<TableL
 
 // The ending of a look with this fault.
 pub(crate) fn ending_of_look(fault: Option<StoreFault>) -> Ending
-    ensures { result ≡ look_ending fault }
+    ensures { result ≡ showing_ending fault }
 {
     match fault {
         Some(fault) => Ending::of(fault),
@@ -104,7 +108,7 @@ pub(crate) fn ending_of_look(fault: Option<StoreFault>) -> Ending
 
 // The ending of what was shown over a look that has this fault.
 fn ending_of_shown(shown: Result<(), ShowFault>, fault: Option<StoreFault>) -> Ending
-    ensures { result ≡ shown_ending (look_ending fault) shown }
+    ensures { result ≡ shown_ending (showing_ending fault) shown }
 {
     match shown {
         Ok(()) => Ending::Done,
@@ -118,15 +122,17 @@ fn ending_of_shown(shown: Result<(), ShowFault>, fault: Option<StoreFault>) -> E
 }
 
 // Lists a directory of the store of a database.
-fn list_of<S: Alter + Drop, W: Write>(
+fn list_of<S: Alter + Drop, W: Sink>(
     alloc: Global,
     conn: Connection<S>,
     path: &str,
     writer: &mut W,
 ) -> Ending
-    ensures { IsAlwaysClean S.Store → ShowsOver (λ z. Lists path.now z (W.contents writer.old)
-        (W.contents writer.new) result) (state S.Store conn) (W.contents writer.old)
+    ensures shown { IsAlwaysClean S.Store → ShowsOver (λ z. ListsDirectory path.now z (W.contents
+        writer.old) (W.contents writer.new) result) (state S.Store conn) (W.contents writer.old)
         (W.contents writer.new) result }
+    ensures written { OutputsAs W.was_written W.was_flushed writer.old writer.new
+        (ShowsText AreLines result) }
 {
     let mut look = match look_at(alloc, conn) {
         Ok(look) => look,
@@ -138,15 +144,17 @@ fn list_of<S: Alter + Drop, W: Write>(
 }
 
 // Prints a file of the store of a database.
-fn print_of<S: Alter + Drop, W: Write>(
+fn print_of<S: Alter + Drop, W: Sink>(
     alloc: Global,
     conn: Connection<S>,
     path: &str,
     writer: &mut W,
 ) -> Ending
-    ensures { IsAlwaysClean S.Store → ShowsOver (λ z. Prints path.now z (W.contents writer.old)
-        (W.contents writer.new) result) (state S.Store conn) (W.contents writer.old)
+    ensures shown { IsAlwaysClean S.Store → ShowsOver (λ z. PrintsFile path.now z (W.contents
+        writer.old) (W.contents writer.new) result) (state S.Store conn) (W.contents writer.old)
         (W.contents writer.new) result }
+    ensures written { OutputsAs W.was_written W.was_flushed writer.old writer.new
+        (ShowsText (λ _. ⊤) result) }
 {
     let mut look = match look_at(alloc, conn) {
         Ok(look) => look,
@@ -158,15 +166,17 @@ fn print_of<S: Alter + Drop, W: Write>(
 }
 
 // Shows a part of the store of a database.
-fn show_of<S: Alter + Drop, W: Write>(
+fn show_of<S: Alter + Drop, W: Sink>(
     alloc: Global,
     conn: Connection<S>,
     show: Show<'_>,
     writer: &mut W,
 ) -> Ending
-    ensures { IsAlwaysClean S.Store → ShowsOver (λ z. Shows show.entry z (W.contents writer.old)
-        (W.contents writer.new) result) (state S.Store conn) (W.contents writer.old)
+    ensures shown { IsAlwaysClean S.Store → ShowsOver (λ z. Shows show.entry z (W.contents
+        writer.old) (W.contents writer.new) result) (state S.Store conn) (W.contents writer.old)
         (W.contents writer.new) result }
+    ensures written { OutputsAs W.was_written W.was_flushed writer.old writer.new
+        (ShowsText (IsTextOf show.entry) result) }
 {
     match show {
         Show::Summary => summary_of(alloc, conn, writer),
@@ -223,7 +233,7 @@ pub(crate) fn open_copy(
 
 /// Shows a part of the store in files of which these bytes were read. A copy of them in memory is
 /// opened, so the files stay as they are.
-pub fn show_store<W: Write>(
+pub fn show_store<W: Sink>(
     alloc: Global,
     read: StoreBytes,
     show: Show<'_>,
@@ -232,6 +242,10 @@ pub fn show_store<W: Write>(
     // Of a store what is asked for is shown.
     ensures shown { (z : Stored) → FilesHold (image_in read) z
         → Shows show.entry z (W.contents writer.old) (W.contents writer.new) result }
+    // Whatever the rows are, a text of that form is written, whole at `Done` alone. The output failed where
+    // the ending says so, and only there.
+    ensures written { OutputsAs W.was_written W.was_flushed writer.old writer.new
+        (ShowsText (IsTextOf show.entry) result) }
     // Of any files the ending says what is so.
     ensures says { IsUnopened (image_in read) result ⊎ SaysTrue (image_in read) result }
     ensures silent { IsRefused result → W.contents writer.new ≡ W.contents writer.old }

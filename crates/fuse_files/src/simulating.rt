@@ -8,17 +8,19 @@ ghost use Rattle.fuse_tree.specs.TheTree.{tree_of};
 ghost use Rattle.fuse_store_files.specs.Restarting.{crash_told};
 ghost use Rattle.fuse_commands.specs.Endings.{status_of, store_ending};
 ghost use Rattle.fuse_commands.specs.Simulating.{driven, SimulatedFrom};
-ghost use Rattle.fuse_files.specs.StoreSimulations.{new_state, SimulatesOver, StoreSimulated};
-ghost use Rattle.fuse_files.specs.StoreSimulations.{AreSure, IsSimulated, NotSimulated};
+ghost use Rattle.fuse_files.specs.StoreReplays.{streams};
+ghost use Rattle.fuse_files.specs.StoreSimulations.{new_state, crashing, SimulatesOver};
+ghost use Rattle.fuse_files.specs.StoreSimulations.{StoreSimulated};
+ghost use Rattle.fuse_files.specs.StoreSimulations.{AreSure, WereBlank, IsSimulated, NotSimulated};
 ghost use Rattle.fuse_files.specs.StoreShown.{IsUnopened};
 
 use crate::serving::ending_of;
 use fuse_commands::{Ending, START, run_simulate};
 use fuse_init::{EverydayProfile, PlainProfile, Profile, Profiled};
 use fuse_keeper::{Restart, StoreFault};
+use fuse_rows::Origin;
 use fuse_store::{StoreKind, TableKeeper, opening_fault};
 use fuse_store_files::{CrashKeeper, Crashing};
-use fuse_tree::Origin;
 use sqlite::{Connection, FileStore, Files, Options};
 use std::alloc::Global;
 use std::io::{Read, Write};
@@ -39,6 +41,7 @@ fn new_keeper<P: Profiled, D: Crashing + Drop>(
     ensures firm { IfOk result (λ k. (crash_told P.PROFILE over_files k).is_honest
         → IsFirm (crash_told P.PROFILE over_files k)) }
     ensures going { IfOk result (λ k. (crash_told P.PROFILE over_files k).has_failed ≡ false) }
+    ensures blank { IfOk result (λ k. WereBlank D.Disk files) }
     ensures fault { IfErr result (λ f. AreSure D.Disk
         → IsUnopened (image_of D.Disk files) (store_ending f)) }
 {
@@ -65,11 +68,8 @@ fn simulate_over<K: Restart, R: Read + Drop, W: Write>(
     writer: &mut W,
 ) -> Ending
     requires going { (K.told keeper).has_failed ≡ false }
-    ensures ran { SimulatesOver (driven K.told K.became K.performed K.refuses) keeper (record {
-      input = R.remaining reader;
-      written = W.contents writer.old;
-      written' = W.contents writer.new;
-    }) result }
+    ensures ran { SimulatesOver (driven K.told K.became K.performed K.refuses) keeper
+        (streams (R.remaining reader) (W.contents writer.old) (W.contents writer.new)) result }
     ensures silent { 1 ≤ status_of result → status_of result ≤ 3
         → W.contents writer.new ≡ W.contents writer.old }
     ensures usage { status_of result ≢ 2 }
@@ -87,11 +87,7 @@ fn simulate_opened<K: Restart, R: Read + Drop, W: Write>(
 ) -> Ending
     requires going { IfOk keeper (λ k. (K.told k).has_failed ≡ false) }
     ensures ran { IfOk keeper (λ k. SimulatesOver (driven K.told K.became K.performed K.refuses) k
-        (record {
-          input = R.remaining reader;
-          written = W.contents writer.old;
-          written' = W.contents writer.new;
-        }) result) }
+        (streams (R.remaining reader) (W.contents writer.old) (W.contents writer.new)) result) }
     ensures fault { IfErr keeper (λ f. (result ≡ store_ending f)
         × (W.contents writer.new ≡ W.contents writer.old)) }
     ensures silent { 1 ≤ status_of result → status_of result ≤ 3
@@ -114,16 +110,11 @@ fn simulate_under<P: Profiled, D: Crashing + Drop, R: Read + Drop, W: Write>(
 ) -> Ending
     requires log { IsTrue (D.Disk.is_usable files.log) }
     requires db { IsTrue (D.Disk.is_usable files.db) }
-    ensures ran { StoreSimulated P P.PROFILE kind D.Disk D.Crashing.crashed (record {
-      input = R.remaining reader;
-      written = W.contents writer.old;
-      written' = W.contents writer.new;
-    }) result
-        ⊎ NotSimulated D.Disk files (record {
-          input = R.remaining reader;
-          written = W.contents writer.old;
-          written' = W.contents writer.new;
-        }) result }
+    ensures ran { (StoreSimulated P.PROFILE kind (crashing P P.PROFILE D.Disk D.Crashing.crashed)
+        (streams (R.remaining reader) (W.contents writer.old) (W.contents writer.new)) result
+        × WereBlank D.Disk files)
+        ⊎ NotSimulated D.Disk files
+        (streams (R.remaining reader) (W.contents writer.old) (W.contents writer.new)) result }
     ensures simulated { AreSure D.Disk → IfSome (R.remaining reader) (λ script.
         status_of result ≤ 1 → SimulatedFrom (tree_of P.PROFILE) (new_state P.PROFILE kind)
         (Appends (W.contents writer.old) (W.contents writer.new)) script result) }
@@ -146,16 +137,12 @@ pub fn simulate_store<D: Crashing + Drop, R: Read + Drop, W: Write>(
 ) -> Ending
     requires log { IsTrue (D.Disk.is_usable files.log) }
     requires db { IsTrue (D.Disk.is_usable files.db) }
-    ensures ran { IsSimulated kind.profile kind D.Disk D.Crashing.crashed (record {
-      input = R.remaining reader;
-      written = W.contents writer.old;
-      written' = W.contents writer.new;
-    }) result
-        ⊎ NotSimulated D.Disk files (record {
-          input = R.remaining reader;
-          written = W.contents writer.old;
-          written' = W.contents writer.new;
-        }) result }
+    // Nothing was in the files over which it is run.
+    ensures ran { (IsSimulated kind.profile kind D.Disk D.Crashing.crashed
+        (streams (R.remaining reader) (W.contents writer.old) (W.contents writer.new)) result
+        × WereBlank D.Disk files)
+        ⊎ NotSimulated D.Disk files
+        (streams (R.remaining reader) (W.contents writer.old) (W.contents writer.new)) result }
     // Where the disks always return what was written, the output is that of the events.
     ensures simulated { AreSure D.Disk → IfSome (R.remaining reader) (λ script.
         status_of result ≤ 1

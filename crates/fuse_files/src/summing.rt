@@ -3,24 +3,24 @@ ghost use Rattle.std.specs.Prelude.{◌≡◌, length, IfOk, IfErr};
 ghost use Rattle.sqlite.specs.Held.{state};
 ghost use Rattle.fuse_keeper.specs.KeeperState.{Reports, OfHeld};
 ghost use Rattle.fuse_keeper.specs.Stands.{Records};
-ghost use Rattle.fuse_tree.specs.Rows.{Rows};
+ghost use Rattle.fuse_rows.specs.Rows.{Rows};
 ghost use Rattle.fuse_store_tables.specs.Faults.{IsOutside, IsPlain};
 ghost use Rattle.fuse_store.specs.Opening.{Stored, WasFor, version_for};
 ghost use Rattle.fuse_store.specs.TableKeeper.{keeper_told};
 ghost use Rattle.fuse_store.specs.StoreKeeper.{store_told};
-ghost use Rattle.fuse_files.specs.StoreShown.{SumsUp, Sums};
+ghost use Rattle.fuse_files.specs.StoreShown.{IsSummary, OutputsAs, ShowsText, SumsUp, Sums};
 ghost use Rattle.fuse_files.specs.inner.Showing.{IsAlwaysClean, ShowsOver};
 
 use crate::showing::open_keeper;
 use fuse_commands::Ending;
 use fuse_init::Profiled;
 use fuse_keeper::{Keeper, StoreFault};
+use fuse_session::Sink;
 use fuse_show::{Summary, show_summary};
 use fuse_store::{StoreKeeper, TableKeeper};
 use fuse_tree::rows_tell_state;
 use sqlite::{Alter, Connection};
 use std::alloc::Global;
-use std::io::Write;
 
 // The version of the store of a database. One of version 1 has no table of lots.
 fn version_of<S: Alter>(conn: &Connection<S>) -> u64
@@ -89,14 +89,16 @@ fn summary_for<S: Alter + Drop>(keeper: StoreKeeper<S>, version: u64) -> Result<
 
 // Prints a summary of the store of a database. The version is that before the store is opened, which
 // makes a store of version 1 one of version 2.
-pub(crate) fn summary_of<S: Alter + Drop, W: Write>(
+pub(crate) fn summary_of<S: Alter + Drop, W: Sink>(
     alloc: Global,
     conn: Connection<S>,
     writer: &mut W,
 ) -> Ending
-    ensures { IsAlwaysClean S.Store → ShowsOver (λ z. Sums z (W.contents writer.old)
+    ensures shown { IsAlwaysClean S.Store → ShowsOver (λ z. Sums z (W.contents writer.old)
         (W.contents writer.new) result) (state S.Store conn) (W.contents writer.old)
         (W.contents writer.new) result }
+    ensures written { OutputsAs W.was_written W.was_flushed writer.old writer.new
+        (ShowsText IsSummary result) }
 {
     rows_tell_state();
     let version = version_of(&conn);

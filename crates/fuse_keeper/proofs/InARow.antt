@@ -9,7 +9,7 @@ use Rattle.fuse_keeper.specs.Model.{Model}
 use Rattle.fuse_keeper.specs.declared.keeper.Done.{Done}
 use Rattle.fuse_keeper.specs.declared.group.Record.{Record}
 use Rattle.fuse_keeper.specs.History.{Entry, entry_id, IsUnsettled}
-use Rattle.fuse_keeper.specs.Stands.{Records, Content, Standing, without, StandsAt, AreThese, PerformedBy}
+use Rattle.fuse_keeper.specs.Stands.{Records, KeeperContent, Standing, without, StandsAt, AreThese, PerformedBy}
 use Rattle.fuse_keeper.specs.Group.{entry_of, entries_of}
 use Rattle.fuse_keeper.specs.Taking.{TookBy, Took, TakesAll}
 use Rattle.fuse_keeper.specs.inner.Overlay.{over}
@@ -17,7 +17,7 @@ use Rattle.fuse_keeper.proofs.Histories.{map-append}
 use Rattle.fuse_keeper.proofs.Performing.{PerformedBy-same, none_yet, one_more}
 use Rattle.fuse_keeper.proofs.Overlays.{over-same, without-same}
 
-took_same_by : (M : Model) → (o : Option Said) (old new : Content M) (e : Entry) (after : Content M) (done : Done)
+took_same_by : (M : Model) → (o : Option Said) (old new : KeeperContent M) (e : Entry) (after : KeeperContent M) (done : Done)
     → AreThese M old.rows old.records new.rows new.records → TookBy M o old e after done → TookBy M o new e after done
 took_same_by M (Some known) old new e after done same took = (took.0 ∙ sym same.0, λ i. took.1 i ∙ sym (same.1 i), took.2, took.3)
 took_same_by M None old new e after done same took = (
@@ -27,15 +27,15 @@ took_same_by M None old new e after done same took = (
 )
 
 -- an entry is taken over the same rows and records
-pub took_same : (M : Model) → (old new : Content M) (e : Entry) (after : Content M) (done : Done)
+pub took_same : (M : Model) → (old new : KeeperContent M) (e : Entry) (after : KeeperContent M) (done : Done)
     → AreThese M old.rows old.records new.rows new.records → Took M old e after done → Took M new e after done
 took_same M old new e after done same took =
     subst (λ o. TookBy M o new e after done) (sym (same.1 (entry_id e))) (took_same_by M (old.records (entry_id e)) old new e after done same took)
 
-pub none_taken : (M : Model) → (held : Content M) → TakesAll M held [] held []
+pub none_taken : (M : Model) → (held : KeeperContent M) → TakesAll M held [] held []
 none_taken M held = (refl, λ i. refl)
 
-pub same_taken : (M : Model) → (old new : Content M) (es : List Entry) (after : Content M) (dones : List Done)
+pub same_taken : (M : Model) → (old new : KeeperContent M) (es : List Entry) (after : KeeperContent M) (dones : List Done)
     → AreThese M old.rows old.records new.rows new.records → TakesAll M old es after dones → TakesAll M new es after dones
 same_taken M old new [] after [] same all = (all.0 ∙ sym same.0, λ i. all.1 i ∙ sym (same.1 i))
 same_taken M old new [] after (done ∷ dones) same all = absurd all
@@ -43,14 +43,14 @@ same_taken M old new (e ∷ es) after [] same all = absurd all
 same_taken M old new (e ∷ es) after (done ∷ dones) same (mid, took, rest) = (mid, took_same M old new e mid done same took, rest)
 
 -- what is held after them may be named anew
-pub led_same : (M : Model) → (before : Content M) (es : List Entry) (old : Content M) (dones : List Done) (new : Content M)
+pub led_same : (M : Model) → (before : KeeperContent M) (es : List Entry) (old : KeeperContent M) (dones : List Done) (new : KeeperContent M)
     → AreThese M old.rows old.records new.rows new.records → TakesAll M before es old dones → TakesAll M before es new dones
 led_same M before [] old [] new same all = (same.0 ∙ all.0, λ i. same.1 i ∙ all.1 i)
 led_same M before [] old (done ∷ dones) new same all = absurd all
 led_same M before (e ∷ es) old [] new same all = absurd all
 led_same M before (e ∷ es) old (done ∷ dones) new same (mid, took, rest) = (mid, took, led_same M mid es old dones new same rest)
 
-pub one_more_taken : (M : Model) → (before : Content M) (es : List Entry) (mid : Content M) (dones : List Done) (e : Entry) (after : Content M) (done : Done)
+pub one_more_taken : (M : Model) → (before : KeeperContent M) (es : List Entry) (mid : KeeperContent M) (dones : List Done) (e : Entry) (after : KeeperContent M) (done : Done)
     → TakesAll M before es mid dones → Took M mid e after done → TakesAll M before (es ++ e ∷ []) after (dones ++ done ∷ [])
 one_more_taken M before [] mid [] e after done all took =
     (after, took_same M mid before e after done (sym all.0, λ i. sym (all.1 i)) took, (refl, λ i. refl))
@@ -60,7 +60,7 @@ one_more_taken M before (o ∷ es) mid (d ∷ dones) e after done (next, first, 
     (next, first, one_more_taken M next es mid dones e after done rest took)
 
 -- more entries are taken where a group was performed
-taken_after : (M : Model) → (held : Content M) (es : List Entry) (after : Content M) (dones : List Done) (at : Standing M) (before : List Entry)
+taken_after : (M : Model) → (held : KeeperContent M) (es : List Entry) (after : KeeperContent M) (dones : List Done) (at : Standing M) (before : List Entry)
     (done_before : List Done)
     → PerformedBy M (AreThese M held.rows held.records) at before done_before → All (IsUnsettled at.settled) es → TakesAll M held es after dones
     → PerformedBy M (AreThese M after.rows after.records) at (before ++ es) (done_before ++ dones)
@@ -76,7 +76,7 @@ taken_after M held (e ∷ es) after (d ∷ dones) at before done_before so fresh
     (subst (λ xs. PerformedBy M (AreThese M after.rows after.records) at xs ((done_before ++ d ∷ []) ++ dones)) (append_assoc before (e ∷ []) es) whole)
 
 -- entries that are taken over rows and records that stand were performed
-pub taken_is_performed : (M : Model) → (before : Content M) (es : List Entry) (after : Content M) (dones : List Done) (at : Standing M)
+pub taken_is_performed : (M : Model) → (before : KeeperContent M) (es : List Entry) (after : KeeperContent M) (dones : List Done) (at : Standing M)
     → StandsAt M before at → All (IsUnsettled at.settled) es → TakesAll M before es after dones
     → PerformedBy M (AreThese M after.rows after.records) at es dones
 taken_is_performed M before es after dones at so fresh all = taken_after M before es after dones at [] [] (none_yet M before at so) fresh all
@@ -91,7 +91,7 @@ none_taken_yet M rows rows' records added dones is none empty =
     (sym empty) (is, λ i. ap (λ l. over l records i) none)
 
 -- one more of a group
-pub one_more_taken_of : (M : Model) → (group : List (Request × Moment)) (i : ℕ) (d : Request × Moment) (before mid after : Content M) (done : Done)
+pub one_more_taken_of : (M : Model) → (group : List (Request × Moment)) (i : ℕ) (d : Request × Moment) (before mid after : KeeperContent M) (done : Done)
     (dones dones' : List Done)
     → i < length group → Took M mid (entry_of (get_or group i d)) after done → TakesAll M before (entries_of (take i group)) mid dones
     → dones' ≡ dones ++ done ∷ [] → TakesAll M before (entries_of (take (i + 1) group)) after dones'
@@ -113,7 +113,7 @@ kept_taken M rows records settled added rows' reserved records' es dones all sam
     (refl, λ i. are i ∙ over-same added (without settled reserved) (without settled records) i (without-same settled reserved records i (same i))) all
 
 -- whichever way what it held is named
-pub named_taken : (M : Model) → (old new : Content M) (settled : List ℕ) (es : List Entry) (after : Content M) (dones : List Done)
+pub named_taken : (M : Model) → (old new : KeeperContent M) (settled : List ℕ) (es : List Entry) (after : KeeperContent M) (dones : List Done)
     → AreThese M old.rows old.records new.rows new.records → TakesAll M (record old { records = without settled old.records }) es after dones
     → TakesAll M (record new { records = without settled new.records }) es after dones
 named_taken M old new settled es after dones same all =

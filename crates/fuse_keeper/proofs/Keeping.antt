@@ -3,7 +3,7 @@ use Rattle.std.proofs.Common.{◌≡◌, ◌||◌, Bool, true, false, ℕ, nat_e
 use Rattle.std.specs.HashMap.{HashMap, IsEmpty}
 use Rattle.std.specs.Map.{lookup}
 use Rattle.fuse_answer.specs.Said.{Said}
-use Rattle.fuse_keeper.specs.Model.{Model, IsRowed}
+use Rattle.fuse_keeper.specs.Model.{Model, IsOfGoodState}
 use Rattle.fuse_keeper.specs.History.{Entry, History, after}
 use Rattle.fuse_keeper.specs.Lots.{no_lots, SameLots, RecordsUnder}
 use Rattle.fuse_keeper.specs.Stands.{Records, Stands, StandsBy, AreThese, IsFirmBy, KeepsHeldBy}
@@ -35,7 +35,7 @@ keeps_same M rows records rows' records' is are = λ x r held. (held.0 ∙ sym i
 
 -- where it stands its rows are those of a tree
 pub rowed_where : (M : Model) → (rows : M.Rows) (records : Records) (s : M.State) (h : History) (t : List ℕ) → StandsBy M (AreThese M rows records) s h t
-    → IsRowed M rows
+    → IsOfGoodState M rows
 rowed_where M rows records s h t so = Stands-rowed M rows records s h t (these_stand M rows records s h t so)
 
 -- ---- starts

@@ -1,5 +1,7 @@
 pub mod Histories
 pub mod Standing
+pub mod Settled
+pub mod Firsts
 pub mod Performing
 pub mod Overlays
 pub mod InARow

@@ -4,17 +4,18 @@ use Rattle.std.proofs.Common.{nat_eq, cond, arith, get_or}
 use Rattle.fuse_wire.specs.declared.moment.Moment.{Moment}
 use Rattle.fuse_request.specs.declared.request.Request.{Request}
 use Rattle.fuse_answer.specs.Said.{Said}
-use Rattle.fuse_keeper.specs.Model.{Model, IsRowed}
+use Rattle.fuse_keeper.specs.Model.{Model, IsOfGoodState}
 use Rattle.fuse_keeper.specs.declared.group.Record.{Record}
 use Rattle.fuse_keeper.specs.declared.keeper.Done.{Done}
 use Rattle.fuse_keeper.specs.History.{Entry, entry_id, next_state, is_in, ids_in, Includes}
-use Rattle.fuse_keeper.specs.Stands.{Records, Content, Standing, StandsAt, StandsBy, AreThese, PerformedBy, OthersStay, without}
+use Rattle.fuse_keeper.specs.Stands.{Records, KeeperContent, Standing, StandsAt, StandsBy, AreThese, PerformedBy, OthersStay, without}
 use Rattle.fuse_keeper.specs.Group.{entry_of}
 use Rattle.fuse_keeper.specs.Taking.{Acts, Took, TookBy}
 use Rattle.fuse_keeper.specs.inner.Overlay.{listed, first_of, over, record_ids}
 use Rattle.fuse_keeper.proofs.Histories.{tested, map-append}
 use Rattle.fuse_keeper.proofs.Standing.{same_number, unsettled_too, Stands-without}
-use Rattle.fuse_keeper.proofs.Performing.{is_in-append, these_stand, none_yet, PerformedBy-same}
+use Rattle.fuse_keeper.proofs.Settled.{is_in-append}
+use Rattle.fuse_keeper.proofs.Performing.{these_stand, none_yet, PerformedBy-same}
 
 first_none : (o : Option Said) → first_of o None ≡ o
 first_none None = refl
@@ -81,22 +82,22 @@ pub took_new : (M : Model) → (rows : M.Rows) (base : Records) (added : List Re
 took_new M rows base added e rows' r added' done none acts is id answer repeated =
     rw none (acts, λ i. ap (λ l. over l base i) is ∙ one_more_over added r base i (ap (over added base) id ∙ none) ∙ rw (id, answer), repeated)
 
-took_rowed_by : (M : Model) → (o : Option Said) (before : Content M) (e : Entry) (after : Content M) (done : Done)
-    → TookBy M o before e after done → IsRowed M before.rows → IsRowed M after.rows
-unfolding IsRowed
+took_rowed_by : (M : Model) → (o : Option Said) (before : KeeperContent M) (e : Entry) (after : KeeperContent M) (done : Done)
+    → TookBy M o before e after done → IsOfGoodState M before.rows → IsOfGoodState M after.rows
+unfolding IsOfGoodState
 took_rowed_by M (Some known) before e after done took (s, tree, is) = (s, tree, took.0 ∙ is)
 took_rowed_by M None before e after done took (s, tree, is) =
     let acted = took.0 s tree is in
     (next_state M s e, acted.tree, acted.rows_are)
 
 -- the rows stay those of a tree
-pub took_rowed : (M : Model) → (before : Content M) (e : Entry) (after : Content M) (done : Done)
-    → Took M before e after done → IsRowed M before.rows → IsRowed M after.rows
+pub took_rowed : (M : Model) → (before : KeeperContent M) (e : Entry) (after : KeeperContent M) (done : Done)
+    → Took M before e after done → IsOfGoodState M before.rows → IsOfGoodState M after.rows
 took_rowed M before e after done took so = took_rowed_by M (before.records (entry_id e)) before e after done took so
 
 -- of an entry of a group
-pub took_rowed_at : (M : Model) → (group : List (Request × Moment)) (i : ℕ) (d : Request × Moment) (before after : Content M) (done : Done)
-    → Took M before (entry_of (get_or group i d)) after done → IsRowed M before.rows → IsRowed M after.rows
+pub took_rowed_at : (M : Model) → (group : List (Request × Moment)) (i : ℕ) (d : Request × Moment) (before after : KeeperContent M) (done : Done)
+    → Took M before (entry_of (get_or group i d)) after done → IsOfGoodState M before.rows → IsOfGoodState M after.rows
 took_rowed_at M group i d before after done took so = took_rowed M before (entry_of (get_or group i d)) after done took so
 
 -- ---- what is known of an id
@@ -121,7 +122,7 @@ pub begun : (M : Model) → (rows rows' : M.Rows) (records : Records) (added : L
     → rows' ≡ rows → added ≡ [] → dones ≡ []
     → StandsAt M (record { rows = rows; records = records }) at → PerformedBy M (AreThese M rows' (over added records)) at [] dones
 begun M rows rows' records added dones at is none empty so =
-    let old : Content M = record { rows = rows; records = records } in
+    let old : KeeperContent M = record { rows = rows; records = records } in
     subst (λ (ds : List Done). PerformedBy M (AreThese M rows' (over added records)) at [] ds) (sym empty)
     (PerformedBy-same M old (record { rows = rows'; records = over added records }) at [] [] (is, λ i. ap (λ l. over l records i) none) (none_yet M old at so))
 

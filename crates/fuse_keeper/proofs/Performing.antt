@@ -1,5 +1,5 @@
 -- How a group is performed, one entry after another.
-use Rattle.std.proofs.Common.{◌≡◌, ℕ, ◌+◌, ◌<◌, zero, suc, Bool, true, false, ◌==◌, ◌||◌, ◌⊎◌, inl, inr, if◌then◌else◌, List, [], ◌∷◌, ◌++◌, length, map, take}
+use Rattle.std.proofs.Common.{◌≡◌, ℕ, ◌+◌, ◌<◌, zero, suc, Bool, true, false, ◌⊎◌, inl, inr, if◌then◌else◌, List, [], ◌∷◌, ◌++◌, length, map, take}
 use Rattle.std.proofs.Common.{get_or, All, Option, Some, refl, sym, ap, ◌∙◌, arith}
 use Rattle.std.proofs.lemmas.List.{take_more}
 use Rattle.fuse_wire.specs.declared.moment.Moment.{Moment}
@@ -8,11 +8,12 @@ use Rattle.fuse_answer.specs.Said.{Said}
 use Rattle.fuse_keeper.specs.Model.{Model}
 use Rattle.fuse_keeper.specs.declared.keeper.Done.{Done}
 use Rattle.fuse_keeper.specs.History.{Entry, entry_id, History, said, add, grown, is_in, ids_in, Includes, IsUnsettled, repeats}
-use Rattle.fuse_keeper.specs.Stands.{Records, Content, Standing, Stands, StandsAt, StandsBy, AreThese, PerformedBy}
+use Rattle.fuse_keeper.specs.Stands.{Records, KeeperContent, Standing, Stands, StandsAt, StandsBy, AreThese, PerformedBy}
 use Rattle.fuse_keeper.specs.Group.{entry_of, entries_of}
 use Rattle.fuse_keeper.specs.Taking.{Took}
 use Rattle.fuse_keeper.proofs.Histories.{same_id, has-add, said-grown, grown-append, repeats-append, map-append}
 use Rattle.fuse_keeper.proofs.Standing.{Stands-same, advanced}
+use Rattle.fuse_keeper.proofs.Settled.{includes_left, includes_right}
 
 -- what each entry of a group is answered, right after it
 abbrev pub told : (M : Model) → M.State → History → List Entry → List (Option Said)
@@ -41,7 +42,7 @@ pub stand_so : (M : Model) → (rows : M.Rows) (records : Records) (s : M.State)
     → StandsBy M (AreThese M rows records) s h t
 stand_so M rows records s h t so = record { rows = rows; records = records; held = (refl, λ i. refl); stands = so }
 
-pub PerformedBy-same : (M : Model) → (old new : Content M) (at : Standing M) (es : List Entry) (dones : List Done)
+pub PerformedBy-same : (M : Model) → (old new : KeeperContent M) (at : Standing M) (es : List Entry) (dones : List Done)
     → AreThese M old.rows old.records new.rows new.records → PerformedBy M (AreThese M old.rows old.records) at es dones
     → PerformedBy M (AreThese M new.rows new.records) at es dones
 PerformedBy-same M old new at es dones same does =
@@ -56,12 +57,12 @@ PerformedBy-same M old new at es dones same does =
 -- ---- one after another
 
 -- nothing performed yet
-pub none_yet : (M : Model) → (held : Content M) (at : Standing M) → StandsAt M held at → PerformedBy M (AreThese M held.rows held.records) at [] []
+pub none_yet : (M : Model) → (held : KeeperContent M) (at : Standing M) → StandsAt M held at → PerformedBy M (AreThese M held.rows held.records) at [] []
 none_yet M held at so =
     record { stands = stand_so M held.rows held.records at.state at.history at.settled so; answers = refl; repeated = refl }
 
 -- one more
-pub one_more : (M : Model) → (before : Content M) (e : Entry) (after : Content M) (done : Done) (at : Standing M) (es : List Entry) (dones : List Done)
+pub one_more : (M : Model) → (before : KeeperContent M) (e : Entry) (after : KeeperContent M) (done : Done) (at : Standing M) (es : List Entry) (dones : List Done)
     → IsUnsettled at.settled e → Took M before e after done → PerformedBy M (AreThese M before.rows before.records) at es dones
     → PerformedBy M (AreThese M after.rows after.records) at (es ++ e ∷ []) (dones ++ done ∷ [])
 one_more M before e after done at es dones fresh took so_far =
@@ -86,7 +87,7 @@ entry_at_place P (x ∷ group) zero d lt each = each zero (entry_of x) (omega ar
 entry_at_place P (x ∷ group) (suc i) d lt each = entry_at_place P group i d (omega arith) (λ k z below. each (suc k) z (omega (arith, below)))
 
 -- one more of a group
-pub one_more_of : (M : Model) → (group : List (Request × Moment)) (i : ℕ) (d : Request × Moment) (before after : Content M) (done : Done) (at : Standing M)
+pub one_more_of : (M : Model) → (group : List (Request × Moment)) (i : ℕ) (d : Request × Moment) (before after : KeeperContent M) (done : Done) (at : Standing M)
     (dones dones' : List Done)
     → i < length group → All (IsUnsettled at.settled) (entries_of group) → Took M before (entry_of (get_or group i d)) after done
     → PerformedBy M (AreThese M before.rows before.records) at (entries_of (take i group)) dones
@@ -97,24 +98,6 @@ one_more_of M group i d before after done at dones dones' lt fresh took so_far i
     rw (is, all) (one_more M before e after done at (entries_of (take i group)) dones (entry_at_place (IsUnsettled at.settled) group i d lt fresh) took so_far)
 
 -- ---- the ids of a group
-
-pub is_in-append : (xs ys : List ℕ) (i : ℕ) → is_in (xs ++ ys) i ≡ (is_in xs i || is_in ys i)
-is_in-append [] ys i = refl
-is_in-append (x ∷ xs) ys i = elim (x == i) as (λ b. (if b then true else is_in (xs ++ ys) i) ≡ ((if b then true else is_in xs i) || is_in ys i))
-    [ true ↦ refl | false ↦ is_in-append xs ys i ]
-
-or_left : (a b : Bool) → a ≡ true → (a || b) ≡ true
-or_left a b is = rw is
-
-or_right : (a b : Bool) → b ≡ true → (a || b) ≡ true
-or_right true b is = refl
-or_right false b is = is
-
-pub includes_left : (xs ys : List ℕ) → Includes (xs ++ ys) xs
-includes_left xs ys i there = is_in-append xs ys i ∙ or_left (is_in xs i) (is_in ys i) there
-
-pub includes_right : (xs ys : List ℕ) → Includes (xs ++ ys) ys
-includes_right xs ys i there = is_in-append xs ys i ∙ or_right (is_in xs i) (is_in ys i) there
 
 -- the ids of what was recorded are those of the group so far
 pub ids_more : (group : List (Request × Moment)) (n : ℕ) (d : Request × Moment) (old new : List ℕ) → n < length group

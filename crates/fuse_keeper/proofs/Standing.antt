@@ -2,11 +2,11 @@
 use Rattle.std.proofs.Common.{◌≡◌, ℕ, Bool, true, false, ◌==◌, inl, inr, if◌then◌else◌, List, [], ◌∷◌, ◌++◌, Option, Some, None, refl, sym, ap, subst, ◌∙◌}
 use Rattle.std.proofs.Common.{arith}
 use Rattle.fuse_answer.specs.Said.{Said}
-use Rattle.fuse_keeper.specs.Model.{Model, IsRowed}
+use Rattle.fuse_keeper.specs.Model.{Model, IsOfGoodState}
 use Rattle.fuse_keeper.specs.declared.keeper.Done.{Done}
 use Rattle.fuse_keeper.specs.History.{Entry, entry_id, History, answer_to, has, after, said, add, is_in, Includes, IsUnsettled}
 use Rattle.fuse_keeper.specs.History as history
-use Rattle.fuse_keeper.specs.Stands.{Records, Content, Standing, Stands, StandsAt, AreThese}
+use Rattle.fuse_keeper.specs.Stands.{Records, KeeperContent, Standing, Stands, StandsAt, AreThese}
 use Rattle.fuse_keeper.specs.Taking.{ActedOn, TookBy, Took}
 use Rattle.fuse_keeper.proofs.Histories.{tested, after-append, said_none, said-append_old, said-append_new, Distinct-append, add_old, add_new, same_id, found}
 use Rattle.fuse_keeper.proofs.Histories.{isnt_there, no_history, nothing_said, Distinct-none}
@@ -26,8 +26,8 @@ Stands-same M rows records x r s h t same so = record {
 }
 
 -- the rows are those of a tree
-pub Stands-rowed : (M : Model) → (rows : M.Rows) (records : Records) (s : M.State) (h : History) (t : List ℕ) → Stands M rows records s h t → IsRowed M rows
-unfolding IsRowed
+pub Stands-rowed : (M : Model) → (rows : M.Rows) (records : Records) (s : M.State) (h : History) (t : List ℕ) → Stands M rows records s h t → IsOfGoodState M rows
+unfolding IsOfGoodState
 Stands-rowed M rows records s h t so = (after M s h, so.tree, so.rows_are)
 
 -- a start stands for the empty history
@@ -129,12 +129,12 @@ Stands-settled M rows records s h t more within so = record {
 -- ---- one entry taken
 
 -- what one entry leads to
-pub record Advanced (M : Model) (after : Content M) (at : Standing M) (e : Entry) (done : Done) : Type 0 where
+pub record Advanced (M : Model) (after : KeeperContent M) (at : Standing M) (e : Entry) (done : Done) : Type 0 where
   pub stands : Stands M after.rows after.records at.state (add at.history e) at.settled
   pub answer : said M at.state (add at.history e) (entry_id e) ≡ Some done.answer
   pub repeated : done.repeated ≡ has at.history (entry_id e)
 
-advanced_by : (M : Model) → (o : Option Said) (before : Content M) (e : Entry) (after : Content M) (done : Done) (at : Standing M)
+advanced_by : (M : Model) → (o : Option Said) (before : KeeperContent M) (e : Entry) (after : KeeperContent M) (done : Done) (at : Standing M)
     → IsUnsettled at.settled e → before.records (entry_id e) ≡ o → TookBy M o before e after done → StandsAt M before at → Advanced M after at e done
 advanced_by M (Some known) before e after done at fresh is took so =
     let says = sym (so.kept (entry_id e) fresh) ∙ is in
@@ -161,6 +161,6 @@ advanced_by M None before e after done at fresh is took so =
       repeated = took.2 ∙ sym none;
     }
 
-pub advanced : (M : Model) → (before : Content M) (e : Entry) (after : Content M) (done : Done) (at : Standing M)
+pub advanced : (M : Model) → (before : KeeperContent M) (e : Entry) (after : KeeperContent M) (done : Done) (at : Standing M)
     → IsUnsettled at.settled e → Took M before e after done → StandsAt M before at → Advanced M after at e done
 advanced M before e after done at fresh took so = advanced_by M (before.records (entry_id e)) before e after done at fresh refl took so

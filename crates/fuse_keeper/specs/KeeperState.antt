@@ -2,11 +2,11 @@
 use Rattle.std.specs.Prelude.{◌≡◌, ◌||◌, ◌⊎◌, ℕ, ◌+◌, Bool, false, List, [], All, Result, is_err, IfErr, OnOk, OnErr}
 use Rattle.fuse_keeper.specs.declared.fault.StoreFault.{StoreFault}
 use Rattle.fuse_keeper.specs.declared.keeper.Done.{Done}
-use Rattle.fuse_keeper.specs.Model.{Model, IsRowed}
+use Rattle.fuse_keeper.specs.Model.{Model, IsOfGoodState}
 use Rattle.fuse_keeper.specs.History.{Entry, History, after, grown, Includes, IsUnsettled}
 use Rattle.fuse_keeper.specs.Lots.{Lots, SameLots, RecordsUnder, AreGone, AreReopened}
 use Rattle.fuse_keeper.specs.Taking.{TakesAll}
-use Rattle.fuse_keeper.specs.Stands.{Records, Content, AreThese, without, StandsBy, PerformedBy, LeavesBy, IsFirmBy, KeepsHeldBy, StandsForEither, OthersStay}
+use Rattle.fuse_keeper.specs.Stands.{Records, KeeperContent, AreThese, without, StandsBy, PerformedBy, LeavesBy, IsFirmBy, KeepsHeldBy, StandsForEither, OthersStay}
 
 pub record KeeperState (M : Model) : Type 1 where
   -- it holds these rows and these records now
@@ -59,7 +59,7 @@ WhereHeld {M} k P = (rows : M.Rows) (records : Records) → k.holds rows records
 
 -- this is so of what it holds, where that is of a good state
 abbrev pub OfHeld : {M : Model} → KeeperState M → (M.Rows → Records → Type 0) → Type 0
-OfHeld {M} k P = (rows : M.Rows) (records : Records) → k.holds rows records → IsRowed M rows → P rows records
+OfHeld {M} k P = (rows : M.Rows) (records : Records) → k.holds rows records → IsOfGoodState M rows → P rows records
 
 -- no fault may come now that couldn't before, where the store is honest
 abbrev pub AnswersNoMore : {M : Model} → KeeperState M → KeeperState M → Type 0
@@ -109,7 +109,7 @@ pub record HoldsOthers {M : Model} (k : KeeperState M) (before : Records) (settl
   pub rows : M.Rows
   pub records : Records
   pub held : k.holds rows records
-  pub rowed : IsRowed M rows
+  pub rowed : IsOfGoodState M rows
   pub others : OthersStay before settled group records
 
 abbrev pub KeepsOthers : {M : Model} → KeeperState M → KeeperState M → List ℕ → List Entry → Type 0
@@ -126,7 +126,7 @@ LeavesGroup {M} old new settled group = (s : M.State) (h : History) (t : List �
     → Leaves new (StandsForEither M (record { state = s; history = h; settled = t }) (record { state = s; history = grown h group; settled = t }))
 
 -- these are what was held, or what the group leads to from there without the settled records
-abbrev pub AreHeldOrTaken : (M : Model) → Content M → List ℕ → List Entry → M.Rows → Records → Type 0
+abbrev pub AreHeldOrTaken : (M : Model) → KeeperContent M → List ℕ → List Entry → M.Rows → Records → Type 0
 AreHeldOrTaken M before settled group x r = AreThese M before.rows before.records x r
     ⊎ ((dones : List Done) × TakesAll M (record before { records = without settled before.records }) group (record { rows = x; records = r }) dones)
 

@@ -36,5 +36,5 @@ pub record IsSoundModel (M : Model) : Type 0 where
   pub clears : (s : M.State) → M.IsGood s → M.IsGood (M.cleared s)
 
 -- the rows are those of a good state
-unfoldable pub IsRowed : (M : Model) → M.Rows → Type 0
-IsRowed M rows = (s : M.State) × M.IsGood s × (rows ≡ M.held_for s)
+unfoldable pub IsOfGoodState : (M : Model) → M.Rows → Type 0
+IsOfGoodState M rows = (s : M.State) × M.IsGood s × (rows ≡ M.held_for s)

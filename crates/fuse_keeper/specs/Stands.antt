@@ -11,7 +11,7 @@ abbrev pub Records : Type 0
 Records = ℕ → Option Said
 
 -- what a keeper holds
-pub record Content (M : Model) : Type 0 where
+pub record KeeperContent (M : Model) : Type 0 where
   pub rows : M.Rows
   pub records : Records
 
@@ -34,7 +34,7 @@ pub record Stands (M : Model) (rows : M.Rows) (records : Records) (s : M.State) 
   pub right : (i : ℕ) (a : Said) → records i ≡ Some a → said M s h i ≡ Some a
   pub kept : (i : ℕ) → is_in settled i ≡ false → records i ≡ said M s h i
 
-abbrev pub StandsAt : (M : Model) → Content M → Standing M → Type 0
+abbrev pub StandsAt : (M : Model) → KeeperContent M → Standing M → Type 0
 StandsAt M held at = Stands M held.rows held.records at.state at.history at.settled
 
 -- what is held stands for the history

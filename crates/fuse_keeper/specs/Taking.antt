@@ -4,7 +4,7 @@ use Rattle.fuse_answer.specs.Said.{Said}
 use Rattle.fuse_keeper.specs.Model.{Model}
 use Rattle.fuse_keeper.specs.declared.keeper.Done.{Done}
 use Rattle.fuse_keeper.specs.History.{Entry, entry_id, IsUnsettled, next_state, answer_to}
-use Rattle.fuse_keeper.specs.Stands.{Content, Standing, StandsAt, AreThese, PerformedBy}
+use Rattle.fuse_keeper.specs.Stands.{KeeperContent, Standing, StandsAt, AreThese, PerformedBy}
 
 -- an entry acted: on the rows of a tree the answer and the new rows are those of the tree
 pub record ActedOn (M : Model) (s : M.State) (e : Entry) (rows' : M.Rows) (answer : Said) : Type 0 where
@@ -21,7 +21,7 @@ Clears M rows rows' = (s : M.State) → M.IsGood s → rows ≡ M.held_for s →
 
 -- an id with this record is a repeat: it changes nothing and gets the recorded answer; one without acts and
 -- is recorded
-abbrev pub TookBy : (M : Model) → Option Said → Content M → Entry → Content M → Done → Type 0
+abbrev pub TookBy : (M : Model) → Option Said → KeeperContent M → Entry → KeeperContent M → Done → Type 0
 TookBy M (Some known) before e after done =
     (after.rows ≡ before.rows) × ((i : ℕ) → after.records i ≡ before.records i) × (done.answer ≡ known) × (done.repeated ≡ true)
 TookBy M None before e after done =
@@ -29,29 +29,29 @@ TookBy M None before e after done =
     × ((i : ℕ) → after.records i ≡ (if entry_id e == i then Some done.answer else before.records i))
     × (done.repeated ≡ false)
 
-abbrev pub Took : (M : Model) → Content M → Entry → Content M → Done → Type 0
+abbrev pub Took : (M : Model) → KeeperContent M → Entry → KeeperContent M → Done → Type 0
 Took M before e after done = TookBy M (before.records (entry_id e)) before e after done
 
 -- the entries of a group were taken one after the other, and done so
-abbrev pub TakesAll : (M : Model) → Content M → List Entry → Content M → List Done → Type 0
+abbrev pub TakesAll : (M : Model) → KeeperContent M → List Entry → KeeperContent M → List Done → Type 0
 TakesAll M before [] after [] = AreThese M before.rows before.records after.rows after.records
 TakesAll M before [] after (done ∷ dones) = ⊥
 TakesAll M before (e ∷ es) after [] = ⊥
-TakesAll M before (e ∷ es) after (done ∷ dones) = (mid : Content M) × Took M before e mid done × TakesAll M mid es after dones
+TakesAll M before (e ∷ es) after (done ∷ dones) = (mid : KeeperContent M) × Took M before e mid done × TakesAll M mid es after dones
 
 -- a group of no entries was performed; and where a group was performed and one more entry was taken, a group of one more was
 -- performed. So it is of entries that are taken in a row; and where they are taken over rows and records that stand, the group
 -- was performed
 pub record GroupsGrow (M : Model) : Type 0 where
-  pub none_yet : (held : Content M) (at : Standing M) → StandsAt M held at → PerformedBy M (AreThese M held.rows held.records) at [] []
-  pub one_more : (before : Content M) (e : Entry) (after : Content M) (done : Done) (at : Standing M) (es : List Entry) (dones : List Done)
+  pub none_yet : (held : KeeperContent M) (at : Standing M) → StandsAt M held at → PerformedBy M (AreThese M held.rows held.records) at [] []
+  pub one_more : (before : KeeperContent M) (e : Entry) (after : KeeperContent M) (done : Done) (at : Standing M) (es : List Entry) (dones : List Done)
       → IsUnsettled at.settled e → Took M before e after done → PerformedBy M (AreThese M before.rows before.records) at es dones
       → PerformedBy M (AreThese M after.rows after.records) at (es ++ e ∷ []) (dones ++ done ∷ [])
-  pub none_taken : (held : Content M) → TakesAll M held [] held []
-  pub one_more_taken : (before : Content M) (es : List Entry) (mid : Content M) (dones : List Done) (e : Entry) (after : Content M) (done : Done)
+  pub none_taken : (held : KeeperContent M) → TakesAll M held [] held []
+  pub one_more_taken : (before : KeeperContent M) (es : List Entry) (mid : KeeperContent M) (dones : List Done) (e : Entry) (after : KeeperContent M) (done : Done)
       → TakesAll M before es mid dones → Took M mid e after done → TakesAll M before (es ++ e ∷ []) after (dones ++ done ∷ [])
-  pub same_taken : (before before' : Content M) (es : List Entry) (after : Content M) (dones : List Done)
+  pub same_taken : (before before' : KeeperContent M) (es : List Entry) (after : KeeperContent M) (dones : List Done)
       → AreThese M before.rows before.records before'.rows before'.records → TakesAll M before es after dones → TakesAll M before' es after dones
-  pub taken_is_performed : (before : Content M) (es : List Entry) (after : Content M) (dones : List Done) (at : Standing M)
+  pub taken_is_performed : (before : KeeperContent M) (es : List Entry) (after : KeeperContent M) (dones : List Done) (at : Standing M)
       → StandsAt M before at → All (IsUnsettled at.settled) es → TakesAll M before es after dones
       → PerformedBy M (AreThese M after.rows after.records) at es dones

@@ -1,6 +1,6 @@
 // A file system in memory.
 ghost use Rattle.std.specs.Prelude.{◌≡◌, IfOk, IfErr, OnOk};
-ghost use Rattle.fuse_keeper.specs.Model.{Model, IsRowed, IsSoundModel};
+ghost use Rattle.fuse_keeper.specs.Model.{Model, IsOfGoodState, IsSoundModel};
 ghost use Rattle.fuse_keeper.specs.Group.{entry_of, IsKept};
 ghost use Rattle.fuse_keeper.specs.Taking.{Acts, Clears};
 
@@ -23,7 +23,7 @@ pub trait FileSystem: Drop {
     ghost is_ready: { Self → Type 0 };
 
     /// Whether it serves an opcode that isn't of the profile. It gets such a request as
-    /// `Op::Unsupported`, with the body as bytes.
+    /// `Op::Further`, with the body as bytes.
     fn serves(opcode: u32) -> bool
         ensures { result ≡ model.serves opcode };
 
@@ -44,7 +44,8 @@ pub trait FileSystem: Drop {
             (entry_of (request.now, now)) (held self.new) answer) }
         ensures ready { OnOk result (is_ready self.new) }
         // Over a good state the only fault is out of memory.
-        ensures fault { IfErr result (λ f. IsRowed model (held self.old) → f ≡ StoreFault.Memory) };
+        ensures fault { IfErr result
+            (λ f. IsOfGoodState model (held self.old) → f ≡ StoreFault.Memory) };
 
     /// A copy, which may act.
     fn to_copy(&self) -> Result<Self, Memory>

@@ -6,7 +6,7 @@ ghost use Rattle.std.specs.HashMap.{spare};
 ghost use Rattle.std.specs.Option.{option_copied};
 ghost use Rattle.fuse_keeper.specs.History.{History, entry_id, is_in, ids_in, Includes};
 ghost use Rattle.fuse_keeper.specs.History.{IsUnsettled};
-ghost use Rattle.fuse_keeper.specs.Model.{IsRowed};
+ghost use Rattle.fuse_keeper.specs.Model.{IsOfGoodState};
 ghost use Rattle.fuse_keeper.specs.Stands.{AreThese, Stands, PerformedBy, without};
 ghost use Rattle.fuse_keeper.specs.Group.{entry_of, entries_of, IsKept, ids_of};
 ghost use Rattle.fuse_keeper.specs.Taking.{Took, TakesAll};
@@ -106,7 +106,7 @@ fn take_one<F: FileSystem>(
     ensures ids { OnOk result ((i : ℕ) → is_in (record_ids draft.new.added.items) i ≡ true
         → (is_in (record_ids draft.old.added.items) i ≡ true)
         ⊎ (i ≡ entry_id (entry_of (request.now, now)))) }
-    ensures fault { IfErr result (λ f. IsRowed F.model (F.held draft.old.rows)
+    ensures fault { IfErr result (λ f. IsOfGoodState F.model (F.held draft.old.rows)
         → f ≡ StoreFault.Memory) }
 {
     let id = Id::of(request.header.unique).0;
@@ -163,9 +163,10 @@ pub(crate) fn take_all<F: FileSystem>(
     ensures ready { IfOk result (λ taken. F.is_ready taken.draft.rows) }
     ensures ids { IfOk result (λ taken. Includes (ids_in (entries_of group.now))
         (record_ids taken.draft.added.items)) }
-    ensures rowed { IfOk result (λ taken. IsRowed F.model (F.held rows.now)
-        → IsRowed F.model (F.held taken.draft.rows)) }
-    ensures fault { IfErr result (λ f. IsRowed F.model (F.held rows.now) → f ≡ StoreFault.Memory) }
+    ensures rowed { IfOk result (λ taken. IsOfGoodState F.model (F.held rows.now)
+        → IsOfGoodState F.model (F.held taken.draft.rows)) }
+    ensures fault { IfErr result
+        (λ f. IsOfGoodState F.model (F.held rows.now) → f ≡ StoreFault.Memory) }
 {
     let mut draft = Draft {
         rows: rows.to_copy()?,

@@ -2,7 +2,7 @@
 ghost use Rattle.std.specs.Prelude.{◌≡◌, ℕ, List, false, [], length, All, IfOk, OnOk, OnErr};
 ghost use Rattle.std.specs.Prelude.{IfErr, IsOk, Ok, None};
 ghost use Rattle.fuse_keeper.specs.History.{History, Includes, IsUnsettled};
-ghost use Rattle.fuse_keeper.specs.Model.{IsRowed};
+ghost use Rattle.fuse_keeper.specs.Model.{IsOfGoodState};
 ghost use Rattle.fuse_keeper.specs.Stands.{StandsBy, PerformedBy, KeepsHeldBy, OthersStay};
 ghost use Rattle.fuse_keeper.specs.Stands.{without};
 ghost use Rattle.fuse_keeper.specs.Taking.{TakesAll};
@@ -111,13 +111,13 @@ impl<F: FileSystem> PlainKeeper<F> {
             (entries_of group.now)
             (record { rows = F.held self.new.rows; records = mapped self.new.records })
             dones.items) }
-        ensures rowed { OnOk result (IsRowed F.model (F.held self.old.rows)
-            → IsRowed F.model (F.held self.new.rows)) }
+        ensures rowed { OnOk result (IsOfGoodState F.model (F.held self.old.rows)
+            → IsOfGoodState F.model (F.held self.new.rows)) }
         ensures others { OnOk result (OthersStay (mapped self.old.records) (ids_of settled.now)
             (entries_of group.now) (mapped self.new.records)) }
         ensures err { OnErr result (KeepsHeldBy F.model (plain_holds F.model F.held self.old)
             (plain_holds F.model F.held self.new)) }
-        ensures fault { IfErr result (λ f. IsRowed F.model (F.held self.old.rows)
+        ensures fault { IfErr result (λ f. IsOfGoodState F.model (F.held self.old.rows)
             → f ≡ StoreFault.Memory) }
         ensures failed { self.new.failed ≡ self.old.failed }
     {

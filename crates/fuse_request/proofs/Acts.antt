@@ -10,11 +10,11 @@ use Rattle.fuse_request.specs.declared.request.InitIn.{InitIn}
 use Rattle.fuse_request.specs.declared.request.ReadIn.{ReadIn}
 use Rattle.fuse_request.specs.declared.request.ReleaseIn.{ReleaseIn}
 use Rattle.fuse_request.specs.declared.request.SetattrIn.{SetattrIn}
-use Rattle.fuse_request.specs.Bodies.{name_fault, names_fault}
+use Rattle.fuse_request.specs.Bodies.{name_body_fault, names_fault}
 use Rattle.fuse_request.specs.Opcodes.{Opcode, profile, find, fault_by}
 use Rattle.fuse_request.specs.Act.{Act, Lookup, Forget, Getattr, Setattr, Mknod, Mkdir, Unlink, Rmdir, Rename, OpenFile, Read, Write, Release, Init, OpenDir}
-use Rattle.fuse_request.specs.Act.{ReadDir, ReleaseDir, Interrupt, Destroy, BatchForget, Rename2, Unsupported, opcode_of}
-use Rattle.fuse_request.specs.Spelling.{parts, IsSpellable, setattr_parts, open_parts, read_parts, release_parts}
+use Rattle.fuse_request.specs.Act.{ReadDir, ReleaseDir, Interrupt, Destroy, BatchForget, Rename2, Further, opcode_of}
+use Rattle.fuse_request.specs.Spelling.{parts, IsSpellable, setattr_parts, open_in_parts, read_parts, release_parts}
 use Rattle.fuse_request.specs.Faults.{body_fault}
 use Rattle.fuse_request.specs.Places.{places, at_row, act_at, setattr_at, read_at, release_at}
 use Rattle.fuse_request.proofs.Laid.{all_bytes}
@@ -64,11 +64,11 @@ setattr_placed laws x b h =
 one_setattr : Laws → (x : SetattrIn) (b : List ℕ) → Lays (parts (Setattr x)) b → IsOne (Setattr x) b
 one_setattr laws x b h = let p = setattr_placed laws x b h in (ap Setattr p.0, fixed_none 88 b p.1)
 
-one_open : Laws → (flags open_flags : ℕ) (b : List ℕ) → Lays (open_parts flags open_flags) b → IsOne (OpenFile flags open_flags) b
-one_open laws flags open_flags b h = let p = laws.0.stands (open_parts flags open_flags) b h in (rw (p.0, p.1.0) refl, fixed_none 8 b p.1.1)
+one_open : Laws → (flags open_flags : ℕ) (b : List ℕ) → Lays (open_in_parts flags open_flags) b → IsOne (OpenFile flags open_flags) b
+one_open laws flags open_flags b h = let p = laws.0.stands (open_in_parts flags open_flags) b h in (rw (p.0, p.1.0) refl, fixed_none 8 b p.1.1)
 
-one_open_dir : Laws → (flags open_flags : ℕ) (b : List ℕ) → Lays (open_parts flags open_flags) b → IsOne (OpenDir flags open_flags) b
-one_open_dir laws flags open_flags b h = let p = laws.0.stands (open_parts flags open_flags) b h in (rw (p.0, p.1.0) refl, fixed_none 8 b p.1.1)
+one_open_dir : Laws → (flags open_flags : ℕ) (b : List ℕ) → Lays (open_in_parts flags open_flags) b → IsOne (OpenDir flags open_flags) b
+one_open_dir laws flags open_flags b h = let p = laws.0.stands (open_in_parts flags open_flags) b h in (rw (p.0, p.1.0) refl, fixed_none 8 b p.1.1)
 
 pub read_placed : Laws → (x : ReadIn) (b : List ℕ) → Lays (read_parts x) b → (read_at b ≡ x) × (length b ≡ 40)
 read_placed laws x b h =
@@ -116,14 +116,14 @@ one_mknod laws mode rdev umask name b h =
     let p = laws.0.stands (parts (Mknod mode rdev umask name)) b h in
     let q = p.1.1.1 in
     let n = one_name laws.1 name (drop 16 b) q.1 in
-    (rw (p.0, p.1.0, p.1.1.0, n.0) refl, at_least_after 16 name_fault b q.0 ∙ n.1)
+    (rw (p.0, p.1.0, p.1.1.0, n.0) refl, at_least_after 16 name_body_fault b q.0 ∙ n.1)
 
 one_mkdir : Laws → (mode umask : ℕ) (name b : List ℕ) → Lays (parts (Mkdir mode umask name)) b → IsOne (Mkdir mode umask name) b
 one_mkdir laws mode umask name b h =
     let p = laws.0.stands (parts (Mkdir mode umask name)) b h in
     let q = p.1.1 in
     let n = one_name laws.1 name (drop 8 b) q.1 in
-    (rw (p.0, p.1.0, n.0) refl, at_least_after 8 name_fault b q.0 ∙ n.1)
+    (rw (p.0, p.1.0, n.0) refl, at_least_after 8 name_body_fault b q.0 ∙ n.1)
 
 one_rename : Laws → (new_dir : ℕ) (old_name new_name b : List ℕ) → Lays (parts (Rename new_dir old_name new_name)) b
     → IsOne (Rename new_dir old_name new_name) b
@@ -184,12 +184,12 @@ not_found : {A : Type 0} (o : Option A) → is_some o ≡ false → o ≡ None
 not_found None e = refl
 not_found (Some x) e = absurd cc
 
-one_unsupported : Laws → (opcode : ℕ) (body b : List ℕ) → Lays (parts (Unsupported opcode body)) b → IsSpellable (Unsupported opcode body)
-    → IsOne (Unsupported opcode body) b
-one_unsupported laws opcode body b h named =
+one_further : Laws → (opcode : ℕ) (body b : List ℕ) → Lays (parts (Further opcode body)) b → IsSpellable (Further opcode body)
+    → IsOne (Further opcode body) b
+one_further laws opcode body b h named =
     let none = not_found (find opcode profile) named in
-    let other = no_row (Unsupported opcode) opcode places profile refl none in
-    (ap (λ (f : List ℕ → Act). f b) other ∙ ap (Unsupported opcode) (all_bytes body b h), ap (λ (o : Option Opcode). fault_by o b) none)
+    let other = no_row (Further opcode) opcode places profile refl none in
+    (ap (λ (f : List ℕ → Act). f b) other ∙ ap (Further opcode) (all_bytes body b h), ap (λ (o : Option Opcode). fault_by o b) none)
 
 pub one_act : Laws → (a : Act) (b : List ℕ) → Lays (parts a) b → IsSpellable a → IsOne a b
 one_act laws (Lookup name) b h named = one_lookup laws name b h
@@ -213,4 +213,4 @@ one_act laws (Interrupt unique) b h named = one_interrupt laws unique b h
 one_act laws Destroy b h named = one_destroy laws b h
 one_act laws (BatchForget items) b h named = one_batch_forget laws items b h named
 one_act laws (Rename2 new_dir flags old_name new_name) b h named = one_rename2 laws new_dir flags old_name new_name b h
-one_act laws (Unsupported opcode body) b h named = one_unsupported laws opcode body b h named
+one_act laws (Further opcode body) b h named = one_further laws opcode body b h named

@@ -9,7 +9,7 @@ use Rattle.fuse_wire.specs.Layout.{Lays, text}
 use Rattle.fuse_wire.specs.Laws.{NamesEnd}
 use Rattle.fuse_request.specs.declared.decoding.Malformed.{Malformed}
 use Rattle.fuse_request.specs.declared.decoding.Malformed.TheVariants.{NoNul, AfterNul}
-use Rattle.fuse_request.specs.Bodies.{fixed, at_least, name_fault, end_fault, names_fault, second_fault, counted}
+use Rattle.fuse_request.specs.Bodies.{fixed, at_least, name_body_fault, last_name_fault, names_fault, second_fault, counted_units}
 use Rattle.fuse_request.specs.Places.{before_nul, second_name}
 
 -- ---- bodies without a fault
@@ -20,30 +20,30 @@ fixed_none n b len = rw (eq-eqb (length b) n len) refl
 pub at_least_after : (n : ℕ) (after : List ℕ → Option Malformed) (b : List ℕ) → n ≤ length b → at_least n after b ≡ after (drop n b)
 at_least_after n after b long = rw (le-ltb (length b) n long) refl
 
-pub counted_none : (n k unit : ℕ) (b : List ℕ) → n ≤ length b → unit * number_of 4 (drop k b) ≡ length b - n → counted n k unit b ≡ None
+pub counted_none : (n k unit : ℕ) (b : List ℕ) → n ≤ length b → unit * number_of 4 (drop k b) ≡ length b - n → counted_units n k unit b ≡ None
 counted_none n k unit b long count = rw (le-ltb (length b) n long, eq-eqb (unit * number_of 4 (drop k b)) (length b - n) count) refl
 
 -- ---- names
 
 -- a text that doesn't end, and one that isn't all
-pub endless : NamesEnd → (b : List ℕ) → HasNoNul b → name_fault b ≡ Some NoNul
-endless ends b h = ap end_fault (ends.endless b h)
+pub endless : NamesEnd → (b : List ℕ) → HasNoNul b → name_body_fault b ≡ Some NoNul
+endless ends b h = ap last_name_fault (ends.endless b h)
 
-more_after : NamesEnd → (t : List ℕ) (x : ℕ) (rest : List ℕ) → HasNoNul t → name_fault (t ++ 0 ∷ x ∷ rest) ≡ Some AfterNul
-more_after ends t x rest h = ap end_fault (ends.text t (x ∷ rest) h)
+more_after : NamesEnd → (t : List ℕ) (x : ℕ) (rest : List ℕ) → HasNoNul t → name_body_fault (t ++ 0 ∷ x ∷ rest) ≡ Some AfterNul
+more_after ends t x rest h = ap last_name_fault (ends.text t (x ∷ rest) h)
 
-ended : NamesEnd → (t : List ℕ) → HasNoNul t → name_fault (t ++ 0 ∷ []) ≡ None
-ended ends t h = ap end_fault (ends.text t [] h)
+ended : NamesEnd → (t : List ℕ) → HasNoNul t → name_body_fault (t ++ 0 ∷ []) ≡ None
+ended ends t h = ap last_name_fault (ends.text t [] h)
 
-pub not_all : NamesEnd → (b t rest : List ℕ) → HasNoNul t → b ≡ t ++ 0 ∷ rest → 0 < length rest → name_fault b ≡ Some AfterNul
+pub not_all : NamesEnd → (b t rest : List ℕ) → HasNoNul t → b ≡ t ++ 0 ∷ rest → 0 < length rest → name_body_fault b ≡ Some AfterNul
 not_all ends b t [] h e more = absurd (omega arith)
-not_all ends b t (x ∷ rest) h e more = ap name_fault e ∙ more_after ends t x rest h
+not_all ends b t (x ∷ rest) h e more = ap name_body_fault e ∙ more_after ends t x rest h
 
 -- the first of two names doesn't end, or the bytes after it have a fault
 pub endless_first : NamesEnd → (b : List ℕ) → HasNoNul b → names_fault b ≡ Some NoNul
 endless_first ends b h = ap second_fault (ends.endless b h)
 
-pub after_first : NamesEnd → (b t rest : List ℕ) → HasNoNul t → b ≡ t ++ 0 ∷ rest → names_fault b ≡ name_fault rest
+pub after_first : NamesEnd → (b t rest : List ℕ) → HasNoNul t → b ≡ t ++ 0 ∷ rest → names_fault b ≡ name_body_fault rest
 after_first ends b t rest h e = ap names_fault e ∙ ap second_fault (ends.text t rest h)
 
 first_text : (t rest : List ℕ) → AllByRecursion (λ x. x ≢ 0) t → before_nul (t ++ 0 ∷ rest) ≡ t
@@ -55,10 +55,10 @@ pub before_nul-text : (t rest : List ℕ) → HasNoNul t → before_nul (t ++ 0 
 before_nul-text t rest h = first_text t rest (recursion_from_All (λ x. x ≢ 0) t h)
 
 -- a name that is laid out is read, and has no fault
-pub one_name : NamesEnd → (t b : List ℕ) → Lays (text t ∷ []) b → (before_nul b ≡ t) × (name_fault b ≡ None)
+pub one_name : NamesEnd → (t b : List ℕ) → Lays (text t ∷ []) b → (before_nul b ≡ t) × (name_body_fault b ≡ None)
 one_name ends t b h =
     let e : b ≡ t ++ 0 ∷ [] = h.2 ∙ ap (λ (x : List ℕ). t ++ 0 ∷ x) h.3 in
-    (ap before_nul e ∙ before_nul-text t [] h.1, ap name_fault e ∙ ended ends t h.1)
+    (ap before_nul e ∙ before_nul-text t [] h.1, ap name_body_fault e ∙ ended ends t h.1)
 
 -- so are two
 pub both_names : NamesEnd → (s t b : List ℕ) → Lays (text s ∷ text t ∷ []) b → (before_nul b ≡ s) × (second_name b ≡ t) × (names_fault b ≡ None)

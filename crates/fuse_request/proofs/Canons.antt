@@ -9,7 +9,7 @@ use Rattle.std.proofs.lemmas.List.{length-append}
 use Rattle.fuse_wire.specs.Bytes.{HasNoNul}
 use Rattle.fuse_wire.specs.Layout.{form, HasForm, Lays}
 use Rattle.fuse_wire.specs.Laws.{LayoutsStand}
-use Rattle.fuse_request.specs.Act.{Act, Lookup, Mknod, Mkdir, Unlink, Rmdir, Rename, Init, BatchForget, Rename2, Unsupported, Asked}
+use Rattle.fuse_request.specs.Act.{Act, Lookup, Mknod, Mkdir, Unlink, Rmdir, Rename, Init, BatchForget, Rename2, Further, Asked}
 use Rattle.fuse_request.specs.Spelling.{parts, flags2_parts, header_parts, IsSpellable, Spells}
 use Rattle.fuse_request.specs.Canon.{len_of, canon, no_nul, sayable_act, sayable, CanonSpells}
 use Rattle.fuse_wire.specs.Written.{AllFit}
@@ -87,7 +87,7 @@ whole_units n e = let none : n % 8 ≡ 0 = eqb-true (n % 8) 0 e in omega (arith,
 
 named_by : (a : Act) → sayable_act a ≡ true → IsSpellable a
 named_by (BatchForget items) e = whole_items (length items) e
-named_by (Unsupported opcode body) e = not_true _ e
+named_by (Further opcode body) e = not_true _ e
 named_by _ e = tt
 
 -- it is spelled by its canon

@@ -9,7 +9,7 @@ use Rattle.fuse_wire.specs.Laws.{NumbersRead}
 use Rattle.fuse_request.specs.declared.framer.FrameFault.{FrameFault}
 use Rattle.fuse_request.specs.declared.framer.FrameFault.TheVariants.{Short, TooLong, Cut, Memory}
 use Rattle.fuse_request.specs.Stream.{is_whole, cut, IsMessage}
-use Rattle.fuse_request.specs.Framing.{Held, bad_length, Gives, HasNone, GivesNext, end_fault, ends}
+use Rattle.fuse_request.specs.Framing.{HeldBytes, bad_length, Gives, HasNone, GivesNext, end_fault, ends}
 use Rattle.fuse_request.proofs.Streams.{leading_message, first_message, cut_steps}
 
 -- n is the length of the first message, where that is whole
@@ -41,7 +41,7 @@ pass laws n w e =
     record { some = omega arith; there = omega arith; rest = rw size (sym step) }
 
 -- where no message is left, the fault is that of the end
-pub ended_at : NumbersRead → (h : Held) (at : ℕ) (rest : List ℕ) → h.at ≤ at → at + length rest ≡ h.at + length h.bytes → (cut rest).1 ≡ (cut h.bytes).1
+pub ended_at : NumbersRead → (h : HeldBytes) (at : ℕ) (rest : List ℕ) → h.at ≤ at → at + length rest ≡ h.at + length h.bytes → (cut rest).1 ≡ (cut h.bytes).1
     → IsLeading None rest
     → end_fault at rest ≡ ends h
 ended_at laws h at rest follows place same none =
@@ -81,7 +81,7 @@ bad_none laws at w f e =
     elim (bad at w f e) [ inl p ↦ omega (arith, p.0) | inr p ↦ omega (arith, p.0) ])))
 
 -- a bad length is answered
-pub gives_fault : NumbersRead → (old new : Held) (f : FrameFault) → Some f ≡ bad_length old.at old.bytes → new ≡ record old { fault = Some f }
+pub gives_fault : NumbersRead → (old new : HeldBytes) (f : FrameFault) → Some f ≡ bad_length old.at old.bytes → new ≡ record old { fault = Some f }
     → GivesNext old new (Err f)
 gives_fault laws old new (Short at len) e same = (bad_none laws old.at old.bytes (Short at len) (sym e), sym e, same)
 gives_fault laws old new (TooLong at len) e same = (bad_none laws old.at old.bytes (TooLong at len) (sym e), sym e, same)
@@ -90,11 +90,11 @@ gives_fault laws old new (Cut at have need) e same =
 gives_fault laws old new Memory e same = absurd (elim (bad old.at old.bytes Memory (sym e)) [ inl p ↦ (let h = p.1 in cc) | inr p ↦ (let h = p.1 in cc) ])
 
 -- there is no message yet
-pub gives_none : NumbersRead → (old new : Held) → None ≡ bad_length old.at old.bytes → IsLeading None old.bytes → new ≡ old → GivesNext old new (Ok None)
+pub gives_none : NumbersRead → (old new : HeldBytes) → None ≡ bad_length old.at old.bytes → IsLeading None old.bytes → new ≡ old → GivesNext old new (Ok None)
 gives_none laws old new good none same = ((cut_steps laws old.bytes).1 (none_by (is_whole old.bytes) (number_of 4 old.bytes) none), sym good, same)
 
 -- the first message is given out
-pub gives_first : NumbersRead → (old new : Held) (n : ℕ) (m : List ℕ) → IsLeading (Some n) old.bytes → m ≡ take n old.bytes
+pub gives_first : NumbersRead → (old new : HeldBytes) (n : ℕ) (m : List ℕ) → IsLeading (Some n) old.bytes → m ≡ take n old.bytes
     → new ≡ record old { bytes = drop n old.bytes; at = old.at + n } → Gives old new m
 gives_first laws old new n m e leading same =
     let p = leading_by (is_whole old.bytes) n (number_of 4 old.bytes) e in
@@ -102,18 +102,18 @@ gives_first laws old new n m e leading same =
     let there = f.there in
     let size : n ≡ number_of 4 old.bytes = p.1 in
     let m_is : take (number_of 4 old.bytes) old.bytes ≡ m = sym (leading ∙ ap (λ (k : ℕ). take k old.bytes) size) in
-    let rest_is : drop (number_of 4 old.bytes) old.bytes ≡ new.bytes = sym (ap (λ (h : Held). h.bytes) same ∙ ap (λ (k : ℕ). drop k old.bytes) size) in
+    let rest_is : drop (number_of 4 old.bytes) old.bytes ≡ new.bytes = sym (ap (λ (h : HeldBytes). h.bytes) same ∙ ap (λ (k : ℕ). drop k old.bytes) size) in
     let len : length m ≡ n = ap length leading ∙ omega (arith, length-take n old.bytes) in
     record {
       message = subst IsMessage m_is (first_message laws old.bytes p.0);
       first = (cut_steps laws old.bytes).0 p.0 ∙ rw (m_is, rest_is) refl;
       rest = sym (take-append-drop (number_of 4 old.bytes) old.bytes) ∙ rw (m_is, rest_is) refl;
-      at = ap (λ (h : Held). h.at) same ∙ ap (λ (k : ℕ). old.at + k) (sym len);
-      fault = ap (λ (h : Held). h.fault) same;
+      at = ap (λ (h : HeldBytes). h.at) same ∙ ap (λ (k : ℕ). old.at + k) (sym len);
+      fault = ap (λ (h : HeldBytes). h.fault) same;
     }
 
 -- there is a message, and no memory to give it out
-pub gives_memory : NumbersRead → (old new : Held) (n : ℕ) → IsLeading (Some n) old.bytes → new ≡ old → GivesNext old new (Err Memory)
+pub gives_memory : NumbersRead → (old new : HeldBytes) (n : ℕ) → IsLeading (Some n) old.bytes → new ≡ old → GivesNext old new (Err Memory)
 gives_memory laws old new n e same =
     let p = leading_by (is_whole old.bytes) n (number_of 4 old.bytes) e in
     let step = (cut_steps laws old.bytes).0 p.0 in (

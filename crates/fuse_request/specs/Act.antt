@@ -36,7 +36,7 @@ pub data Act : Type 0 where
   Destroy : Act
   BatchForget : List ℕ → Act
   Rename2 : ℕ → ℕ → List ℕ → List ℕ → Act
-  Unsupported : ℕ → List ℕ → Act
+  Further : ℕ → List ℕ → Act
 
 abbrev pub act : Op → Act
 act (ops.Lookup name) = Lookup name.now
@@ -60,7 +60,7 @@ act (ops.Interrupt unique) = Interrupt unique
 act ops.Destroy = Destroy
 act (ops.BatchForget items) = BatchForget items.now
 act (ops.Rename2 new_dir flags old_name new_name) = Rename2 new_dir flags old_name.now new_name.now
-act (ops.Unsupported opcode body) = Unsupported opcode body.now
+act (ops.Further opcode body) = Further opcode body.now
 
 abbrev pub opcode_of : Act → ℕ
 opcode_of (Lookup name) = fuse_lookup
@@ -84,7 +84,7 @@ opcode_of (Interrupt unique) = fuse_interrupt
 opcode_of Destroy = fuse_destroy
 opcode_of (BatchForget items) = fuse_batch_forget
 opcode_of (Rename2 new_dir flags old_name new_name) = fuse_rename2
-opcode_of (Unsupported opcode body) = opcode
+opcode_of (Further opcode body) = opcode
 
 pub record Asked : Type 0 where
   pub header : InHeader

@@ -14,27 +14,27 @@ abbrev pub at_least : ℕ → (List ℕ → Option Malformed) → List ℕ → O
 at_least n after b = if nat_lt (length b) n then Some BodyLength else after (drop n b)
 
 -- by the bytes after the NUL of the last name
-abbrev pub end_fault : Option (List ℕ) → Option Malformed
-end_fault None = Some NoNul
-end_fault (Some []) = None
-end_fault (Some (x ∷ rest)) = Some AfterNul
+abbrev pub last_name_fault : Option (List ℕ) → Option Malformed
+last_name_fault None = Some NoNul
+last_name_fault (Some []) = None
+last_name_fault (Some (x ∷ rest)) = Some AfterNul
 
 -- a name
-abbrev pub name_fault : List ℕ → Option Malformed
-name_fault b = end_fault (after_nul b)
+abbrev pub name_body_fault : List ℕ → Option Malformed
+name_body_fault b = last_name_fault (after_nul b)
 
 -- by the bytes after the NUL of the first of two names
 abbrev pub second_fault : Option (List ℕ) → Option Malformed
 second_fault None = Some NoNul
-second_fault (Some rest) = name_fault rest
+second_fault (Some rest) = name_body_fault rest
 
 -- two names
 abbrev pub names_fault : List ℕ → Option Malformed
 names_fault b = second_fault (after_nul b)
 
 -- n bytes, and then as many units as the number of 4 bytes at place k says
-abbrev pub counted : ℕ → ℕ → ℕ → List ℕ → Option Malformed
-counted n k unit b =
+abbrev pub counted_units : ℕ → ℕ → ℕ → List ℕ → Option Malformed
+counted_units n k unit b =
     if nat_lt (length b) n then Some BodyLength
     else if unit * number_of 4 (drop k b) == length b - n then None
     else Some CountDiffers

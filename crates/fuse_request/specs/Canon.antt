@@ -5,7 +5,7 @@ use Rattle.fuse_wire.specs.Layout.{form, HasForm}
 use Rattle.fuse_wire.specs.Bounds.{min_message_len}
 use Rattle.fuse_request.specs.Lengths.{forget_one_size}
 use Rattle.fuse_request.specs.Opcodes.{in_profile}
-use Rattle.fuse_request.specs.Act.{Act, Lookup, Mknod, Mkdir, Unlink, Rmdir, Rename, BatchForget, Rename2, Unsupported, Asked}
+use Rattle.fuse_request.specs.Act.{Act, Lookup, Mknod, Mkdir, Unlink, Rmdir, Rename, BatchForget, Rename2, Further, Asked}
 use Rattle.fuse_request.specs.Spelling.{parts, header_parts, IsSpellable, Spells}
 
 abbrev pub len_of : Asked → ℕ
@@ -38,7 +38,7 @@ sayable_act (Rmdir name) = no_nul name
 sayable_act (Rename new_dir old_name new_name) = no_nul old_name && no_nul new_name
 sayable_act (Rename2 new_dir flags old_name new_name) = no_nul old_name && no_nul new_name
 sayable_act (BatchForget items) = length items % forget_one_size == 0
-sayable_act (Unsupported opcode body) = not (in_profile opcode)
+sayable_act (Further opcode body) = not (in_profile opcode)
 sayable_act _ = true
 
 -- names hold no NUL, the extensions are whole units of 8 bytes, the items of BATCH_FORGET are whole, and no opcode of the

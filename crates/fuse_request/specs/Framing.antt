@@ -8,13 +8,13 @@ use Rattle.fuse_request.specs.declared.framer.FrameFault.TheVariants.{Short, Too
 use Rattle.fuse_request.specs.Stream.{cut, IsMessage}
 
 -- the bytes fed and not given out, the offset at which they begin, and the bad length that was answered
-pub record Held : Type 0 where
+pub record HeldBytes : Type 0 where
   pub bytes : List ℕ
   pub at : ℕ
   pub fault : Option FrameFault
 
 -- how many bytes were fed
-abbrev pub fed_of : Held → ℕ
+abbrev pub fed_of : HeldBytes → ℕ
 fed_of h = h.at + length h.bytes
 
 -- the bad length of a message that would begin here
@@ -26,12 +26,12 @@ bad_length at w =
     else None
 
 -- no more was fed than may be, and a fault that is held is that of the first length
-pub record IsHeld (h : Held) : Type 0 where
+pub record IsHeld (h : HeldBytes) : Type 0 where
   pub fed : fed_of h ≤ max_fed_len
   pub fault : IfSome h.fault (λ f. bad_length h.at h.bytes ≡ Some f)
 
 -- the first message of the cut is given out, and the bytes after it are held then
-pub record Gives (old new : Held) (m : List ℕ) : Type 0 where
+pub record Gives (old new : HeldBytes) (m : List ℕ) : Type 0 where
   pub message : IsMessage m
   pub first : cut old.bytes ≡ (m ∷ (cut new.bytes).0, (cut new.bytes).1)
   pub rest : old.bytes ≡ m ++ new.bytes
@@ -43,7 +43,7 @@ abbrev pub HasNone : List ℕ → Type 0
 HasNone w = cut w ≡ ([], w)
 
 -- the next answer, and the state then
-abbrev pub GivesNext : Held → Held → Result (Option (List ℕ)) FrameFault → Type 0
+abbrev pub GivesNext : HeldBytes → HeldBytes → Result (Option (List ℕ)) FrameFault → Type 0
 GivesNext old new (Ok (Some m)) = Gives old new m
 GivesNext old new (Ok None) = HasNone old.bytes × (bad_length old.at old.bytes ≡ None) × (new ≡ old)
 GivesNext old new (Err Memory) = ¬ (HasNone old.bytes) × (new ≡ old)
@@ -59,5 +59,5 @@ end_fault at [] = None
 end_fault at (x ∷ w) = option_or (bad_length at (x ∷ w)) (Some (Cut at (length (x ∷ w)) (needed (x ∷ w))))
 
 -- the same of all that is held, past its whole messages
-abbrev pub ends : Held → Option FrameFault
+abbrev pub ends : HeldBytes → Option FrameFault
 ends h = end_fault (h.at + (length h.bytes - length (cut h.bytes).1)) (cut h.bytes).1

@@ -14,52 +14,52 @@ use Rattle.fuse_request.specs.declared.further.Body.{Body}
 use Rattle.fuse_request.specs.declared.further.Body.TheVariants as bodies
 use Rattle.fuse_request.specs.Lengths.{link_in_size, fsync_in_size, getxattr_in_size, flush_in_size, access_in_size, create_in_size, fallocate_in_size}
 use Rattle.fuse_request.specs.Lengths.{read_in_size, lseek_in_size, copy_file_range_in_size, compat_setxattr_in_size}
-use Rattle.fuse_request.specs.Bodies.{fixed, at_least, name_fault, names_fault}
+use Rattle.fuse_request.specs.Bodies.{fixed, at_least, name_body_fault, names_fault}
 use Rattle.fuse_request.specs.Spelling.{read_parts}
 use Rattle.fuse_request.specs.Places.{before_nul, second_name, read_at}
 
 -- what a body says, its names and values as lists
-pub data Content : Type 0 where
-  Readlink : Content
-  Symlink : List ℕ → List ℕ → Content
-  Link : ℕ → List ℕ → Content
-  Statfs : Content
-  Fsync : ℕ → ℕ → Content
-  Setxattr : ℕ → List ℕ → List ℕ → Content
-  Getxattr : ℕ → List ℕ → Content
-  Listxattr : ℕ → Content
-  Removexattr : List ℕ → Content
-  Flush : ℕ → ℕ → Content
-  FsyncDir : ℕ → ℕ → Content
-  Access : ℕ → Content
-  Create : ℕ → ℕ → ℕ → ℕ → List ℕ → Content
-  Fallocate : ℕ → ℕ → ℕ → ℕ → Content
-  ReadDirPlus : ReadIn → Content
-  Lseek : ℕ → ℕ → ℕ → Content
-  CopyFileRange : CopyFileRangeIn → Content
+pub data FurtherContent : Type 0 where
+  Readlink : FurtherContent
+  Symlink : List ℕ → List ℕ → FurtherContent
+  Link : ℕ → List ℕ → FurtherContent
+  Statfs : FurtherContent
+  Fsync : ℕ → ℕ → FurtherContent
+  Setxattr : ℕ → List ℕ → List ℕ → FurtherContent
+  Getxattr : ℕ → List ℕ → FurtherContent
+  Listxattr : ℕ → FurtherContent
+  Removexattr : List ℕ → FurtherContent
+  Flush : ℕ → ℕ → FurtherContent
+  FsyncDir : ℕ → ℕ → FurtherContent
+  Access : ℕ → FurtherContent
+  Create : ℕ → ℕ → ℕ → ℕ → List ℕ → FurtherContent
+  Fallocate : ℕ → ℕ → ℕ → ℕ → FurtherContent
+  ReadDirPlus : ReadIn → FurtherContent
+  Lseek : ℕ → ℕ → ℕ → FurtherContent
+  CopyFileRange : CopyFileRangeIn → FurtherContent
 
 -- what a body that was read says
-abbrev pub content : Body → Content
-content bodies.Readlink = Readlink
-content (bodies.Symlink name target) = Symlink name.now target.now
-content (bodies.Link oldnodeid name) = Link oldnodeid name.now
-content bodies.Statfs = Statfs
-content (bodies.Fsync fh fsync_flags) = Fsync fh fsync_flags
-content (bodies.Setxattr flags name value) = Setxattr flags name.now value.now
-content (bodies.Getxattr size name) = Getxattr size name.now
-content (bodies.Listxattr size) = Listxattr size
-content (bodies.Removexattr name) = Removexattr name.now
-content (bodies.Flush fh lock_owner) = Flush fh lock_owner
-content (bodies.FsyncDir fh fsync_flags) = FsyncDir fh fsync_flags
-content (bodies.Access mask) = Access mask
-content (bodies.Create flags mode umask open_flags name) = Create flags mode umask open_flags name.now
-content (bodies.Fallocate fh offset len mode) = Fallocate fh offset len mode
-content (bodies.ReadDirPlus x) = ReadDirPlus x
-content (bodies.Lseek fh offset whence) = Lseek fh offset whence
-content (bodies.CopyFileRange x) = CopyFileRange x
+abbrev pub further_content : Body → FurtherContent
+further_content bodies.Readlink = Readlink
+further_content (bodies.Symlink name target) = Symlink name.now target.now
+further_content (bodies.Link oldnodeid name) = Link oldnodeid name.now
+further_content bodies.Statfs = Statfs
+further_content (bodies.Fsync fh fsync_flags) = Fsync fh fsync_flags
+further_content (bodies.Setxattr flags name value) = Setxattr flags name.now value.now
+further_content (bodies.Getxattr size name) = Getxattr size name.now
+further_content (bodies.Listxattr size) = Listxattr size
+further_content (bodies.Removexattr name) = Removexattr name.now
+further_content (bodies.Flush fh lock_owner) = Flush fh lock_owner
+further_content (bodies.FsyncDir fh fsync_flags) = FsyncDir fh fsync_flags
+further_content (bodies.Access mask) = Access mask
+further_content (bodies.Create flags mode umask open_flags name) = Create flags mode umask open_flags name.now
+further_content (bodies.Fallocate fh offset len mode) = Fallocate fh offset len mode
+further_content (bodies.ReadDirPlus x) = ReadDirPlus x
+further_content (bodies.Lseek fh offset whence) = Lseek fh offset whence
+further_content (bodies.CopyFileRange x) = CopyFileRange x
 
 -- the opcode of each content
-abbrev pub further_opcode : Content → ℕ
+abbrev pub further_opcode : FurtherContent → ℕ
 further_opcode Readlink = fuse_readlink
 further_opcode (Symlink name target) = fuse_symlink
 further_opcode (Link oldnodeid name) = fuse_link
@@ -84,29 +84,29 @@ copy_file_range_parts x =
     number 8 x.fh_in ∷ number 8 x.off_in ∷ number 8 x.nodeid_out ∷ number 8 x.fh_out ∷ number 8 x.off_out ∷ number 8 x.len ∷ number 8 x.flags ∷ []
 
 -- the layout of each body; fuse_setxattr_in without the fields of FUSE_SETXATTR_EXT, on which fuse_init never agrees
-abbrev pub content_parts : Content → List Part
-content_parts Readlink = []
-content_parts (Symlink name target) = text name ∷ text target ∷ []
-content_parts (Link oldnodeid name) = number 8 oldnodeid ∷ text name ∷ []
-content_parts Statfs = []
-content_parts (Fsync fh fsync_flags) = number 8 fh ∷ number 4 fsync_flags ∷ unused 4 ∷ []
-content_parts (Setxattr flags name value) = number 4 (length value) ∷ number 4 flags ∷ text name ∷ bytes value ∷ []
-content_parts (Getxattr size name) = number 4 size ∷ unused 4 ∷ text name ∷ []
-content_parts (Listxattr size) = number 4 size ∷ unused 4 ∷ []
-content_parts (Removexattr name) = text name ∷ []
-content_parts (Flush fh lock_owner) = number 8 fh ∷ unused 8 ∷ number 8 lock_owner ∷ []
-content_parts (FsyncDir fh fsync_flags) = number 8 fh ∷ number 4 fsync_flags ∷ unused 4 ∷ []
-content_parts (Access mask) = number 4 mask ∷ unused 4 ∷ []
-content_parts (Create flags mode umask open_flags name) = number 4 flags ∷ number 4 mode ∷ number 4 umask ∷ number 4 open_flags ∷ text name ∷ []
-content_parts (Fallocate fh offset len mode) = number 8 fh ∷ number 8 offset ∷ number 8 len ∷ number 4 mode ∷ unused 4 ∷ []
-content_parts (ReadDirPlus x) = read_parts x
-content_parts (Lseek fh offset whence) = number 8 fh ∷ number 8 offset ∷ number 4 whence ∷ unused 4 ∷ []
-content_parts (CopyFileRange x) = copy_file_range_parts x
+abbrev pub further_parts : FurtherContent → List Part
+further_parts Readlink = []
+further_parts (Symlink name target) = text name ∷ text target ∷ []
+further_parts (Link oldnodeid name) = number 8 oldnodeid ∷ text name ∷ []
+further_parts Statfs = []
+further_parts (Fsync fh fsync_flags) = number 8 fh ∷ number 4 fsync_flags ∷ unused 4 ∷ []
+further_parts (Setxattr flags name value) = number 4 (length value) ∷ number 4 flags ∷ text name ∷ bytes value ∷ []
+further_parts (Getxattr size name) = number 4 size ∷ unused 4 ∷ text name ∷ []
+further_parts (Listxattr size) = number 4 size ∷ unused 4 ∷ []
+further_parts (Removexattr name) = text name ∷ []
+further_parts (Flush fh lock_owner) = number 8 fh ∷ unused 8 ∷ number 8 lock_owner ∷ []
+further_parts (FsyncDir fh fsync_flags) = number 8 fh ∷ number 4 fsync_flags ∷ unused 4 ∷ []
+further_parts (Access mask) = number 4 mask ∷ unused 4 ∷ []
+further_parts (Create flags mode umask open_flags name) = number 4 flags ∷ number 4 mode ∷ number 4 umask ∷ number 4 open_flags ∷ text name ∷ []
+further_parts (Fallocate fh offset len mode) = number 8 fh ∷ number 8 offset ∷ number 8 len ∷ number 4 mode ∷ unused 4 ∷ []
+further_parts (ReadDirPlus x) = read_parts x
+further_parts (Lseek fh offset whence) = number 8 fh ∷ number 8 offset ∷ number 4 whence ∷ unused 4 ∷ []
+further_parts (CopyFileRange x) = copy_file_range_parts x
 
 -- a body of this opcode that says this
-pub record SpellsBody (opcode : ℕ) (x : Content) (b : List ℕ) : Type 0 where
+pub record SpellsBody (opcode : ℕ) (x : FurtherContent) (b : List ℕ) : Type 0 where
   pub opcode_is : further_opcode x ≡ opcode
-  pub parted : Lays (content_parts x) b
+  pub parted : Lays (further_parts x) b
 
 -- by what follows the NUL of the name of an attribute: a value of this size
 abbrev pub value_fault : ℕ → Option (List ℕ) → Option Malformed
@@ -121,10 +121,10 @@ setxattr_fault b = at_least compat_setxattr_in_size (λ rest. value_fault (numbe
 pub record FurtherOpcode : Type 0 where
   pub opcode : ℕ
   pub fault : List ℕ → Option Malformed
-  pub says : List ℕ → Content
+  pub says : List ℕ → FurtherContent
 
 -- a row of the table
-abbrev pub further_row : ℕ → (List ℕ → Option Malformed) → (List ℕ → Content) → FurtherOpcode
+abbrev pub further_row : ℕ → (List ℕ → Option Malformed) → (List ℕ → FurtherContent) → FurtherOpcode
 further_row opcode fault says = record { opcode = opcode; fault = fault; says = says }
 
 -- what fuse_copy_file_range_in says at its places
@@ -140,21 +140,21 @@ copy_file_range_at b = record {
 }
 
 -- each opcode outside the profile whose bodies are read
-abbrev pub further : List FurtherOpcode
-further =
+abbrev pub further_opcodes : List FurtherOpcode
+further_opcodes =
     further_row fuse_readlink (fixed 0) (λ b. Readlink)
     ∷ further_row fuse_symlink names_fault (λ b. Symlink (before_nul b) (second_name b))
-    ∷ further_row fuse_link (at_least link_in_size name_fault) (λ b. Link (number_of 8 b) (before_nul (drop 8 b)))
+    ∷ further_row fuse_link (at_least link_in_size name_body_fault) (λ b. Link (number_of 8 b) (before_nul (drop 8 b)))
     ∷ further_row fuse_statfs (fixed 0) (λ b. Statfs)
     ∷ further_row fuse_fsync (fixed fsync_in_size) (λ b. Fsync (number_of 8 b) (number_of 4 (drop 8 b)))
     ∷ further_row fuse_setxattr setxattr_fault (λ b. Setxattr (number_of 4 (drop 4 b)) (before_nul (drop 8 b)) (unwrap_or (after_nul (drop 8 b)) []))
-    ∷ further_row fuse_getxattr (at_least getxattr_in_size name_fault) (λ b. Getxattr (number_of 4 b) (before_nul (drop 8 b)))
+    ∷ further_row fuse_getxattr (at_least getxattr_in_size name_body_fault) (λ b. Getxattr (number_of 4 b) (before_nul (drop 8 b)))
     ∷ further_row fuse_listxattr (fixed getxattr_in_size) (λ b. Listxattr (number_of 4 b))
-    ∷ further_row fuse_removexattr name_fault (λ b. Removexattr (before_nul b))
+    ∷ further_row fuse_removexattr name_body_fault (λ b. Removexattr (before_nul b))
     ∷ further_row fuse_flush (fixed flush_in_size) (λ b. Flush (number_of 8 b) (number_of 8 (drop 16 b)))
     ∷ further_row fuse_fsyncdir (fixed fsync_in_size) (λ b. FsyncDir (number_of 8 b) (number_of 4 (drop 8 b)))
     ∷ further_row fuse_access (fixed access_in_size) (λ b. Access (number_of 4 b))
-    ∷ further_row fuse_create (at_least create_in_size name_fault)
+    ∷ further_row fuse_create (at_least create_in_size name_body_fault)
     (λ b. Create (number_of 4 b) (number_of 4 (drop 4 b)) (number_of 4 (drop 8 b)) (number_of 4 (drop 12 b)) (before_nul (drop 16 b)))
     ∷ further_row fuse_fallocate (fixed fallocate_in_size) (λ b. Fallocate (number_of 8 b) (number_of 8 (drop 8 b)) (number_of 8 (drop 16 b)) (number_of 4 (drop 24 b)))
     ∷ further_row fuse_readdirplus (fixed read_in_size) (λ b. ReadDirPlus (read_at b))
@@ -169,7 +169,7 @@ find_further opcode (o ∷ os) = if opcode == o.opcode then Some o else find_fur
 
 -- the bodies of this opcode are in the table
 abbrev pub is_further : ℕ → Bool
-is_further opcode = is_some (find_further opcode further)
+is_further opcode = is_some (find_further opcode further_opcodes)
 
 -- the fault of a body by its row
 abbrev pub fault_in : Option FurtherOpcode → List ℕ → Option Malformed
@@ -178,8 +178,8 @@ fault_in (Some o) b = o.fault b
 
 -- the first fault of a body, in the order of Malformed
 abbrev pub further_fault : ℕ → List ℕ → Option Malformed
-further_fault opcode b = fault_in (find_further opcode further) b
+further_fault opcode b = fault_in (find_further opcode further_opcodes) b
 
 -- what a body says at the places of its opcode
-abbrev pub content_at : ℕ → List ℕ → Option Content
-content_at opcode b = option_map (λ o. o.says b) (find_further opcode further)
+abbrev pub further_content_at : ℕ → List ℕ → Option FurtherContent
+further_content_at opcode b = option_map (λ o. o.says b) (find_further opcode further_opcodes)

@@ -7,7 +7,7 @@ use Rattle.fuse_request.specs.Lengths.{open_in_size, read_in_size, write_in_size
 use Rattle.fuse_wire.specs.Opcodes.{fuse_lookup, fuse_forget, fuse_getattr, fuse_setattr, fuse_mknod, fuse_mkdir, fuse_unlink, fuse_rmdir, fuse_rename}
 use Rattle.fuse_wire.specs.Opcodes.{fuse_open, fuse_read, fuse_write, fuse_release, fuse_init, fuse_opendir, fuse_readdir, fuse_releasedir, fuse_interrupt}
 use Rattle.fuse_wire.specs.Opcodes.{fuse_destroy, fuse_batch_forget, fuse_rename2, silent}
-use Rattle.fuse_request.specs.Bodies.{fixed, at_least, name_fault, names_fault, counted, init_fault}
+use Rattle.fuse_request.specs.Bodies.{fixed, at_least, name_body_fault, names_fault, counted_units, init_fault}
 
 -- an opcode: its number, its name, and the fault of a body
 pub record Opcode : Type 0 where
@@ -20,18 +20,18 @@ row number name fault = record { number = number; name = name; fault = fault }
 
 abbrev pub profile : List Opcode
 profile =
-    row fuse_lookup (codes "LOOKUP") name_fault
+    row fuse_lookup (codes "LOOKUP") name_body_fault
     ∷ row fuse_forget (codes "FORGET") (fixed forget_in_size)
     ∷ row fuse_getattr (codes "GETATTR") (fixed getattr_in_size)
     ∷ row fuse_setattr (codes "SETATTR") (fixed setattr_in_size)
-    ∷ row fuse_mknod (codes "MKNOD") (at_least mknod_in_size name_fault)
-    ∷ row fuse_mkdir (codes "MKDIR") (at_least mkdir_in_size name_fault)
-    ∷ row fuse_unlink (codes "UNLINK") name_fault
-    ∷ row fuse_rmdir (codes "RMDIR") name_fault
+    ∷ row fuse_mknod (codes "MKNOD") (at_least mknod_in_size name_body_fault)
+    ∷ row fuse_mkdir (codes "MKDIR") (at_least mkdir_in_size name_body_fault)
+    ∷ row fuse_unlink (codes "UNLINK") name_body_fault
+    ∷ row fuse_rmdir (codes "RMDIR") name_body_fault
     ∷ row fuse_rename (codes "RENAME") (at_least rename_in_size names_fault)
     ∷ row fuse_open (codes "OPEN") (fixed open_in_size)
     ∷ row fuse_read (codes "READ") (fixed read_in_size)
-    ∷ row fuse_write (codes "WRITE") (counted write_in_size 16 1)
+    ∷ row fuse_write (codes "WRITE") (counted_units write_in_size 16 1)
     ∷ row fuse_release (codes "RELEASE") (fixed release_in_size)
     ∷ row fuse_init (codes "INIT") init_fault
     ∷ row fuse_opendir (codes "OPENDIR") (fixed open_in_size)
@@ -39,7 +39,7 @@ profile =
     ∷ row fuse_releasedir (codes "RELEASEDIR") (fixed release_in_size)
     ∷ row fuse_interrupt (codes "INTERRUPT") (fixed interrupt_in_size)
     ∷ row fuse_destroy (codes "DESTROY") (fixed 0)
-    ∷ row fuse_batch_forget (codes "BATCH_FORGET") (counted batch_forget_in_size 0 forget_one_size)
+    ∷ row fuse_batch_forget (codes "BATCH_FORGET") (counted_units batch_forget_in_size 0 forget_one_size)
     ∷ row fuse_rename2 (codes "RENAME2") (at_least rename2_in_size names_fault)
     ∷ []
 

@@ -14,7 +14,7 @@ use Rattle.fuse_request.specs.declared.request.ReleaseIn.{ReleaseIn}
 use Rattle.fuse_request.specs.declared.request.SetattrIn.{SetattrIn}
 use Rattle.fuse_request.specs.Header.{raw_of, ext_len, body_of}
 use Rattle.fuse_request.specs.Act.{Act, Lookup, Forget, Getattr, Setattr, Mknod, Mkdir, Unlink, Rmdir, Rename, OpenFile, Read, Write, Release, Init, OpenDir}
-use Rattle.fuse_request.specs.Act.{ReadDir, ReleaseDir, Interrupt, Destroy, BatchForget, Rename2, Unsupported, Asked, opcode_of}
+use Rattle.fuse_request.specs.Act.{ReadDir, ReleaseDir, Interrupt, Destroy, BatchForget, Rename2, Further, Asked, opcode_of}
 use Rattle.fuse_request.specs.Spelling.{Spells}
 
 -- the first name
@@ -111,7 +111,7 @@ at_row other number [] = other
 at_row other number (row ∷ rows) = if number == row.0 then row.1 else at_row other number rows
 
 abbrev pub act_at : ℕ → List ℕ → Act
-act_at opcode b = at_row (Unsupported opcode) opcode places b
+act_at opcode b = at_row (Further opcode) opcode places b
 
 abbrev pub header_at : List ℕ → InHeader
 header_at m = record {
@@ -132,11 +132,11 @@ abbrev pub asked_at : List ℕ → Asked
 asked_at m = record { header = header_at m; act = act_in m; ext = ext_in m }
 
 -- the message has a header, with the opcode of the request, and says it at the places of that opcode
-pub record StandsAt (v : Asked) (m : List ℕ) : Type 0 where
+pub record StandsAtPlaces (v : Asked) (m : List ℕ) : Type 0 where
   pub long : min_message_len ≤ length m
   pub opcode : (raw_of m).opcode ≡ opcode_of v.act
   pub says : asked_at m ≡ v
 
 -- so does every message that spells the request
 abbrev pub SpelledAt : Type 0
-SpelledAt = (v : Asked) (m : List ℕ) → Spells v m → StandsAt v m
+SpelledAt = (v : Asked) (m : List ℕ) → Spells v m → StandsAtPlaces v m

@@ -8,7 +8,7 @@ use Rattle.fuse_request.specs.declared.request.ReleaseIn.{ReleaseIn}
 use Rattle.fuse_request.specs.declared.request.SetattrIn.{SetattrIn}
 use Rattle.fuse_request.specs.Opcodes.{in_profile}
 use Rattle.fuse_request.specs.Act.{Act, Lookup, Forget, Getattr, Setattr, Mknod, Mkdir, Unlink, Rmdir, Rename, OpenFile, Read, Write, Release, Init, OpenDir}
-use Rattle.fuse_request.specs.Act.{ReadDir, ReleaseDir, Interrupt, Destroy, BatchForget, Rename2, Unsupported, Asked, opcode_of}
+use Rattle.fuse_request.specs.Act.{ReadDir, ReleaseDir, Interrupt, Destroy, BatchForget, Rename2, Further, Asked, opcode_of}
 
 -- fuse_setattr_in
 abbrev pub setattr_parts : SetattrIn → List Part
@@ -18,8 +18,8 @@ setattr_parts x =
     ∷ number 4 x.mode ∷ unused 4 ∷ number 4 x.uid ∷ number 4 x.gid ∷ unused 4 ∷ []
 
 -- fuse_open_in
-abbrev pub open_parts : ℕ → ℕ → List Part
-open_parts flags open_flags = number 4 flags ∷ number 4 open_flags ∷ []
+abbrev pub open_in_parts : ℕ → ℕ → List Part
+open_in_parts flags open_flags = number 4 flags ∷ number 4 open_flags ∷ []
 
 -- fuse_read_in
 abbrev pub read_parts : ReadIn → List Part
@@ -46,25 +46,25 @@ parts (Mkdir mode umask name) = number 4 mode ∷ number 4 umask ∷ text name �
 parts (Unlink name) = text name ∷ []
 parts (Rmdir name) = text name ∷ []
 parts (Rename new_dir old_name new_name) = number 8 new_dir ∷ text old_name ∷ text new_name ∷ []
-parts (OpenFile flags open_flags) = open_parts flags open_flags
+parts (OpenFile flags open_flags) = open_in_parts flags open_flags
 parts (Read x) = read_parts x
 parts (Write fh offset write_flags lock_owner flags payload) =
     number 8 fh ∷ number 8 offset ∷ number 4 (length payload) ∷ number 4 write_flags ∷ number 8 lock_owner ∷ number 4 flags ∷ unused 4
     ∷ bytes payload ∷ []
 parts (Release x) = release_parts x
 parts (Init x) = number 4 x.major ∷ number 4 x.minor ∷ number 4 x.max_readahead ∷ number 4 x.flags ∷ flags2_parts x.flags2
-parts (OpenDir flags open_flags) = open_parts flags open_flags
+parts (OpenDir flags open_flags) = open_in_parts flags open_flags
 parts (ReadDir x) = read_parts x
 parts (ReleaseDir x) = release_parts x
 parts (Interrupt unique) = number 8 unique ∷ []
 parts Destroy = []
 parts (BatchForget items) = number 4 (length items / forget_one_size) ∷ unused 4 ∷ bytes items ∷ []
 parts (Rename2 new_dir flags old_name new_name) = number 8 new_dir ∷ number 4 flags ∷ unused 4 ∷ text old_name ∷ text new_name ∷ []
-parts (Unsupported opcode body) = bytes body ∷ []
+parts (Further opcode body) = bytes body ∷ []
 
 -- only opcodes outside the profile are unsupported, and the items of BATCH_FORGET are whole
 abbrev pub IsSpellable : Act → Type 0
-IsSpellable (Unsupported opcode body) = in_profile opcode ≡ false
+IsSpellable (Further opcode body) = in_profile opcode ≡ false
 IsSpellable (BatchForget items) = length items ≡ forget_one_size * (length items / forget_one_size)
 IsSpellable _ = Unit {0}
 

@@ -9,7 +9,7 @@ use crate::request::Op;
 
 // The field `size` of a body.
 fn size_said(body: &Body<'_>) -> u32
-    ensures { result ≡ sizes.size_said (further.content body.now) }
+    ensures { result ≡ sizes.size_said (further.further_content body.now) }
 {
     match body {
         Body::Getxattr { size, .. } | Body::Listxattr { size } => *size,
@@ -35,7 +35,7 @@ pub fn size_asked(op: &Op<'_>) -> u32
 {
     match op {
         Op::Read(asked) | Op::ReadDir(asked) => asked.size,
-        Op::Unsupported { opcode, body } => further_size(*opcode, body),
+        Op::Further { opcode, body } => further_size(*opcode, body),
         _ => 0,
     }
 }

@@ -3,7 +3,7 @@ ghost use Rattle.std.specs.Prelude.{◌≡◌, ◌≤◌, length};
 ghost use Rattle.fuse_wire.specs.Opcodes as opcodes;
 ghost use Rattle.fuse_request.specs.Lengths as lengths;
 ghost use Rattle.fuse_request.specs.Places as places;
-ghost use Rattle.fuse_request.specs.inner.Readers.{GivesLastName, GivesTwoNames, Reads};
+ghost use Rattle.fuse_request.specs.inner.Readers.{GivesLastName, GivesTwoNames, ReadsOp};
 
 use crate::decoding::Malformed;
 use crate::lengths::{
@@ -48,14 +48,14 @@ pub(crate) fn two_names(bytes: &[u8]) -> Result<(&[u8], &[u8]), Malformed>
 }
 
 fn lookup_of(body: &[u8]) -> Result<Op<'_>, Malformed>
-    ensures { Reads opcodes.fuse_lookup body.now result }
+    ensures { ReadsOp opcodes.fuse_lookup body.now result }
 {
     let name = last_name(body)?;
     Ok(Op::Lookup { name })
 }
 
 fn forget_of(body: &[u8]) -> Result<Op<'_>, Malformed>
-    ensures { Reads opcodes.fuse_forget body.now result }
+    ensures { ReadsOp opcodes.fuse_forget body.now result }
 {
     if body.len() != FORGET_IN {
         return Err(Malformed::BodyLength);
@@ -65,7 +65,7 @@ fn forget_of(body: &[u8]) -> Result<Op<'_>, Malformed>
 }
 
 fn getattr_of(body: &[u8]) -> Result<Op<'_>, Malformed>
-    ensures { Reads opcodes.fuse_getattr body.now result }
+    ensures { ReadsOp opcodes.fuse_getattr body.now result }
 {
     if body.len() != GETATTR_IN {
         return Err(Malformed::BodyLength);
@@ -97,7 +97,7 @@ fn setattr_at(body: &[u8]) -> SetattrIn
 }
 
 fn setattr_of(body: &[u8]) -> Result<Op<'_>, Malformed>
-    ensures { Reads opcodes.fuse_setattr body.now result }
+    ensures { ReadsOp opcodes.fuse_setattr body.now result }
 {
     if body.len() != SETATTR_IN {
         return Err(Malformed::BodyLength);
@@ -106,7 +106,7 @@ fn setattr_of(body: &[u8]) -> Result<Op<'_>, Malformed>
 }
 
 fn mknod_of(body: &[u8]) -> Result<Op<'_>, Malformed>
-    ensures { Reads opcodes.fuse_mknod body.now result }
+    ensures { ReadsOp opcodes.fuse_mknod body.now result }
 {
     if body.len() < MKNOD_IN {
         return Err(Malformed::BodyLength);
@@ -125,7 +125,7 @@ fn mknod_of(body: &[u8]) -> Result<Op<'_>, Malformed>
 }
 
 fn mkdir_of(body: &[u8]) -> Result<Op<'_>, Malformed>
-    ensures { Reads opcodes.fuse_mkdir body.now result }
+    ensures { ReadsOp opcodes.fuse_mkdir body.now result }
 {
     if body.len() < MKDIR_IN {
         return Err(Malformed::BodyLength);
@@ -138,21 +138,21 @@ fn mkdir_of(body: &[u8]) -> Result<Op<'_>, Malformed>
 }
 
 fn unlink_of(body: &[u8]) -> Result<Op<'_>, Malformed>
-    ensures { Reads opcodes.fuse_unlink body.now result }
+    ensures { ReadsOp opcodes.fuse_unlink body.now result }
 {
     let name = last_name(body)?;
     Ok(Op::Unlink { name })
 }
 
 fn rmdir_of(body: &[u8]) -> Result<Op<'_>, Malformed>
-    ensures { Reads opcodes.fuse_rmdir body.now result }
+    ensures { ReadsOp opcodes.fuse_rmdir body.now result }
 {
     let name = last_name(body)?;
     Ok(Op::Rmdir { name })
 }
 
 fn rename_of(body: &[u8]) -> Result<Op<'_>, Malformed>
-    ensures { Reads opcodes.fuse_rename body.now result }
+    ensures { ReadsOp opcodes.fuse_rename body.now result }
 {
     if body.len() < RENAME_IN {
         return Err(Malformed::BodyLength);
@@ -169,7 +169,7 @@ fn rename_of(body: &[u8]) -> Result<Op<'_>, Malformed>
 }
 
 fn open_of(body: &[u8]) -> Result<Op<'_>, Malformed>
-    ensures { Reads opcodes.fuse_open body.now result }
+    ensures { ReadsOp opcodes.fuse_open body.now result }
 {
     if body.len() != OPEN_IN {
         return Err(Malformed::BodyLength);
@@ -194,7 +194,7 @@ pub(crate) fn read_at(body: &[u8]) -> ReadIn
 }
 
 fn read_of(body: &[u8]) -> Result<Op<'_>, Malformed>
-    ensures { Reads opcodes.fuse_read body.now result }
+    ensures { ReadsOp opcodes.fuse_read body.now result }
 {
     if body.len() != READ_IN {
         return Err(Malformed::BodyLength);
@@ -203,7 +203,7 @@ fn read_of(body: &[u8]) -> Result<Op<'_>, Malformed>
 }
 
 fn write_of(body: &[u8]) -> Result<Op<'_>, Malformed>
-    ensures { Reads opcodes.fuse_write body.now result }
+    ensures { ReadsOp opcodes.fuse_write body.now result }
 {
     if body.len() < WRITE_IN {
         return Err(Malformed::BodyLength);
@@ -241,7 +241,7 @@ fn release_at(body: &[u8]) -> ReleaseIn
 }
 
 fn release_of(body: &[u8]) -> Result<Op<'_>, Malformed>
-    ensures { Reads opcodes.fuse_release body.now result }
+    ensures { ReadsOp opcodes.fuse_release body.now result }
 {
     if body.len() != RELEASE_IN {
         return Err(Malformed::BodyLength);
@@ -263,7 +263,7 @@ fn init_with(body: &[u8], flags2: Option<u32>) -> InitIn
 }
 
 fn init_of(body: &[u8]) -> Result<Op<'_>, Malformed>
-    ensures { Reads opcodes.fuse_init body.now result }
+    ensures { ReadsOp opcodes.fuse_init body.now result }
 {
     if body.len() == COMPAT_INIT_IN {
         return Ok(Op::Init(init_with(body, None)));
@@ -276,7 +276,7 @@ fn init_of(body: &[u8]) -> Result<Op<'_>, Malformed>
 }
 
 fn open_dir_of(body: &[u8]) -> Result<Op<'_>, Malformed>
-    ensures { Reads opcodes.fuse_opendir body.now result }
+    ensures { ReadsOp opcodes.fuse_opendir body.now result }
 {
     if body.len() != OPEN_IN {
         return Err(Malformed::BodyLength);
@@ -287,7 +287,7 @@ fn open_dir_of(body: &[u8]) -> Result<Op<'_>, Malformed>
 }
 
 fn read_dir_of(body: &[u8]) -> Result<Op<'_>, Malformed>
-    ensures { Reads opcodes.fuse_readdir body.now result }
+    ensures { ReadsOp opcodes.fuse_readdir body.now result }
 {
     if body.len() != READ_IN {
         return Err(Malformed::BodyLength);
@@ -296,7 +296,7 @@ fn read_dir_of(body: &[u8]) -> Result<Op<'_>, Malformed>
 }
 
 fn release_dir_of(body: &[u8]) -> Result<Op<'_>, Malformed>
-    ensures { Reads opcodes.fuse_releasedir body.now result }
+    ensures { ReadsOp opcodes.fuse_releasedir body.now result }
 {
     if body.len() != RELEASE_IN {
         return Err(Malformed::BodyLength);
@@ -305,7 +305,7 @@ fn release_dir_of(body: &[u8]) -> Result<Op<'_>, Malformed>
 }
 
 fn interrupt_of(body: &[u8]) -> Result<Op<'_>, Malformed>
-    ensures { Reads opcodes.fuse_interrupt body.now result }
+    ensures { ReadsOp opcodes.fuse_interrupt body.now result }
 {
     if body.len() != INTERRUPT_IN {
         return Err(Malformed::BodyLength);
@@ -315,7 +315,7 @@ fn interrupt_of(body: &[u8]) -> Result<Op<'_>, Malformed>
 }
 
 fn destroy_of(body: &[u8]) -> Result<Op<'_>, Malformed>
-    ensures { Reads opcodes.fuse_destroy body.now result }
+    ensures { ReadsOp opcodes.fuse_destroy body.now result }
 {
     if !body.is_empty() {
         return Err(Malformed::BodyLength);
@@ -324,7 +324,7 @@ fn destroy_of(body: &[u8]) -> Result<Op<'_>, Malformed>
 }
 
 fn batch_forget_of(body: &[u8]) -> Result<Op<'_>, Malformed>
-    ensures { Reads opcodes.fuse_batch_forget body.now result }
+    ensures { ReadsOp opcodes.fuse_batch_forget body.now result }
 {
     if body.len() < BATCH_FORGET_IN {
         return Err(Malformed::BodyLength);
@@ -338,7 +338,7 @@ fn batch_forget_of(body: &[u8]) -> Result<Op<'_>, Malformed>
 }
 
 fn rename2_of(body: &[u8]) -> Result<Op<'_>, Malformed>
-    ensures { Reads opcodes.fuse_rename2 body.now result }
+    ensures { ReadsOp opcodes.fuse_rename2 body.now result }
 {
     if body.len() < RENAME2_IN {
         return Err(Malformed::BodyLength);
@@ -358,7 +358,7 @@ fn rename2_of(body: &[u8]) -> Result<Op<'_>, Malformed>
 
 // The body of a message of this opcode.
 pub(crate) fn op_of(opcode: u32, body: &[u8]) -> Result<Op<'_>, Malformed>
-    ensures { Reads opcode body.now result }
+    ensures { ReadsOp opcode body.now result }
 {
     match opcode {
         LOOKUP => lookup_of(body),
@@ -382,6 +382,6 @@ pub(crate) fn op_of(opcode: u32, body: &[u8]) -> Result<Op<'_>, Malformed>
         DESTROY => destroy_of(body),
         BATCH_FORGET => batch_forget_of(body),
         RENAME2 => rename2_of(body),
-        _ => Ok(Op::Unsupported { opcode, body }),
+        _ => Ok(Op::Further { opcode, body }),
     }
 }

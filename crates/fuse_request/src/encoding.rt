@@ -77,7 +77,7 @@ fn body_len(op: &Op<'_>) -> u128
             new_name,
             ..
         } => RENAME2_IN as u128 + long(old_name) + 1 + long(new_name) + 1,
-        Op::Unsupported { body, .. } => long(body),
+        Op::Further { body, .. } => long(body),
     }
 }
 
@@ -106,7 +106,7 @@ fn opcode_of(op: &Op<'_>) -> u32
         Op::Destroy => DESTROY,
         Op::BatchForget { .. } => BATCH_FORGET,
         Op::Rename2 { .. } => RENAME2,
-        Op::Unsupported { opcode, .. } => opcode,
+        Op::Further { opcode, .. } => opcode,
     }
 }
 

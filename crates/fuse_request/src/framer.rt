@@ -39,9 +39,9 @@ pub struct Framer {
 }
 
 impl Model for Framer {
-    ghost use Rattle.fuse_request.specs.Framing.{Held, IsHeld};
+    ghost use Rattle.fuse_request.specs.Framing.{HeldBytes, IsHeld};
 
-    ghost Value = { Held };
+    ghost Value = { HeldBytes };
 
     ghost view = { λ a. record { bytes = a.held.items; at = a.at; fault = a.fault } };
 

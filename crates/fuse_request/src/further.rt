@@ -4,7 +4,7 @@ ghost use Rattle.std.specs.Option.{option_map};
 ghost use Rattle.std.specs.Result.{result_err};
 ghost use Rattle.fuse_wire.specs.Opcodes as opcodes;
 ghost use Rattle.fuse_request.specs.FurtherBodies as further;
-ghost use Rattle.fuse_request.specs.FurtherBodies.{Content, SpellsBody};
+ghost use Rattle.fuse_request.specs.FurtherBodies.{FurtherContent, SpellsBody};
 ghost use Rattle.fuse_request.specs.inner.FurtherReaders.{GivesValue, ReadsAny, ReadsBody};
 
 use crate::bodies::{last_name, read_at, two_names};
@@ -356,19 +356,19 @@ fn body_of(opcode: u32, body: &[u8]) -> Result<Option<Body<'_>>, Malformed>
     }
 }
 
-/// Reads the body of a request that `decode` returns as `Op::Unsupported`: what it spells, or the
+/// Reads the body of a request that `decode` returns as `Op::Further`: what it spells, or the
 /// first of its faults. None for an opcode whose bodies this crate doesn't read. Takes no memory.
 pub fn decode_body(opcode: u32, body: &[u8]) -> Result<Option<Body<'_>>, Malformed>
     // What is read is spelled so.
     ensures found { IfOk result (λ o. IfSome o (λ x.
-        SpellsBody opcode (further.content x) body.now)) }
+        SpellsBody opcode (further.further_content x) body.now)) }
     // What is spelled is read.
-    ensures only { (v : Content) → SpellsBody opcode v body.now
-        → IsOkAnd result (λ o. IsSomeAnd o (λ x. further.content x ≡ v)) }
+    ensures only { (v : FurtherContent) → SpellsBody opcode v body.now
+        → IsOkAnd result (λ o. IsSomeAnd o (λ x. further.further_content x ≡ v)) }
 
     // It is what stands at the places of the opcode.
     ensures placed { IfOk result (λ o.
-        option_map (λ x. further.content x) o ≡ further.content_at opcode body.now) }
+        option_map (λ x. further.further_content x) o ≡ further.further_content_at opcode body.now) }
 
     // Which fault it is. There is none exactly where a body is spelled or the opcode isn't read.
     ensures fault { result_err result ≡ further.further_fault opcode body.now }

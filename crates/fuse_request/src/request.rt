@@ -127,8 +127,8 @@ pub enum Op<'a> {
         old_name: &'a [u8],
         new_name: &'a [u8],
     },
-    /// An opcode outside the profile.
-    Unsupported {
+    /// An opcode outside the profile. A file system may serve it.
+    Further {
         opcode: u32,
         body: &'a [u8],
     },

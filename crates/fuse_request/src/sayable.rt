@@ -33,7 +33,7 @@ fn is_sayable_op(op: &Op<'_>) -> bool
             ..
         } => has_no_nul(old_name) && has_no_nul(new_name),
         Op::BatchForget { items } => items.len() % FORGET_ONE == 0,
-        Op::Unsupported { opcode, .. } => !is_in_profile(opcode),
+        Op::Further { opcode, .. } => !is_in_profile(opcode),
         Op::Forget { .. }
         | Op::Getattr { .. }
         | Op::Setattr(_)

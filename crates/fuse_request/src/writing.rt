@@ -195,6 +195,6 @@ pub(crate) fn put_body(out: &mut Vec<u8>, op: &Op<'_>) -> Result<(), Memory>
             let count = (items.len() / FORGET_ONE) as u32;
             put_fields(out, &[U32(count), Unused(4), Bytes(items)])
         }
-        Op::Unsupported { body, .. } => put_fields(out, &[Bytes(body)]),
+        Op::Further { body, .. } => put_fields(out, &[Bytes(body)]),
     }
 }

@@ -9,7 +9,7 @@ use Rattle.fuse_request.specs.Classes.{class_for}
 use Rattle.std.proofs.Common.{zero, suc, get_or}
 use Rattle.fuse_keeper.specs.declared.keeper.Done.{Done}
 use Rattle.fuse_keeper.specs.History.{Entry, entry_id, History, has, grown, repeats}
-use Rattle.fuse_session.proofs.Standing.{grown-append}
+use Rattle.fuse_keeper.proofs.Histories.{grown-append}
 use Rattle.fuse_session.specs.declared.counts.SessionCounts.{SessionCounts}
 use Rattle.fuse_session.specs.Processed.{Timed, bytes_of, kept_in, entries_at, entry_if, timed_entry}
 use Rattle.fuse_session.specs.Counting.{plus, none_counted, counted_one, counted, one_if, is_interrupt}

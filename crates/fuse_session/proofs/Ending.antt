@@ -9,8 +9,9 @@ use Rattle.fuse_keeper.specs.Model.{Model}
 use Rattle.fuse_keeper.specs.History.{entry_id, History, add, said, grown}
 use Rattle.fuse_session.specs.Processed.{Timed, kept_in, entries_at, entry_if, timed_entry, message_id, destroys, destroys_by, says_zero, GoesOn, Works, EndsLast, LastDestroys}
 use Rattle.fuse_session.specs.inner.Group.{NoZero, NoDestroy, DestroyLast, last_zero}
-use Rattle.fuse_session.proofs.Outs.{told, told-append, kept_in-append}
-use Rattle.fuse_session.proofs.Standing.{grown-append}
+use Rattle.fuse_session.proofs.Outs.{kept_in-append}
+use Rattle.fuse_keeper.proofs.Performing.{told, told-append}
+use Rattle.fuse_keeper.proofs.Histories.{grown-append}
 
 two_ways : (b : Bool) → b ≡ true → b ≡ false → ⊥
 two_ways true t f = cc

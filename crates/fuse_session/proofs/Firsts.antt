@@ -1,5 +1,5 @@
 -- Up to the first message that comes again: the first messages of a group, and of several.
-use Rattle.std.proofs.Common.{◌≡◌, ◌⊎◌, inl, inr, ℕ, zero, suc, ◌≤◌, Bool, true, false, if◌then◌else◌, List, [], ◌∷◌, ◌++◌, length, map, take, All, Option, Some, None}
+use Rattle.std.proofs.Common.{◌≡◌, ◌⊎◌, inl, inr, ℕ, zero, suc, ◌≤◌, Bool, true, List, [], ◌∷◌, ◌++◌, length, map, take, All, Some}
 use Rattle.std.proofs.Common.{refl, sym, ap, subst, ◌∙◌, arith}
 use Rattle.std.proofs.lemmas.List.{length-map, map-append}
 use Rattle.fuse_answer.specs.Said.{Said}
@@ -8,19 +8,21 @@ use Rattle.fuse_request.specs.declared.class.Class.{Class}
 use Rattle.fuse_request.specs.declared.class.Class.TheVariants.{Silent, Bare, Kept}
 use Rattle.fuse_request.specs.Classes.{class_for}
 use Rattle.fuse_keeper.specs.declared.keeper.Done.{Done}
-use Rattle.fuse_keeper.specs.History.{Entry, entry_id, History, after, grown, said, is_in, Includes, IsUnsettled}
-use Rattle.fuse_keeper.specs.Model.{Model, IsRowed}
-use Rattle.fuse_keeper.specs.Stands.{Content, Records, Stands, without}
-use Rattle.fuse_keeper.specs.KeeperState.{KeeperState, StandsFor, ActsOn}
-use Rattle.fuse_keeper.specs.Taking.{Took, TakesAll, GroupsGrow}
+use Rattle.fuse_keeper.specs.History.{Entry, entry_id, History, grown, said, is_in, Includes, IsUnsettled}
+use Rattle.fuse_keeper.specs.Model.{Model}
+use Rattle.fuse_keeper.specs.KeeperState.{KeeperState, ActsOn}
+use Rattle.fuse_keeper.specs.Taking.{GroupsGrow}
 use Rattle.fuse_keeper.specs.Group.{handed_to}
-use Rattle.fuse_session.specs.Processed.{Timed, bytes_of, kept_in, entries_at, entry_if, timed_entry, message_id, unique_of, answer_by, answered, answers, Works}
-use Rattle.fuse_session.specs.Settling.{Mark, replies, settles, NoneComesAgain}
+use Rattle.fuse_session.specs.Processed.{Timed, bytes_of, kept_in, entries_at, entry_if, timed_entry, message_id, unique_of, answer_by, answered, answers_to, Works}
+use Rattle.fuse_session.specs.Settling.{Mark, replies, settles_by_mark, NoneComesAgain}
 use Rattle.fuse_session.specs.Exchange.{FirstAnswered}
 use Rattle.fuse_session.specs.inner.Group.{answers_in, head_wire, left_by, wires}
-use Rattle.fuse_session.proofs.Standing.{standing, exchanged, unsettled_too}
-use Rattle.fuse_session.proofs.Settled.{in_either, includes_left, includes_right, group_unsettled}
+use Rattle.fuse_session.proofs.Standing.{exchanged}
+use Rattle.fuse_keeper.proofs.Standing.{unsettled_too}
+use Rattle.fuse_session.proofs.Settled.{group_unsettled}
+use Rattle.fuse_keeper.proofs.Settled.{in_either}
 use Rattle.fuse_session.proofs.Outs.{kept_in-append}
+use Rattle.fuse_keeper.proofs.Firsts.{first_said}
 
 -- ---- lists
 
@@ -69,7 +71,7 @@ pub again_some : (V : OpcodeSet) (c : Bool) (t : List ℕ) (ms : List (List ℕ)
     → NoneComesAgain V c t ms xs
 again_some V c t [] xs ys few again = tt
 again_some V c t (m ∷ ms) [] ys few again = absurd (omega (arith, few))
-again_some V c t (m ∷ ms) (x ∷ xs) ys few again = (again.0, again_some V c (t ++ settles V c m x) ms xs ys (omega (arith, few)) again.1)
+again_some V c t (m ∷ ms) (x ∷ xs) ys few again = (again.0, again_some V c (t ++ settles_by_mark V c m x) ms xs ys (omega (arith, few)) again.1)
 
 -- ---- what the first of a list of answers sends
 
@@ -99,7 +101,7 @@ left_parts M s g Kept e es (a ∷ list) others are = refl
 
 wires_first : (M : Model) (s : M.State) (g : History) (first later : List Timed) (list others : List Said)
     → map (λ a. Some a) list ≡ map (λ e. said M s g (entry_id e)) (kept_in M.serves first)
-    → wires M.serves (bytes_of (first ++ later)) (list ++ others) ≡ answers M s g first ++ wires M.serves (bytes_of later) others
+    → wires M.serves (bytes_of (first ++ later)) (list ++ others) ≡ answers_to M s g first ++ wires M.serves (bytes_of later) others
 wires_first M s g [] later [] others are = refl
 wires_first M s g [] later (a ∷ list) others are = absurd (cc are)
 wires_first M s g (t ∷ first) later list others are =
@@ -109,71 +111,6 @@ wires_first M s g (t ∷ first) later list others are =
     ∙ ap (λ (l : List Said). answered M s g t ∷ wires M.serves (bytes_of (first ++ later)) l) (left_parts M s g class (timed_entry t) es list others are)
     ∙ ap (λ ws. answered M s g t ∷ ws)
     (wires_first M s g first later (left_by class list) others (left_says M s g class (timed_entry t) es list are))
-
--- ---- the first entries of a group
-
-record TakenFirst (M : Model) (before : Content M) (first : List Entry) (dones : List Done) : Type 0 where
-  held : Content M
-  some : List Done
-  others : List Done
-  parts : dones ≡ some ++ others
-  taken : TakesAll M before first held some
-
-taken_more : (M : Model) (before : Content M) (e : Entry) (first : List Entry) (mid : Content M) (done : Done) (dones : List Done)
-    → Took M before e mid done → TakenFirst M mid first dones → TakenFirst M before (e ∷ first) (done ∷ dones)
-taken_more M before e first mid done dones took more = record {
-  held = more.held;
-  some = done ∷ more.some;
-  others = more.others;
-  parts = ap (λ (ds : List Done). done ∷ ds) more.parts;
-  taken = (mid, took, more.taken);
-}
-
-taken_first : (M : Model) (before : Content M) (first later : List Entry) (after : Content M) (dones : List Done)
-    → TakesAll M before (first ++ later) after dones → TakenFirst M before first dones
-taken_first M before [] later after dones taken =
-    record { held = before; some = []; others = dones; parts = refl; taken = (refl, λ i. refl) }
-taken_first M before (e ∷ first) later after [] taken = absurd taken
-taken_first M before (e ∷ first) later after (done ∷ dones) taken =
-    taken_more M before e first taken.0 done dones taken.1 (taken_first M taken.0 first later after dones taken.2)
-
--- what stands without the records of settled ids
-right_without : (b : Bool) (o : Option Said) (a : Said) → (if b then None else o) ≡ Some a → o ≡ Some a
-right_without true o a is = absurd (cc is)
-right_without false o a is = is
-
-Stands-without : (M : Model) (rows : M.Rows) (records : Records) (s : M.State) (h : History) (t handed : List ℕ) → Stands M rows records s h t
-    → Stands M rows (without handed records) s h (t ++ handed)
-Stands-without M rows records s h t handed so = record {
-  tree = so.tree;
-  distinct = so.distinct;
-  rows_are = so.rows_are;
-  right = λ i a is. so.right i a (right_without (is_in handed i) (records i) a is);
-  kept = λ i fresh.
-      ap (λ b. if b then None else records i) (unsettled_too (t ++ handed) handed i (includes_right t handed) fresh)
-      ∙ so.kept i (unsettled_too (t ++ handed) t i (includes_left t handed) fresh);
-}
-
--- the answers to the first entries are those that are said where just these are added
-record FirstSaid (M : Model) (s : M.State) (g : History) (first : List Entry) (dones : List Done) : Type 0 where
-  some : List Done
-  others : List Done
-  parts : dones ≡ some ++ others
-  says : map (λ (d : Done). Some d.answer) some ≡ map (λ e. said M s g (entry_id e)) first
-
-first_said : (M : Model) → GroupsGrow M → (k k' : KeeperState M) (handed : List ℕ) (group first later : List Entry) (dones : List Done)
-    → ActsOn k k' handed group dones → group ≡ first ++ later → k'.is_honest → (s : M.State) (h : History) (t : List ℕ) → StandsFor k s h t
-    → All (IsUnsettled (t ++ handed)) first → FirstSaid M s (grown h first) first dones
-unfolding IsRowed
-first_said M grows k k' handed group first later dones acts parts honest s h t so fresh =
-    let done = acts honest so.rows so.records so.held (after M s h, so.stands.tree, so.stands.rows_are) in
-    let before : Content M = record { rows = so.rows; records = without handed so.records } in
-    let held : Content M = record { rows = done.rows; records = done.records } in
-    let taken = subst (λ (g : List Entry). TakesAll M before g held dones) parts done.taken in
-    let some = taken_first M before first later held dones taken in
-    let performed = grows.taken_is_performed before first some.held some.some (standing M s h (t ++ handed))
-    (Stands-without M so.rows so.records s h t handed so.stands) fresh some.taken in
-    record { some = some.some; others = some.others; parts = some.parts; says = performed.answers }
 
 -- ---- a group
 
@@ -205,11 +142,11 @@ group_first M grows holds holds' c pending ts es dones marks later works is acts
     let f = first_said M grows holds holds' handed es (kept_in V first) (kept_in V others) dones acts (is ∙ ap (kept_in V) parts ∙ kept_in-append V first others)
     honest s h t so fresh in
     let g = grown h (kept_in V first) in
-    let split : answers M s g first ++ wires V (bytes_of others) (answers_in f.others) ≡ replies marks ++ later =
+    let split : answers_to M s g first ++ wires V (bytes_of others) (answers_in f.others) ≡ replies marks ++ later =
     sym (wires_first M s g first others (answers_in f.some) (answers_in f.others) (same_answers f.some ∙ f.says))
     ∙ ap (wires V (bytes_of (first ++ others))) (sym (map-append (λ (d : Done). d.answer) f.some f.others) ∙ sym (ap answers_in f.parts))
     ∙ ap (λ (l : List Timed). wires V (bytes_of l) (answers_in dones)) (sym parts) ∙ whole in
-    let r = answers_begin (answers M s g first) (wires V (bytes_of others) (answers_in f.others)) marks later split in
+    let r = answers_begin (answers_to M s g first) (wires V (bytes_of others) (answers_in f.others)) marks later split in
     record {
       works = works_first M s h first others (subst (Works M s h) parts (works s h));
       unsent = r.0;
@@ -225,6 +162,6 @@ pub first_unsent : (M : Model) → (holds : KeeperState M) (c : Bool) (pending :
     → FirstAnswered holds pending (exchanged c ts [])
 first_unsent M holds c pending ts works first others parts s h t so within again = record {
   works = works_first M s h first others (subst (Works M s h) parts (works s h));
-  unsent = answers M s (grown h (kept_in M.serves first)) first;
-  sent = ap (λ (l : List Mark). replies l ++ answers M s (grown h (kept_in M.serves first)) first) (sym (take_none (length first)));
+  unsent = answers_to M s (grown h (kept_in M.serves first)) first;
+  sent = ap (λ (l : List Mark). replies l ++ answers_to M s (grown h (kept_in M.serves first)) first) (sym (take_none (length first)));
 }

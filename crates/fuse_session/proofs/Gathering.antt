@@ -125,7 +125,7 @@ spoken : (s e : Bool) → s ≡ false → (not s && e) ≡ false → e ≡ false
 spoken true e isnt both = absurd (cc isnt)
 spoken false e isnt both = both
 
-has_id : (V : OpcodeSet) → (m : List ℕ) (t : Moment) → class_for V m ≡ Kept → is_zero m ≡ false → HasId (message_entry m t)
+pub has_id : (V : OpcodeSet) → (m : List ℕ) (t : Moment) → class_for V m ≡ Kept → is_zero m ≡ false → HasId (message_entry m t)
 has_id V m t kept named = not_zero (id_of (raw_of m).unique) (spoken (silent (raw_of m).opcode) (id_of (raw_of m).unique == 0) (kept_speaks V m kept) named)
 
 pub named_some : (V : OpcodeSet) → (bytes : List ℕ) (taken taken' : List (Request × Moment)) (one : Request × Moment) (t : Moment) → All HasId (entries_of taken)

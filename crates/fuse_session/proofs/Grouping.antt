@@ -21,7 +21,7 @@ use Rattle.fuse_keeper.specs.Performance.{Performance, performances_of, IsPerfor
 use Rattle.fuse_session.specs.declared.port.Sent.{Sent}
 use Rattle.fuse_session.specs.Clock.{IsLog}
 use Rattle.fuse_session.specs.Deeds.{Deeds, Did}
-use Rattle.fuse_session.specs.Grouping.{asked_in, is_kept, one_group, ends_group, groups_after, groups_of, turns_of, groups_in, groups_asked}
+use Rattle.fuse_session.specs.Grouping.{asked_in, is_kept_class, one_group, ends_group, groups_after, groups_of, turns_of, groups_in, groups_asked}
 use Rattle.fuse_session.specs.Processed.{Timed, bytes_of, kept_in, entry_if, message_entry}
 use Rattle.fuse_session.specs.inner.Group.{Gathers, IsStuck}
 use Rattle.fuse_session.specs.Transcript.{PortEvent, Received, Handed, received_in, sends_of, IsTranscript}
@@ -41,7 +41,7 @@ abbrev class_then : OpcodeSet → List Asked → List ℕ → List (List ℕ) �
 class_then V so_far m ms kept = if not kept then groups_after V so_far ms else kept_then V so_far m ms (ends_group (length so_far) m)
 
 abbrev zero_then : OpcodeSet → List Asked → List ℕ → List (List ℕ) → Bool → List (List Asked)
-zero_then V so_far m ms zero = if zero then one_group so_far else class_then V so_far m ms (is_kept (class_for V m))
+zero_then V so_far m ms zero = if zero then one_group so_far else class_then V so_far m ms (is_kept_class (class_for V m))
 
 next_is : (V : OpcodeSet) (so_far : List Asked) (rest : List (List ℕ)) (full : Bool) → nat_lt 15 (length so_far) ≡ full
     → groups_next V so_far rest ≡ (if full then so_far ∷ groups_after V [] rest else groups_after V so_far rest)
@@ -70,18 +70,18 @@ next_zero V so_far m ms few zero =
     ∙ ap (λ (r : List (List Asked)). one_group so_far ++ r) (sym (ap (zero_then V [] m ms) zero))
 
 next_class : (V : OpcodeSet) (so_far : List Asked) (m : List ℕ) (ms : List (List ℕ)) (kept : Bool) → nat_lt 15 (length so_far) ≡ false → is_zero m ≡ false
-    → is_kept (class_for V m) ≡ kept → groups_next V so_far (m ∷ ms) ≡ class_then V so_far m ms kept
+    → is_kept_class (class_for V m) ≡ kept → groups_next V so_far (m ∷ ms) ≡ class_then V so_far m ms kept
 next_class V so_far m ms kept few named is =
     next_is V so_far (m ∷ ms) false few ∙ ap (zero_then V so_far m ms) named ∙ ap (class_then V so_far m ms) is
 
 -- the next one isn't kept
 next_none : (V : OpcodeSet) (so_far : List Asked) (m : List ℕ) (ms : List (List ℕ)) → nat_lt 15 (length so_far) ≡ false → is_zero m ≡ false
-    → is_kept (class_for V m) ≡ false → groups_next V so_far (m ∷ ms) ≡ groups_next V so_far ms
+    → is_kept_class (class_for V m) ≡ false → groups_next V so_far (m ∷ ms) ≡ groups_next V so_far ms
 next_none V so_far m ms few named isnt = next_class V so_far m ms false few named isnt ∙ sym (next_is V so_far ms false few)
 
 -- the next one is kept, and no DESTROY
 next_some : (V : OpcodeSet) (so_far : List Asked) (m : List ℕ) (ms : List (List ℕ)) → nat_lt 15 (length so_far) ≡ false → is_zero m ≡ false
-    → is_kept (class_for V m) ≡ true → ((raw_of m).opcode == fuse_destroy) ≡ false
+    → is_kept_class (class_for V m) ≡ true → ((raw_of m).opcode == fuse_destroy) ≡ false
     → groups_next V so_far (m ∷ ms) ≡ groups_next V (so_far ++ asked_at m ∷ []) ms
 next_some V so_far m ms few named kept isnt =
     next_class V so_far m ms true few named kept
@@ -89,7 +89,7 @@ next_some V so_far m ms few named kept isnt =
 
 -- the next one is a DESTROY
 next_destroy : (V : OpcodeSet) (so_far : List Asked) (m : List ℕ) (ms : List (List ℕ)) → nat_lt 15 (length so_far) ≡ false → is_zero m ≡ false
-    → is_kept (class_for V m) ≡ true → ((raw_of m).opcode == fuse_destroy) ≡ true
+    → is_kept_class (class_for V m) ≡ true → ((raw_of m).opcode == fuse_destroy) ≡ true
     → groups_next V so_far (m ∷ ms) ≡ one_group (so_far ++ asked_at m ∷ []) ++ groups_of V ms
 next_destroy V so_far m ms few named kept is =
     next_class V so_far m ms true few named kept
@@ -98,12 +98,12 @@ next_destroy V so_far m ms few named kept is =
 
 -- ---- the loop over them
 
-kept_none : (class : Class) (e : Entry) → [] ≡ entry_if class e → is_kept class ≡ false
+kept_none : (class : Class) (e : Entry) → [] ≡ entry_if class e → is_kept_class class ≡ false
 kept_none Silent e is = refl
 kept_none (Bare errno) e is = refl
 kept_none Kept e is = absurd (cc is)
 
-kept_one : (class : Class) (x e : Entry) → x ∷ [] ≡ entry_if class e → (is_kept class ≡ true) × (x ≡ e)
+kept_one : (class : Class) (x e : Entry) → x ∷ [] ≡ entry_if class e → (is_kept_class class ≡ true) × (x ≡ e)
 kept_one Silent x e is = absurd (cc is)
 kept_one (Bare errno) x e is = absurd (cc is)
 kept_one Kept x e is = (refl, cc is)

@@ -24,7 +24,8 @@ use Rattle.fuse_session.specs.inner.Turn.{Mute}
 use Rattle.fuse_session.specs.declared.port.Sent.{Sent}
 use Rattle.fuse_keeper.specs.Taking.{GroupsGrow}
 use Rattle.fuse_session.proofs.Firsts.{group_first, first_unsent, same_answers}
-use Rattle.fuse_session.proofs.Standing.{standing, exchanged, StandAt, Stands-same, Stands-settled}
+use Rattle.fuse_session.proofs.Standing.{standing, exchanged, StandAt}
+use Rattle.fuse_keeper.proofs.Standing.{Stands-same}
 use Rattle.fuse_session.specs.declared.ended.Ended.{Ended}
 use Rattle.fuse_session.specs.declared.ended.Ended.TheVariants.{Store as ByStore}
 use Rattle.fuse_session.specs.Ended.{ended_store, ended_between, MayEnd}
@@ -36,36 +37,24 @@ use Rattle.fuse_session.specs.declared.group.Next.TheVariants.{ZeroUnique}
 use Rattle.fuse_session.specs.declared.fault.Fault.{Fault}
 use Rattle.fuse_session.specs.declared.fault.Fault.TheVariants.{PortFailed, Store, Memory}
 use Rattle.fuse_session.specs.Port.{PortState}
-use Rattle.fuse_session.specs.Processed.{Timed, bytes_of, kept_in, entry_if, timed_entry, answers, Works, StartsZero, moments_in}
+use Rattle.fuse_session.specs.Processed.{Timed, bytes_of, kept_in, entry_if, timed_entry, answers_to, Works, StartsZero, moments_in}
 use Rattle.fuse_session.specs.Settling.{Mark, replies, settled_in, NoneComesAgain, SentUpTo, Replied, FewHave}
 use Rattle.fuse_session.specs.inner.Group.{Gathers, IsStuck, answers_in, repeats_in, wires, left_by, tallied, rest_by, last_zero, AreEnough}
-use Rattle.fuse_session.proofs.Outs.{told, wires_are, told_is, answers_are_outs, outs_prefix}
+use Rattle.fuse_session.proofs.Outs.{wires_are, answers_are_outs, outs_prefix}
+use Rattle.fuse_keeper.proofs.Performing.{told, told_is}
 use Rattle.fuse_session.specs.inner.Sending.{sending, SentAll, SentSome}
 use Rattle.fuse_session.specs.Exchange.{Exchange, grown_by, HoldsAt, Lived, Exact}
-use Rattle.fuse_session.specs.Serving.{Turned, Broken, lasts}
+use Rattle.fuse_session.specs.Serving.{TookTurn, Broken, lasts}
 use Rattle.fuse_session.proofs.Replies.{replied_none}
 use Rattle.fuse_session.proofs.Batching.{one_batch, are_one, asked_one, left_one, some_all}
 use Rattle.fuse_session.proofs.Transcripts.{handed_sends}
 use Rattle.fuse_session.proofs.Ending.{works_group, goes_none, goes_last, ends_last}
-use Rattle.fuse_session.proofs.Settled.{includes_left, group_unsettled, settled_none}
+use Rattle.fuse_session.proofs.Settled.{group_unsettled, settled_none}
 use Rattle.fuse_session.proofs.Handing.{few_kept, few_same, few_sent, few_unsent}
 use Rattle.fuse_session.proofs.Counted.{tallied_is}
+use Rattle.fuse_keeper.proofs.Settled.{includes_left, stands_later, stands_kept}
 
 -- ---- what stands, and what a crash leaves
-
-pub stands_later : (M : Model) → (holds : KeeperState M) (s : M.State) (h : History) (t u : List ℕ) → Includes u t → StandsFor holds s h t
-    → StandsFor holds s h u
-stands_later M holds s h t u more so = record {
-  rows = so.rows;
-  records = so.records;
-  held = so.held;
-  stands =
-      Stands-settled M so.rows so.records s h t u more so.stands;
-}
-
-pub stands_kept : (M : Model) → (holds holds' : KeeperState M) (s : M.State) (h : History) (t : List ℕ) → KeepsHeld holds holds' → StandsFor holds s h t
-    → StandsFor holds' s h t
-stands_kept M holds holds' s h t keeps so = record { rows = so.rows; records = so.records; held = keeps so.rows so.records so.held; stands = so.stands }
 
 pub leaves_map : (M : Model) → (left : KeeperState M) (P Q : M.Rows → Records → Type 0) → ((x : M.Rows) (r : Records) → P x r → Q x r) → Leaves left P
     → Leaves left Q
@@ -94,7 +83,7 @@ lived_none M Stood s h c t timed so = record {
 -- all of it was
 pub lived_all : (M : Model) → (Stood : Standing M → Type 0) (at : Standing M) (x : Exchange) (answer : List ℕ)
     → Works M at.state at.history x.timed → Stood (grown_by at x)
-    → SentUpTo (answers M at.state (grown at.history (kept_in M.serves x.timed)) x.timed) x.marks answer → Lived M at x Stood answer
+    → SentUpTo (answers_to M at.state (grown at.history (kept_in M.serves x.timed)) x.timed) x.marks answer → Lived M at x Stood answer
 lived_all M Stood at x answer works so sent = record {
   worked = x.timed;
   unprocessed = [];
@@ -119,7 +108,7 @@ exact_none M Stood s h c t timed so = record {
 -- exactly all of it was
 pub exact_all : (M : Model) → (Stood : Standing M → Type 0) (at : Standing M) (x : Exchange)
     → Works M at.state at.history x.timed → Stood (grown_by at x)
-    → replies x.marks ≡ answers M at.state (grown at.history (kept_in M.serves x.timed)) x.timed → Exact M at x Stood
+    → replies x.marks ≡ answers_to M at.state (grown at.history (kept_in M.serves x.timed)) x.timed → Exact M at x Stood
 exact_all M Stood at x works so sent = record {
   worked = x.timed;
   unprocessed = [];
@@ -175,7 +164,7 @@ stored M s h c t ts es x r is works either = ⊎_elim
     (λ before. lived_none M (StandAt M x r) s h c t ts before)
     (λ after. lived_all M (StandAt M x r) (standing M s h t) (exchanged c ts []) [] works
     (subst (λ u. Stands M x r s (grown h (kept_in M.serves ts)) u) (sym (ap (λ (q : List ℕ). t ++ q) (settled_none M.serves c (bytes_of ts)) ∙ append-nil t))
-    (subst (λ l. Stands M x r s (grown h l) t) is after)) (record { later = answers M s (grown h (kept_in M.serves ts)) ts; first = refl; next = inl refl }))
+    (subst (λ l. Stands M x r s (grown h l) t) is after)) (record { later = answers_to M s (grown h (kept_in M.serves ts)) ts; first = refl; next = inl refl }))
     either
 
 pub broken_store : (M : Model) → (holds holds' : KeeperState M) (gave : List Moment → Type 0) (performed : List Performance → Type 0)
@@ -231,11 +220,11 @@ broken_store M holds holds' gave performed became p pending messages count taken
 says_told : (M : Model) → HistoriesGrow M → (holds : KeeperState M) (s : M.State) (h : History) (t : List ℕ) (es : List Entry) (ts : List Timed)
     (dones : List Done) → Performed holds s h t es dones → es ≡ kept_in M.serves ts
     → map (λ a. Some a) (answers_in dones) ≡ told M s h (kept_in M.serves ts)
-says_told M grows holds s h t es ts dones done is = same_answers dones ∙ done.answers ∙ told_is M grows s h es ∙ ap (told M s h) is
+says_told M grows holds s h t es ts dones done is = same_answers dones ∙ done.answers ∙ told_is M s h es ∙ ap (told M s h) is
 
 sent_are : (M : Model) → HistoriesGrow M → (holds : KeeperState M) (s : M.State) (h : History) (t : List ℕ) (es : List Entry) (ts : List Timed)
     (prefix : List (List ℕ)) (dones : List Done) → Performed holds s h t es dones → es ≡ kept_in M.serves ts
-    → prefix ≡ bytes_of ts → wires M.serves prefix (answers_in dones) ≡ answers M s (grown h (kept_in M.serves ts)) ts
+    → prefix ≡ bytes_of ts → wires M.serves prefix (answers_in dones) ≡ answers_to M s (grown h (kept_in M.serves ts)) ts
 sent_are M grows holds s h t es ts prefix dones done is bytes = ap (λ f. wires M.serves f (answers_in dones)) bytes ∙ wires_are M grows s h ts (answers_in dones)
     (says_told M grows holds s h t es ts dones done is)
 
@@ -403,7 +392,7 @@ pub turned : (M : Model) → HistoriesGrow M → GroupsGrow M → (holds holds' 
     → ActsOn holds holds' (handed_to (entries_of group) pending) (entries_of group) dones
     → SentAll M.serves (sending became p q mid pending') prefix (wires M.serves prefix (answers_in list)) → list ≡ dones → rest ≡ rest_by (ends && last_zero (answers_in list)) stuck
     → counts ≡ tallied M.serves prefix (repeats_in list)
-    → Turned (passage holds holds' p q (Mute (Did gave performed_so became))) pending pending' (take count messages) (lasts rest) counts
+    → TookTurn (passage holds holds' p q (Mute (Did gave performed_so became))) pending pending' (take count messages) (lasts rest) counts
 turned M grows groups holds holds' gave performed_so became p q pending mid pending' messages count taken ends group prefix dones list stuck rest counts gathers same asked left same_prefix performed
     few size acts sent same_list is counts_are =
     let all = subst (λ l. SentAll M.serves (sending became p q mid pending') prefix (wires M.serves prefix (answers_in l))) same_list sent in

@@ -6,7 +6,7 @@ use Rattle.std.proofs.Math.Seq.{take-append-add, drop-append-add}
 use Rattle.std.specs.Io.KnownBytes.{Appends, Consumes}
 use Rattle.fuse_request.specs.declared.framer.FrameFault.{FrameFault}
 use Rattle.fuse_request.specs.Stream.{cut, joined, CutJoins}
-use Rattle.fuse_request.specs.Framing.{Held}
+use Rattle.fuse_request.specs.Framing.{HeldBytes}
 use Rattle.fuse_keeper.specs.History.{HistoriesGrow}
 use Rattle.fuse_keeper.specs.Model.{Model}
 use Rattle.fuse_keeper.specs.KeeperState.{KeeperState, IsFirm, AnswersNoMore}
@@ -22,7 +22,7 @@ use Rattle.fuse_session.specs.inner.Receiving.{IsHearing, Heard, Comes}
 use Rattle.fuse_session.specs.Ended.{ended_store}
 use Rattle.fuse_session.specs.Passage.{passage}
 use Rattle.fuse_session.specs.Processed.{StartsZero}
-use Rattle.fuse_session.specs.Serving.{Turned, Broken, ProcessedAll, Waiting, nothing_waits, Whole, Run, lasts, goes_on}
+use Rattle.fuse_session.specs.Serving.{TookTurn, Broken, ProcessedAll, Waiting, nothing_waits, Whole, Run, lasts, goes_on}
 use Rattle.fuse_session.specs.Ends.{Halted}
 use Rattle.fuse_session.specs.inner.Turn.{waits}
 use Rattle.fuse_session.proofs.Bytes.{appends_none, consumes_none, consumes_more}
@@ -85,7 +85,7 @@ whole_more M grows joins holds mid new did did' did'' p q r w w' w'' counts coun
   came = consumes_more p.coming q.coming r.coming one.received two.received one.came two.came;
   rest_is = two.rest_is ∙ rest_more joins w.bytes w'.bytes one.received two.received one.rest_is;
   at = place_more joins w.bytes w'.bytes one.received two.received w.at w'.at w''.at one.rest_is one.at two.at;
-  turned = subst (λ f. Turned (passage holds new p r (Hears did'' (one.received ++ two.received))) w.pending w''.pending f true (plus counts counts'))
+  turned = subst (λ f. TookTurn (passage holds new p r (Hears did'' (one.received ++ two.received))) w.pending w''.pending f true (plus counts counts'))
       (prefix_more joins w.bytes w'.bytes one.received two.received one.rest_is)
       (turned_more M grows holds mid new (Hears did one.received) (Hears did' two.received) (Hears did'' (one.received ++ two.received)) p q r
       w.pending w'.pending w''.pending (cut (w.bytes ++ one.received)).0 (cut (w'.bytes ++ two.received)).0 true counts
@@ -114,7 +114,7 @@ halted_more M grows joins holds mid new did did' did'' p q r w w' next count pla
           (record {
             all = λ goes. drop-append-add a b count ∙ t.all goes;
             zero = λ zero. subst StartsZero (sym (drop-append-add a b count)) (t.zero zero);
-            turned = subst (λ f. Turned (passage holds new p r (Hears did'' (one.received ++ two.received))) w.pending two.pending' f (lasts next)
+            turned = subst (λ f. TookTurn (passage holds new p r (Hears did'' (one.received ++ two.received))) w.pending two.pending' f (lasts next)
                 (plus counts counts')) (sym (take-append-add a b count))
                 (turned_more M grows holds mid new (Hears did one.received) (Hears did' two.received) (Hears did'' (one.received ++ two.received)) p q r
                 w.pending w'.pending two.pending' a (take count b) (lasts next) counts counts' one.turned t.turned honest_too
@@ -171,7 +171,7 @@ whole_none M holds did p none = record {
   came = consumes_none p.coming;
   rest_is = sym (ap (λ (x : List (List ℕ) × List ℕ). x.1) cut_none);
   at = omega (arith, ap (λ (x : List (List ℕ) × List ℕ). length (joined x.0)) cut_none);
-  turned = subst (λ f. Turned (passage holds holds p p (Hears did [])) [] [] f true none_counted) (sym (ap (λ (x : List (List ℕ) × List ℕ). x.0) cut_none))
+  turned = subst (λ f. TookTurn (passage holds holds p p (Hears did [])) [] [] f true none_counted) (sym (ap (λ (x : List (List ℕ) × List ℕ). x.0) cut_none))
       (turned_none M holds (Hears did []) p [] (none, refl));
 }
 
@@ -179,27 +179,27 @@ whole_none M holds did p none = record {
 
 -- one receive, as a turn in which nothing was done but this
 quiet_heard : (M : Model) → (holds : KeeperState M) (p q : PortState) (ids : List ℕ) (result : Receipt) (bytes : List ℕ) → IsHearing p q
-    → Turned (passage holds holds p q (λ d. d ≡ one_heard result bytes)) ids ids [] true none_counted
+    → TookTurn (passage holds holds p q (λ d. d ≡ one_heard result bytes)) ids ids [] true none_counted
 quiet_heard M holds p q ids result bytes hearing =
     turned_quiet M holds (λ d. d ≡ one_heard result bytes) p q ids (one_heard result bytes) refl refl refl refl (hearing_replied p q hearing)
 
 heard_turned : (M : Model) → HistoriesGrow M → (holds new : KeeperState M) → (new.is_honest → holds.is_honest)
     → (did did' : Deeds → Type 0) (p q r : PortState) (ids ids' : List ℕ) (prefix : List (List ℕ)) (going : Bool) (counts : SessionCounts) (result : Receipt)
     (bytes : List ℕ) → ((b : Deeds) → did b → Hears did' bytes (then_did (one_heard result bytes) b)) → IsHearing p q
-    → Turned (passage holds new q r did) ids ids' prefix going counts → Turned (passage holds new p r (Hears did' bytes)) ids ids' prefix going counts
+    → TookTurn (passage holds new q r did) ids ids' prefix going counts → TookTurn (passage holds new p r (Hears did' bytes)) ids ids' prefix going counts
 heard_turned M grows holds new honest did did' p q r ids ids' prefix going counts result bytes onward hearing t =
-    subst (λ c. Turned (passage holds new p r (Hears did' bytes)) ids ids' prefix going c) (none_plus counts)
+    subst (λ c. TookTurn (passage holds new p r (Hears did' bytes)) ids ids' prefix going c) (none_plus counts)
     (let quiet = quiet_heard M holds p q ids result bytes hearing in
     turned_more M grows holds holds new (λ d. d ≡ one_heard result bytes) did (Hears did' bytes) p q r ids ids ids' [] prefix going none_counted counts
     quiet t honest (λ b x. subst (λ d. Hears did' bytes (then_did d b)) (sym quiet.work.done) (onward b x)))
 
 -- the messages that wait are those of the bytes that came
-pub heard_messages : (comes : List ℕ → Type 0) (before after : Held) (messages slice : List (List ℕ)) (fault : Option FrameFault)
+pub heard_messages : (comes : List ℕ → Type 0) (before after : HeldBytes) (messages slice : List (List ℕ)) (fault : Option FrameFault)
     → (h : Heard comes before after messages fault) → slice ≡ messages → slice ≡ (cut (before.bytes ++ h.received)).0
 heard_messages comes before after messages slice fault h same = same ∙ sym (ap (λ (x : List (List ℕ) × List ℕ). x.0) h.took.cut_is)
 
 pub whole_heard : (M : Model) → HistoriesGrow M → (holds new : KeeperState M) → (new.is_honest → holds.is_honest)
-    → (did did' : Deeds → Type 0) (became : List PortEvent → Type 0) (p q r : PortState) (ids ids' : List ℕ) (before after : Held) (messages slice : List (List ℕ)) (fault : Option FrameFault)
+    → (did did' : Deeds → Type 0) (became : List PortEvent → Type 0) (p q r : PortState) (ids ids' : List ℕ) (before after : HeldBytes) (messages slice : List (List ℕ)) (fault : Option FrameFault)
     (progress : Progress)
     → (h : Heard (Comes became p q) before after messages fault)
     → ((b : Deeds) → did b → Hears did' h.received (then_did (one_heard h.came.result h.received) b)) → IsHearing p q → slice ≡ messages → progress.next ≡ GoesOnHere
@@ -214,14 +214,14 @@ whole_heard M grows holds new honest did did' became p q r ids ids' before after
       came = subst (λ o. Consumes p.coming o h.received) (sym quiet.coming) h.came.bytes;
       rest_is = sym (ap (λ (x : List (List ℕ) × List ℕ). x.1) h.took.cut_is);
       at = h.took.at ∙ ap (λ x. before.at + length (joined x)) (sym same ∙ msgs);
-      turned = subst (λ f. Turned (passage holds new p r (Hears did' h.received)) ids ids' f true progress.counts) (all ∙ msgs)
-          (subst (λ b. Turned (passage holds new p r (Hears did' h.received)) ids ids' (take progress.count slice) b progress.counts) (ap lasts goes)
+      turned = subst (λ f. TookTurn (passage holds new p r (Hears did' h.received)) ids ids' f true progress.counts) (all ∙ msgs)
+          (subst (λ b. TookTurn (passage holds new p r (Hears did' h.received)) ids ids' (take progress.count slice) b progress.counts) (ap lasts goes)
           (heard_turned M grows holds new honest did did' p q r ids ids' (take progress.count slice) (lasts progress.next) progress.counts h.came.result h.received
           onward hearing w.turned));
     }
 
 pub halted_heard : (M : Model) → HistoriesGrow M → (holds new : KeeperState M) → (new.is_honest → holds.is_honest)
-    → (did did' : Deeds → Type 0) (became : List PortEvent → Type 0) (p q r : PortState) (ids ids' : List ℕ) (before after : Held) (messages slice : List (List ℕ)) (fault : Option FrameFault)
+    → (did did' : Deeds → Type 0) (became : List PortEvent → Type 0) (p q r : PortState) (ids ids' : List ℕ) (before after : HeldBytes) (messages slice : List (List ℕ)) (fault : Option FrameFault)
     (progress : Progress) (kind : Next)
     → (h : Heard (Comes became p q) before after messages fault)
     → ((b : Deeds) → did b → Hears did' h.received (then_did (one_heard h.came.result h.received) b)) → IsHearing p q → slice ≡ messages
@@ -239,7 +239,7 @@ halted_heard M grows holds new honest did did' became p q r ids ids' before afte
           (record {
             all = λ goes. w.all (ap goes_on kind_is ∙ goes);
             zero = λ zero. w.zero (kind_is ∙ zero);
-            turned = subst (λ b. Turned (passage holds new p r (Hears did' h.received)) ids ids' (take progress.count slice) b progress.counts) (ap lasts kind_is)
+            turned = subst (λ b. TookTurn (passage holds new p r (Hears did' h.received)) ids ids' (take progress.count slice) b progress.counts) (ap lasts kind_is)
                 (heard_turned M grows holds new honest did did' p q r ids ids' (take progress.count slice) (lasts progress.next) progress.counts h.came.result
                 h.received onward hearing w.turned);
           });
@@ -247,7 +247,7 @@ halted_heard M grows holds new honest did did' became p q r ids ids' before afte
     }
 
 pub life_heard : (M : Model) → HistoriesGrow M → (holds new : KeeperState M) → (new.is_honest → holds.is_honest)
-    → (did did' : Deeds → Type 0) (became : List PortEvent → Type 0) (p q r : PortState) (ids : List ℕ) (before after : Held) (messages slice : List (List ℕ)) (fault : Option FrameFault)
+    → (did did' : Deeds → Type 0) (became : List PortEvent → Type 0) (p q r : PortState) (ids : List ℕ) (before after : HeldBytes) (messages slice : List (List ℕ)) (fault : Option FrameFault)
     (e : Ended)
     → (h : Heard (Comes became p q) before after messages fault)
     → ((b : Deeds) → did b → Hears did' h.received (then_did (one_heard h.came.result h.received) b)) → IsHearing p q → slice ≡ messages

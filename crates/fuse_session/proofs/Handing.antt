@@ -6,7 +6,7 @@ use Rattle.fuse_wire.specs.declared.moment.Moment.{Moment}
 use Rattle.fuse_answer.specs.Said.{Said}
 use Rattle.fuse_request.specs.declared.request.Request.{Request}
 use Rattle.fuse_keeper.specs.History.{Entry, entry_id, is_in, ids_in, Includes, IsUnsettled}
-use Rattle.fuse_keeper.specs.Model.{Model, IsRowed}
+use Rattle.fuse_keeper.specs.Model.{Model, IsOfGoodState}
 use Rattle.fuse_keeper.specs.Stands.{Records, OthersStay}
 use Rattle.fuse_keeper.specs.declared.keeper.Done.{Done}
 use Rattle.fuse_keeper.specs.KeeperState.{KeeperState, KeepsHeld, OfHeld, WhereHeld, HoldsOthers, Performs, LeavesGroup}
@@ -14,14 +14,15 @@ use Rattle.fuse_keeper.specs.Group.{entries_of, handed_to, left_pending}
 use Rattle.fuse_session.specs.Port.{PortState}
 use Rattle.fuse_session.specs.Processed.{Timed, bytes_of, kept_in}
 use Rattle.fuse_session.specs.Settling.{Mark, settled_in, SomeAndMore, FewHave}
-use Rattle.fuse_session.specs.Starts.{Kept, TakesAtMostOne, HoldsUnder}
+use Rattle.fuse_session.specs.Starts.{KeptRecords, TakesAtMostOne, HoldsUnder}
 use Rattle.fuse_session.specs.Transcript.{PortEvent}
 use Rattle.fuse_keeper.specs.Lots.{Lots, SameLots, TakesLot, RecordsUnder}
 use Rattle.fuse_session.specs.inner.Moves.{HandsOn}
 use Rattle.fuse_session.specs.inner.Group.{Gathers}
 use Rattle.fuse_session.specs.inner.Sending.{sending, SentAll}
-use Rattle.fuse_session.proofs.Standing.{unsettled_too}
-use Rattle.fuse_session.proofs.Settled.{includes_left, includes_right, in_either, all_settled, settled_none, settled_within, none_again}
+use Rattle.fuse_keeper.proofs.Standing.{unsettled_too}
+use Rattle.fuse_session.proofs.Settled.{all_settled, settled_none, settled_within, none_again}
+use Rattle.fuse_keeper.proofs.Settled.{includes_left, includes_right, in_either}
 
 -- what is left of one record
 left_of : (b : Bool) (o now base : Option Said) → now ≡ (if b then None else o) → (b ≡ false → (o ≡ None) ⊎ (o ≡ base)) → (now ≡ None) ⊎ (now ≡ base)
@@ -67,7 +68,7 @@ takes_none : (a : Lots) → TakesAtMostOne a a
 takes_none a = record { kept = λ lot is. (is, refl); taken = λ none. inr (none, refl) }
 
 -- a record after a group, by whether its id was settled, whether it had one, and whether it is of the group
-under_one : (before : Kept) (last settled : List ℕ) (old : Records) (under current under' current' : Option ℕ) (b g : Bool) (o now : Option Said) (i : ℕ)
+under_one : (before : KeptRecords) (last settled : List ℕ) (old : Records) (under current under' current' : Option ℕ) (b g : Bool) (o now : Option Said) (i : ℕ)
     → (b ≡ true → g ≡ true → under' ≡ current') → (o ≡ None → g ≡ true → under' ≡ current')
     → ((a : Said) → o ≡ Some a → b ≡ false → under' ≡ under)
     → (is_some o ≡ true → ((is_some (before.records i) ≡ true) × (under ≡ before.lots.under i)) ⊎ (is_in last i ≡ true))
@@ -85,7 +86,7 @@ under_one before last settled old under current under' current' false g (Some a)
   | inr more ↦ absurd (cc (within more))
 ]
 
-pub hands_more : (M : Model) → (before : Kept) (holds holds' : KeeperState M) (pending mid : List ℕ) (group : List Entry) → length group ≤ 16
+pub hands_more : (M : Model) → (before : KeptRecords) (holds holds' : KeeperState M) (pending mid : List ℕ) (group : List Entry) → length group ≤ 16
     → OfHeld holds (λ rows records. HoldsOthers holds' records pending group) → OfHeld holds (λ rows records. RecordsUnder holds.lots holds'.lots records pending group)
     → HandsOn before holds pending → HandsOn before holds' (mid ++ ids_in group)
 hands_more M before holds holds' pending mid group few others lots h =
@@ -111,7 +112,7 @@ hands_more M before holds holds' pending mid group few others lots h =
     }
 
 -- more is to be handed on
-pub hands_same : (M : Model) → (before : Kept) (holds : KeeperState M) (pending all : List ℕ) → Includes all pending → HandsOn before holds pending
+pub hands_same : (M : Model) → (before : KeptRecords) (holds : KeeperState M) (pending all : List ℕ) → Includes all pending → HandsOn before holds pending
     → HandsOn before holds all
 hands_same M before holds pending all within h = record {
   rows = h.rows;
@@ -122,11 +123,11 @@ hands_same M before holds pending all within h = record {
   all = λ i there. within i (h.all i there);
 }
 
-pub holds_under : (M : Model) → (before : Kept) (holds : KeeperState M) (pending : List ℕ) → HandsOn before holds pending → HoldsUnder before holds
+pub holds_under : (M : Model) → (before : KeptRecords) (holds : KeeperState M) (pending : List ℕ) → HandsOn before holds pending → HoldsUnder before holds
 holds_under M before holds pending h = record { rows = h.rows; records = h.records; held = h.held; rowed = h.rowed; so = h.under }
 
 -- a fault keeps the records, and their lots
-pub under_kept : (M : Model) → (before : Kept) (holds holds' : KeeperState M) (pending : List ℕ) → KeepsHeld holds holds'
+pub under_kept : (M : Model) → (before : KeptRecords) (holds holds' : KeeperState M) (pending : List ℕ) → KeepsHeld holds holds'
     → WhereHeld holds (SameLots holds.lots holds'.lots) → HandsOn before holds pending → HoldsUnder before holds'
 under_kept M before holds holds' pending keeps lots h =
     let same = lots h.rows h.records h.held in
@@ -149,7 +150,7 @@ under_kept M before holds holds' pending keeps lots h =
     }
 
 -- where the port confirms, the answers to a group settle all its ids
-pub hands_group : (M : Model) → (before : Kept) (holds : KeeperState M) (gave : List Moment → Type 0) (became : List PortEvent → Type 0) (p q : PortState) (mid pending' : List ℕ)
+pub hands_group : (M : Model) → (before : KeptRecords) (holds : KeeperState M) (gave : List Moment → Type 0) (became : List PortEvent → Type 0) (p q : PortState) (mid pending' : List ℕ)
     (messages : List (List ℕ)) (taken : List (Request × Moment)) (ends : Bool)
     (group : List (Request × Moment)) (prefix answers' : List (List ℕ)) → Gathers M.serves gave messages taken ends → group ≡ taken → prefix ≡ messages → p.confirms ≡ true
     → SentAll M.serves (sending became p q mid pending') prefix answers'
@@ -161,7 +162,7 @@ hands_group M before holds gave became p q mid pending' messages taken ends grou
     ∙ ap (λ (x : List ℕ). mid ++ x) (all_settled M.serves gathers.timed all.marks full ∙ ap ids_in (sym gathers.entries ∙ sym (ap entries_of same))))) h
 
 -- at first nothing is to be handed on
-pub hands_start : (M : Model) → (holds : KeeperState M) (pending : List ℕ) (rows : M.Rows) (records : Records) → holds.holds rows records → IsRowed M rows
+pub hands_start : (M : Model) → (holds : KeeperState M) (pending : List ℕ) (rows : M.Rows) (records : Records) → holds.holds rows records → IsOfGoodState M rows
     → HandsOn (record { records = records; lots = holds.lots }) holds pending
 hands_start M holds pending rows records held rowed = record {
   rows = rows;
@@ -277,7 +278,7 @@ no_entries [] is = refl
 no_entries (one ∷ group) is = absurd (cc is)
 
 -- an empty group isn't performed
-pub hands_on : (M : Model) → (before : Kept) (holds holds' : KeeperState M) (pending left : List ℕ) (es : List Entry) → left ≡ left_pending es pending
+pub hands_on : (M : Model) → (before : KeptRecords) (holds holds' : KeeperState M) (pending left : List ℕ) (es : List Entry) → left ≡ left_pending es pending
     → length es ≤ 16 → OfHeld holds (λ rows records. HoldsOthers holds' records (handed_to es pending) es)
     → OfHeld holds (λ rows records. RecordsUnder holds.lots holds'.lots records (handed_to es pending) es)
     → (es ≡ [] → HandsOn before holds pending → HandsOn before holds' pending) → HandsOn before holds pending → HandsOn before holds' (left ++ ids_in es)

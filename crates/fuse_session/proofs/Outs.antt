@@ -1,5 +1,5 @@
 -- What is sent for messages, one after another.
-use Rattle.std.proofs.Common.{◌≡◌, inl, inr, ℕ, true, List, [], ◌∷◌, ◌++◌, map, Option, Some, refl, sym, ap, subst, ◌∙◌, append_assoc}
+use Rattle.std.proofs.Common.{◌≡◌, inl, inr, ℕ, true, List, [], ◌∷◌, ◌++◌, map, Some, refl, sym, ap, subst, ◌∙◌, append_assoc}
 use Rattle.fuse_request.specs.Opcodes.{OpcodeSet}
 use Rattle.fuse_answer.specs.Said.{Said}
 use Rattle.fuse_request.specs.declared.class.Class.{Class}
@@ -7,16 +7,12 @@ use Rattle.fuse_request.specs.declared.class.Class.TheVariants.{Silent, Bare, Ke
 use Rattle.fuse_request.specs.Classes.{class_for}
 use Rattle.fuse_keeper.specs.Model.{Model}
 use Rattle.fuse_keeper.specs.History.{Entry, entry_id, History, has, add, said, grown, HistoriesGrow}
-use Rattle.fuse_session.proofs.Standing.{grown-append}
-use Rattle.fuse_session.specs.Processed.{Timed, bytes_of, kept_in, entries_at, entry_if, timed_entry, message_id, unique_of, answered, answers, answer_by, GoesOn}
+use Rattle.fuse_keeper.proofs.Histories.{grown-append}
+use Rattle.fuse_session.specs.Processed.{Timed, bytes_of, kept_in, entries_at, entry_if, timed_entry, message_id, unique_of, answered, answers_to, answer_by, GoesOn}
 use Rattle.fuse_session.specs.Processed.{Works}
 use Rattle.fuse_session.specs.Settling.{Mark, replies}
 use Rattle.fuse_session.specs.inner.Group.{head_wire, left_by, wires}
-
--- the answer to each entry when it is added
-abbrev pub told : (M : Model) → M.State → History → List Entry → List (Option Said)
-told M s h [] = []
-told M s h (e ∷ es) = said M s (add h e) (entry_id e) ∷ told M s (add h e) es
+use Rattle.fuse_keeper.proofs.Performing.{told}
 
 pub kept_in-append : (V : OpcodeSet) → (xs ys : List Timed) → kept_in V (xs ++ ys) ≡ kept_in V xs ++ kept_in V ys
 kept_in-append V [] ys = refl
@@ -49,17 +45,17 @@ answered_stays M grows s h t es = answer_stays M grows s (grown h (entries_at M.
 
 -- later entries change no answer
 pub answers_stay : (M : Model) → HistoriesGrow M → (s : M.State) (h : History) (ts : List Timed) (es : List Entry)
-    → answers M s (grown (grown h (kept_in M.serves ts)) es) ts ≡ outs M s h ts
+    → answers_to M s (grown (grown h (kept_in M.serves ts)) es) ts ≡ outs M s h ts
 answers_stay M grows s h [] es = refl
 answers_stay M grows s h (t ∷ ts) es =
     let g = grown h (entries_at M.serves t) in
     let split = ap (λ x. grown x es) (grown-append h (entries_at M.serves t) (kept_in M.serves ts)) in
-    ap (λ x. answered M s x t ∷ answers M s x ts) split
-    ∙ ap (λ x. answered M s x t ∷ answers M s (grown (grown g (kept_in M.serves ts)) es) ts) (sym (grown-append g (kept_in M.serves ts) es))
-    ∙ ap (λ r. r ∷ answers M s (grown (grown g (kept_in M.serves ts)) es) ts) (answered_stays M grows s h t (kept_in M.serves ts ++ es))
+    ap (λ x. answered M s x t ∷ answers_to M s x ts) split
+    ∙ ap (λ x. answered M s x t ∷ answers_to M s (grown (grown g (kept_in M.serves ts)) es) ts) (sym (grown-append g (kept_in M.serves ts) es))
+    ∙ ap (λ r. r ∷ answers_to M s (grown (grown g (kept_in M.serves ts)) es) ts) (answered_stays M grows s h t (kept_in M.serves ts ++ es))
     ∙ ap (λ r. answered M s g t ∷ r) (answers_stay M grows s g ts es)
 
-pub answers_are_outs : (M : Model) → HistoriesGrow M → (s : M.State) (h : History) (ts : List Timed) → answers M s (grown h (kept_in M.serves ts)) ts ≡ outs M s h ts
+pub answers_are_outs : (M : Model) → HistoriesGrow M → (s : M.State) (h : History) (ts : List Timed) → answers_to M s (grown h (kept_in M.serves ts)) ts ≡ outs M s h ts
 answers_are_outs M grows s h ts = answers_stay M grows s h ts []
 
 outs-append : (M : Model) → (s : M.State) (h : History) (xs ys : List Timed) → outs M s h (xs ++ ys) ≡ outs M s h xs ++ outs M s (grown h (kept_in M.serves xs)) ys
@@ -98,12 +94,12 @@ outs_prefix M s h [] (m ∷ ms) later works is = absurd (cc is)
 outs_prefix M s h (t ∷ ts) (m ∷ ms) later works is = prefix_more M s h t ts m ms works (cc is)
     (outs_prefix M s (grown h (entries_at M.serves t)) ts ms later works.2 (cc is))
 
-pub answers-append : (M : Model) → HistoriesGrow M → (s : M.State) (h : History) (xs ys : List Timed)
-    → answers M s (grown h (kept_in M.serves (xs ++ ys))) (xs ++ ys) ≡ answers M s (grown h (kept_in M.serves xs)) xs
-    ++ answers M s (grown (grown h (kept_in M.serves xs)) (kept_in M.serves ys)) ys
-answers-append M grows s h xs ys = answers_are_outs M grows s h (xs ++ ys) ∙ outs-append M s h xs ys ∙ ap (λ r. r ++ outs M s (grown h (kept_in M.serves xs)) ys)
+pub answers_to-append : (M : Model) → HistoriesGrow M → (s : M.State) (h : History) (xs ys : List Timed)
+    → answers_to M s (grown h (kept_in M.serves (xs ++ ys))) (xs ++ ys) ≡ answers_to M s (grown h (kept_in M.serves xs)) xs
+    ++ answers_to M s (grown (grown h (kept_in M.serves xs)) (kept_in M.serves ys)) ys
+answers_to-append M grows s h xs ys = answers_are_outs M grows s h (xs ++ ys) ∙ outs-append M s h xs ys ∙ ap (λ r. r ++ outs M s (grown h (kept_in M.serves xs)) ys)
     (sym (answers_are_outs M grows s h xs))
-    ∙ ap (λ r. answers M s (grown h (kept_in M.serves xs)) xs ++ r) (sym (answers_are_outs M grows s (grown h (kept_in M.serves xs)) ys))
+    ∙ ap (λ r. answers_to M s (grown h (kept_in M.serves xs)) xs ++ r) (sym (answers_are_outs M grows s (grown h (kept_in M.serves xs)) ys))
 
 pub Works-append : (M : Model) → (s : M.State) (h : History) (xs ys : List Timed) → GoesOn M s h xs → Works M s (grown h (kept_in M.serves xs)) ys
     → Works M s h (xs ++ ys)
@@ -122,18 +118,6 @@ GoesOn-append M s h (x ∷ xs) ys goes more =
     (goes.0, goes.1, GoesOn-append M s (grown h (entries_at M.serves x)) xs ys goes.2 (subst (λ g. GoesOn M s g ys) (grown-append h (entries_at M.serves x) (kept_in M.serves xs)) more))
 
 -- ---- what one list of answers sends is what is to be sent
-
-pub told_is : (M : Model) → HistoriesGrow M → (s : M.State) (h : History) (es : List Entry) → map (λ e. said M s (grown h es) (entry_id e)) es ≡ told M s h es
-told_is M grows s h [] = refl
-told_is M grows s h (e ∷ es) =
-    let first = grows.stays s (add h e) es (entry_id e) (grows.added h e) in
-    let rest = told_is M grows s (add h e) es in
-    ap (λ x. x ∷ map (λ (d : Entry). said M s (grown (add h e) es) (entry_id d)) es) first ∙ ap (λ r. said M s (add h e) (entry_id e) ∷ r) rest
-
-pub told-append : (M : Model) → (s : M.State) (h : History) (es : List Entry) (e : Entry) → told M s h (es ++ e ∷ []) ≡ told M s h es
-    ++ said M s (add (grown h es) e) (entry_id e) ∷ []
-told-append M s h [] e = refl
-told-append M s h (x ∷ es) e = ap (λ r. said M s (add h x) (entry_id x) ∷ r) (told-append M s (add h x) es e)
 
 head_is : (M : Model) → (s : M.State) (h : History) (t : Timed) (es : List Entry) (class : Class) (list : List Said)
     → map (λ a. Some a) list ≡ told M s h (entry_if class (timed_entry t) ++ es)
@@ -157,5 +141,5 @@ wires_outs M s (t ∷ ts) h list are =
     ∙ ap (λ r. answered M s (grown h (entries_at M.serves t)) t ∷ r) (wires_outs M s ts (grown h (entries_at M.serves t)) (left_by (class_for M.serves t.bytes) list) p.1)
 
 pub wires_are : (M : Model) → HistoriesGrow M → (s : M.State) (h : History) (ts : List Timed) (list : List Said)
-    → map (λ a. Some a) list ≡ told M s h (kept_in M.serves ts) → wires M.serves (bytes_of ts) list ≡ answers M s (grown h (kept_in M.serves ts)) ts
+    → map (λ a. Some a) list ≡ told M s h (kept_in M.serves ts) → wires M.serves (bytes_of ts) list ≡ answers_to M s (grown h (kept_in M.serves ts)) ts
 wires_are M grows s h ts list are = wires_outs M s ts h list are ∙ sym (answers_are_outs M grows s h ts)

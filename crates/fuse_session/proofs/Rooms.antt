@@ -5,17 +5,17 @@ use Rattle.fuse_session.specs.declared.memory.MemoryPort.{MemoryPort}
 use Rattle.fuse_session.specs.declared.memory.Outcome.{Outcome}
 use Rattle.fuse_session.specs.declared.memory.Outcome.TheVariants as outcomes
 use Rattle.fuse_session.specs.declared.port.Sent.TheVariants as sent
-use Rattle.fuse_session.specs.Memory.{kept_by, sent_by, Answers}
+use Rattle.fuse_session.specs.Memory.{kept_by, sent_by, AnswersSend}
 
 pub refused : {A E : Type 0} (r : Result A E) (P : Type 0) → OnErr r P → is_err r ≡ true → P
 refused (Ok x) P full is = absurd (cc is)
 refused (Err e) P full is = full
 
-pub answers_failed : (p : MemoryPort) (o x : Outcome) (len : ℕ) → x ≡ outcomes.Failed → x ≡ o → Answers p o len sent.Failed
+pub answers_failed : (p : MemoryPort) (o x : Outcome) (len : ℕ) → x ≡ outcomes.Failed → x ≡ o → AnswersSend p o len sent.Failed
 answers_failed p o x len is same = inl (ap (λ y. sent_by y len) (sym is ∙ same))
 
 pub answers_no_room : (p q : MemoryPort) (o x : Outcome) (len n : ℕ) → q.sent ≡ p.sent → x ≡ o → n ≡ kept_by x len
-    → vec_capacity q.sent < vec_len q.sent + n → Answers p o len sent.Failed
+    → vec_capacity q.sent < vec_len q.sent + n → AnswersSend p o len sent.Failed
 answers_no_room p q o x len n same by is full =
     inr (
       refl,

@@ -21,7 +21,7 @@ use Rattle.fuse_session.specs.Slices.{RestsOfAll, RestsOfSome}
 use Rattle.fuse_session.specs.inner.Sending.{Sending, sending, HandsSlices, SendFails, SentNext, SentAll, SentSome}
 use Rattle.fuse_session.proofs.Transcripts.{sends_more, gone_is}
 use Rattle.fuse_session.proofs.Batching.{rests_more, rests_one, some_all}
-use Rattle.fuse_session.specs.Settling.{Mark, replies, settles, settles_if, settled_in, Replied}
+use Rattle.fuse_session.specs.Settling.{Mark, replies, settles_by_mark, settles_if, settled_in, Replied}
 use Rattle.fuse_session.specs.inner.Group.{answers_in, head_wire, left_by, wires, AreEnough}
 use Rattle.fuse_session.proofs.Bytes.{appends_none, quiet_none, quiet_more}
 use Rattle.fuse_session.proofs.Replies.{replied_none, replied_more, replied_one, replied_part, replies-append}
@@ -42,7 +42,7 @@ pub young_still : (a b : PortState) → b.failures ≡ a.failures → IsQuiet a 
 young_still a b same quiet young = record { receives = omega (arith, quiet.receives, young.receives); failures = omega (arith, same, young.failures) }
 
 -- nothing is sent for a message that isn't answered
-pub sent_nothing : (V : OpcodeSet) (became : List PortEvent → Type 0) → became [] → (p : PortState) (m : List ℕ) (pending : List ℕ) → settles V p.confirms m (record { reply = []; gone = false }) ≡ []
+pub sent_nothing : (V : OpcodeSet) (became : List PortEvent → Type 0) → became [] → (p : PortState) (m : List ℕ) (pending : List ℕ) → settles_by_mark V p.confirms m (record { reply = []; gone = false }) ≡ []
     → SentNext V (sending became p p pending pending) m []
 sent_nothing V became nothing p m pending none = record {
   mark = record { reply = []; gone = false };
@@ -114,10 +114,10 @@ sent_first_more V became became' became'' joins a b c tells prefix answers left 
   failures = two.sent.failures ∙ one.failures;
   quiet = quiet_more a b c one.quiet two.sent.quiet;
   hands = hands_next became became' became'' joins b c tells one.marks two.mark two.sent.gone one.hands two.hands;
-  handed = two.handed ∙ ap (λ (x : List ℕ). x ++ settles V b.confirms m two.mark) one.handed ∙ append_assoc p (settled_in V a.confirms prefix one.marks)
-      (settles V b.confirms m two.mark)
-      ∙ ap (λ x. p ++ (settled_in V a.confirms prefix one.marks ++ settles V x m two.mark)) one.quiet.confirms
-      ∙ ap (λ (x : List ℕ). p ++ (settled_in V a.confirms prefix one.marks ++ x)) (sym (append-nil (settles V a.confirms m two.mark)))
+  handed = two.handed ∙ ap (λ (x : List ℕ). x ++ settles_by_mark V b.confirms m two.mark) one.handed ∙ append_assoc p (settled_in V a.confirms prefix one.marks)
+      (settles_by_mark V b.confirms m two.mark)
+      ∙ ap (λ x. p ++ (settled_in V a.confirms prefix one.marks ++ settles_by_mark V x m two.mark)) one.quiet.confirms
+      ∙ ap (λ (x : List ℕ). p ++ (settled_in V a.confirms prefix one.marks ++ x)) (sym (append-nil (settles_by_mark V a.confirms m two.mark)))
       ∙ ap (λ (x : List ℕ). p ++ x) (sym (settled-append V a.confirms prefix (m ∷ []) one.marks (two.mark ∷ []) one.full));
 }
 

@@ -6,7 +6,7 @@ use Rattle.std.proofs.lemmas.List.{append-nil, take-append-drop}
 use Rattle.std.specs.Io.KnownBytes.{Consumes}
 use Rattle.fuse_request.specs.declared.framer.FrameFault.{FrameFault}
 use Rattle.fuse_request.specs.Stream.{cut, joined, CutJoins}
-use Rattle.fuse_request.specs.Framing.{Held}
+use Rattle.fuse_request.specs.Framing.{HeldBytes}
 use Rattle.fuse_keeper.specs.History.{HistoriesGrow}
 use Rattle.fuse_keeper.specs.Model.{Model}
 use Rattle.fuse_keeper.specs.KeeperState.{KeeperState, IsFirm}
@@ -28,7 +28,7 @@ use Rattle.fuse_session.specs.Transcript.{PortEvent, Received}
 use Rattle.fuse_session.specs.Deeds.{Deeds, Hears}
 use Rattle.fuse_session.proofs.Doing.{no_deeds, then_did, one_heard}
 use Rattle.std.proofs.lemmas.Bool.{eqb-true, eqb-false}
-use Rattle.fuse_session.specs.Serving.{Turned, ProcessedAll, Waiting, nothing_waits, Whole, Run, lasts}
+use Rattle.fuse_session.specs.Serving.{TookTurn, ProcessedAll, Waiting, nothing_waits, Whole, Run, lasts}
 use Rattle.fuse_session.specs.inner.Turn.{waits}
 use Rattle.fuse_session.specs.Ends.{Rested, Halted, EndsAs, EndsNot, IsGoodRest, FaultOf, receive_failed, counts_at}
 use Rattle.fuse_session.specs.Ended.{ended_store}
@@ -48,7 +48,7 @@ pub record ByOne (became : List PortEvent → Type 0) (p q : PortState) : Type 0
   pub result : Receipt
   pub once : became (Received result received ∷ [])
 
-abbrev pub came_by : (e : Ended) (became : List PortEvent → Type 0) (p q : PortState) (h : Held) → NotHeard e became p q h → ByOne became p q
+abbrev pub came_by : (e : Ended) (became : List PortEvent → Type 0) (p q : PortState) (h : HeldBytes) → NotHeard e became p q h → ByOne became p q
 came_by End became p q h n = record { received = []; came = n.0.bytes; result = ByEnd; once = n.0.once }
 came_by (Frame f) became p q h n = record { received = []; came = n.0.bytes; result = ByEnd; once = n.0.once }
 came_by PortFailed became p q h n = record { received = []; came = n.bytes; result = ReceiveFailed; once = n.once }
@@ -58,7 +58,7 @@ came_by Turns became p q h n = absurd n
 came_by (ZeroUnique at) became p q h n = absurd n
 came_by (Store fault) became p q h n = absurd n
 
-pub life_unheard : (M : Model) → (holds : KeeperState M) (did : Deeds → Type 0) (became : List PortEvent → Type 0) (p q : PortState) (ids : List ℕ) (h : Held)
+pub life_unheard : (M : Model) → (holds : KeeperState M) (did : Deeds → Type 0) (became : List PortEvent → Type 0) (p q : PortState) (ids : List ℕ) (h : HeldBytes)
     (e : Ended) → ended_store e ≡ false
     → ((result : Receipt) (bytes : List ℕ) → became (Received result bytes ∷ []) → Hears did bytes (one_heard result bytes))
     → NotHeard e became p q h → IsHearing p q → Run (passage holds holds p q did) (waits ids h) e
@@ -72,7 +72,7 @@ life_unheard M holds did became p q ids h e inexact alone n hearing =
           (λ rows records held. held) (λ firm s g t so. firm_leaves M holds s g t firm so);
     }
 
-whole_unheard : (M : Model) → (holds : KeeperState M) (did : Deeds → Type 0) (p q : PortState) (ids : List ℕ) (h : Held) (result : Receipt)
+whole_unheard : (M : Model) → (holds : KeeperState M) (did : Deeds → Type 0) (p q : PortState) (ids : List ℕ) (h : HeldBytes) (result : Receipt)
     → Hears did [] (one_heard result []) → IsOpen h → Consumes p.coming q.coming [] → IsHearing p q
     → Whole (passage holds holds p q did) (waits ids h) (waits ids h) none_counted
 whole_unheard M holds did p q ids h result none ready came hearing =
@@ -82,11 +82,11 @@ whole_unheard M holds did p q ids h result none ready came hearing =
       came = came;
       rest_is = sym (ap (λ (x : List (List ℕ) × List ℕ). x.1) is);
       at = omega (arith, ap (λ (x : List (List ℕ) × List ℕ). length (joined x.0)) is);
-      turned = subst (λ f. Turned (passage holds holds p q (Hears did [])) ids ids f true none_counted) (sym (ap (λ (x : List (List ℕ) × List ℕ). x.0) is))
+      turned = subst (λ f. TookTurn (passage holds holds p q (Hears did [])) ids ids f true none_counted) (sym (ap (λ (x : List (List ℕ) × List ℕ). x.0) is))
           (turned_quiet M holds (Hears did []) p q ids (one_heard result []) none refl refl refl (hearing_replied p q hearing));
     }
 
-pub ends_unheard : (M : Model) → (holds : KeeperState M) (did : Deeds → Type 0) (became : List PortEvent → Type 0) (p q : PortState) (ids : List ℕ) (h : Held)
+pub ends_unheard : (M : Model) → (holds : KeeperState M) (did : Deeds → Type 0) (became : List PortEvent → Type 0) (p q : PortState) (ids : List ℕ) (h : HeldBytes)
     (e : Ended) (turns : ℕ) → ((result : Receipt) (bytes : List ℕ) → became (Received result bytes ∷ []) → Hears did bytes (one_heard result bytes))
     → IsOpen h → NotHeard e became p q h → IsHearing p q → EndsAs (passage holds holds p q did) (waits ids h) turns e none_counted
 ends_unheard M holds did became p q ids h End turns alone ready n hearing = (
@@ -117,7 +117,7 @@ not_true : (a b : ℕ) → a < b → not (b == a) ≡ true
 not_true a b lt = elim (b == a) as (λ x. (b == a) ≡ x → not x ≡ true)
     [ true ↦ λ is. absurd (let same = eqb-true b a is in omega (arith, lt, same)) | false ↦ λ _. refl ] refl
 
-pub unheard_counts : (e : Ended) (became : List PortEvent → Type 0) (p q : PortState) (h : Held) (told : Option SessionCounts) (counts : SessionCounts)
+pub unheard_counts : (e : Ended) (became : List PortEvent → Type 0) (p q : PortState) (h : HeldBytes) (told : Option SessionCounts) (counts : SessionCounts)
     → NotHeard e became p q h → told ≡ counts_at true e counts → told ≡ counts_at (receive_failed p q) e counts
 unheard_counts PortFailed became p q h told counts n is =
     subst (λ b. told ≡ counts_at b PortFailed counts) (sym (not_true p.receive_failures q.receive_failures n.receive_failures)) is
@@ -179,7 +179,7 @@ ends_more M grows joins holds mid new did did' did'' p q r w w' turns turns' (St
 
 -- messages were processed: a life
 pub life_worked : (M : Model) → HistoriesGrow M → (holds new : KeeperState M) → (new.is_honest → holds.is_honest)
-    → (did did' : Deeds → Type 0) (became : List PortEvent → Type 0) (p q r : PortState) (ids ids' : List ℕ) (before after : Held) (messages slice : List (List ℕ))
+    → (did did' : Deeds → Type 0) (became : List PortEvent → Type 0) (p q r : PortState) (ids ids' : List ℕ) (before after : HeldBytes) (messages slice : List (List ℕ))
     (fault : Option FrameFault) (progress : Progress) (e : Ended) → ended_store e ≡ false
     → (h : Heard (Comes became p q) before after messages fault)
     → ((b : Deeds) → did b → Hears did' h.received (then_did (one_heard h.came.result h.received) b)) → IsHearing p q → slice ≡ messages
@@ -191,7 +191,7 @@ life_worked M grows holds new honest did did' became p q r ids ids' before after
     w.turned (sym (take-append-drop progress.count slice)) firm_still) quiet
 
 pub ends_finished : (M : Model) → HistoriesGrow M → (holds new : KeeperState M) → (new.is_honest → holds.is_honest)
-    → (did did' : Deeds → Type 0) (became : List PortEvent → Type 0) (p q r : PortState) (ids ids' : List ℕ) (before after : Held) (messages slice : List (List ℕ)) (fault : Option FrameFault)
+    → (did did' : Deeds → Type 0) (became : List PortEvent → Type 0) (p q r : PortState) (ids ids' : List ℕ) (before after : HeldBytes) (messages slice : List (List ℕ)) (fault : Option FrameFault)
     (place : ℕ) (progress : Progress) (turns : ℕ) (e : Ended) → FinishedBy e progress.next place fault
     → (h : Heard (Comes became p q) before after messages fault)
     → ((b : Deeds) → did b → Hears did' h.received (then_did (one_heard h.came.result h.received) b)) → IsHearing p q → slice ≡ messages
@@ -239,7 +239,7 @@ finished_store PortFailed rest place fault by = absurd by
 finished_store (Store x) rest place fault by = absurd by
 finished_store Memory rest place fault by = absurd by
 
-pub unheard_store : (e : Ended) (became : List PortEvent → Type 0) (p q : PortState) (h : Held) → NotHeard e became p q h → (ended_store e ≡ false)
+pub unheard_store : (e : Ended) (became : List PortEvent → Type 0) (p q : PortState) (h : HeldBytes) → NotHeard e became p q h → (ended_store e ≡ false)
     × FailedBy (ended_port e) p.failures q.failures × (e ≡ Turns → ⊥)
 unheard_store End became p q h n = (refl, n.0.failures, (λ isnt. cc isnt))
 unheard_store (Frame f) became p q h n = (refl, n.0.failures, (λ isnt. cc isnt))
@@ -350,10 +350,10 @@ failed_both Memory old new by = ((λ isnt. absurd (cc isnt)), (λ more. absurd (
 
 -- ---- a session
 
-pub whole_start : (M : Model) → (holds : KeeperState M) (did : Deeds → Type 0) (p : PortState) (ids : List ℕ) (h : Held) → did no_deeds → ids ≡ []
+pub whole_start : (M : Model) → (holds : KeeperState M) (did : Deeds → Type 0) (p : PortState) (ids : List ℕ) (h : HeldBytes) → did no_deeds → ids ≡ []
     → h ≡ record { bytes = []; at = 0; fault = None } → Whole (passage holds holds p p did) nothing_waits (waits ids h) none_counted
 whole_start M holds did p ids h given none new =
-    subst (λ (x : Held). Whole (passage holds holds p p did) nothing_waits (waits ids x) none_counted) (sym new)
+    subst (λ (x : HeldBytes). Whole (passage holds holds p p did) nothing_waits (waits ids x) none_counted) (sym new)
     (subst (λ (x : List ℕ). Whole (passage holds holds p p did) nothing_waits (record { pending = x; bytes = []; at = 0 }) none_counted) (sym none)
     (whole_none M holds did p given))
 

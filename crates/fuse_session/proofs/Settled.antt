@@ -1,7 +1,7 @@
 -- Which ids are settled, group after group.
-use Rattle.std.proofs.Common.{◌≡◌, ◌⊎◌, inl, inr, ℕ, Bool, true, false, ◌||◌, ◌==◌, if◌then◌else◌, List, [], ◌∷◌, ◌++◌, length, All, refl, sym, ap, subst, ◌∙◌}
+use Rattle.std.proofs.Common.{◌≡◌, inl, inr, ℕ, Bool, true, false, ◌||◌, ◌==◌, if◌then◌else◌, List, [], ◌∷◌, ◌++◌, length, All, refl, sym, ap, subst, ◌∙◌}
 use Rattle.std.proofs.Common.{append_assoc, arith}
-use Rattle.std.proofs.lemmas.List.{append-nil, map-append}
+use Rattle.std.proofs.lemmas.List.{append-nil}
 use Rattle.std.proofs.lemmas.Bool.{eqb-true}
 use Rattle.std.proofs.lemmas.List.Elements.{All-append, All-nil, All-cons, All-head, All-tail}
 use Rattle.fuse_request.specs.Opcodes.{OpcodeSet}
@@ -9,39 +9,14 @@ use Rattle.fuse_request.specs.declared.class.Class.{Class}
 use Rattle.fuse_request.specs.declared.class.Class.TheVariants.{Silent, Bare, Kept}
 use Rattle.fuse_request.specs.Classes.{class_for}
 use Rattle.fuse_keeper.specs.History.{Entry, entry_id, is_in, ids_in, Includes, IsUnsettled}
-use Rattle.fuse_session.proofs.Standing.{unsettled_too}
+use Rattle.fuse_keeper.proofs.Standing.{unsettled_too}
 use Rattle.fuse_session.specs.Processed.{Timed, bytes_of, kept_in, entries_at, entry_if, timed_entry, message_id}
-use Rattle.fuse_session.specs.Settling.{Mark, settles, settles_if, settled_in, comes_again, NoneComesAgain}
-
-or_true : (a b : Bool) → b ≡ true → (a || b) ≡ true
-or_true true b is = refl
-or_true false b is = is
-
-or_left : (a b : Bool) → a ≡ true → (a || b) ≡ true
-or_left true b is = refl
-or_left false b is = absurd (cc is)
-
-either : (a b : Bool) → (a || b) ≡ true → (a ≡ true) ⊎ (b ≡ true)
-either true b is = inl refl
-either false b is = inr is
-
-is_in-append : (xs ys : List ℕ) (i : ℕ) → is_in (xs ++ ys) i ≡ (is_in xs i || is_in ys i)
-is_in-append [] ys i = refl
-is_in-append (x ∷ xs) ys i = elim (x == i) as (λ b. (if b then true else is_in (xs ++ ys) i) ≡ ((if b then true else is_in xs i) || is_in ys i))
-    [ true ↦ refl | false ↦ is_in-append xs ys i ]
-
-pub in_either : (xs ys : List ℕ) (i : ℕ) → is_in (xs ++ ys) i ≡ true → (is_in xs i ≡ true) ⊎ (is_in ys i ≡ true)
-in_either xs ys i there = either (is_in xs i) (is_in ys i) (sym (is_in-append xs ys i) ∙ there)
+use Rattle.fuse_session.specs.Settling.{Mark, settles_by_mark, settles_if, settled_in, comes_again, NoneComesAgain}
+use Rattle.fuse_keeper.proofs.Settled.{in_either, includes_left, includes_right, ids-append}
 
 if_not : (b rest : Bool) → (b ≡ true → ⊥) → rest ≡ false → (if b then true else rest) ≡ false
 if_not true rest isnt absent = absurd (isnt refl)
 if_not false rest isnt absent = absent
-
-pub includes_left : (t more : List ℕ) → Includes (t ++ more) t
-includes_left t more i there = is_in-append t more i ∙ or_left (is_in t i) (is_in more i) there
-
-pub includes_right : (t more : List ℕ) → Includes (t ++ more) more
-includes_right t more i there = is_in-append t more i ∙ or_true (is_in t i) (is_in more i) there
 
 pub settled-append : (V : OpcodeSet) → (c : Bool) (xs ys : List (List ℕ)) (ms ns : List Mark) → length ms ≡ length xs → settled_in V c (xs ++ ys) (ms ++ ns) ≡ settled_in V c xs ms
     ++ settled_in V c ys ns
@@ -49,8 +24,8 @@ settled-append V c [] ys [] ns same = refl
 settled-append V c [] ys (m ∷ ms) ns same = absurd (omega arith)
 settled-append V c (x ∷ xs) ys [] ns same = absurd (omega arith)
 settled-append V c (x ∷ xs) ys (m ∷ ms) ns same =
-    ap (λ (r : List ℕ). settles V c x m ++ r) (settled-append V c xs ys ms ns (omega arith))
-    ∙ sym (append_assoc (settles V c x m) (settled_in V c xs ms) (settled_in V c ys ns))
+    ap (λ (r : List ℕ). settles_by_mark V c x m ++ r) (settled-append V c xs ys ms ns (omega arith))
+    ∙ sym (append_assoc (settles_by_mark V c x m) (settled_in V c xs ms) (settled_in V c ys ns))
 
 pub settled_none : (V : OpcodeSet) → (c : Bool) (xs : List (List ℕ)) → settled_in V c xs [] ≡ []
 settled_none V c [] = refl
@@ -63,8 +38,8 @@ again-parts V c t [] ys [] ns same each = (tt, subst (λ (u : List ℕ). NoneCom
 again-parts V c t [] ys (m ∷ ms) ns same each = absurd (omega arith)
 again-parts V c t (x ∷ xs) ys [] ns same each = absurd (omega arith)
 again-parts V c t (x ∷ xs) ys (m ∷ ms) ns same each =
-    let rest = again-parts V c (t ++ settles V c x m) xs ys ms ns (omega arith) each.1 in
-    ((each.0, rest.0), subst (λ (u : List ℕ). NoneComesAgain V c u ys ns) (append_assoc t (settles V c x m) (settled_in V c xs ms)) rest.1)
+    let rest = again-parts V c (t ++ settles_by_mark V c x m) xs ys ms ns (omega arith) each.1 in
+    ((each.0, rest.0), subst (λ (u : List ℕ). NoneComesAgain V c u ys ns) (append_assoc t (settles_by_mark V c x m) (settled_in V c xs ms)) rest.1)
 
 fewer : (t more : List ℕ) (es : List Entry) → All (IsUnsettled (t ++ more)) es → All (IsUnsettled t) es
 fewer t more es each k d lt = unsettled_too (t ++ more) t _ (includes_left t more) (each k d lt)
@@ -85,7 +60,7 @@ group_unsettled V c t (m ∷ ts) [] each =
     All-append (IsUnsettled t) (entries_at V m) (kept_in V ts) (one_unsettled t m (class_for V m.bytes) each.0) (group_unsettled V c t ts [] each.1)
 group_unsettled V c t (m ∷ ts) (mark ∷ marks) each =
     All-append (IsUnsettled t) (entries_at V m) (kept_in V ts) (one_unsettled t m (class_for V m.bytes) each.0)
-    (fewer t (settles V c m.bytes mark) (kept_in V ts) (group_unsettled V c (t ++ settles V c m.bytes mark) ts marks each.1))
+    (fewer t (settles_by_mark V c m.bytes mark) (kept_in V ts) (group_unsettled V c (t ++ settles_by_mark V c m.bytes mark) ts marks each.1))
 
 -- ---- what is settled by a group
 
@@ -94,9 +69,6 @@ kept_settled : (t : Timed) (m : Mark) (class : Class) → settles_if (true || m.
 kept_settled t m Silent = refl
 kept_settled t m (Bare errno) = refl
 kept_settled t m Kept = refl
-
-ids-append : (xs ys : List Entry) → ids_in (xs ++ ys) ≡ ids_in xs ++ ids_in ys
-ids-append xs ys = map-append entry_id xs ys
 
 pub all_settled : (V : OpcodeSet) → (ts : List Timed) (marks : List Mark) → length marks ≡ length ts → settled_in V true (bytes_of ts) marks ≡ ids_in (kept_in V ts)
 all_settled V [] [] same = refl
@@ -121,7 +93,7 @@ settled_within V c (t ∷ ts) (m ∷ marks) i there =
     let here = ids_in (entries_at V t) in
     let rest = ids_in (kept_in V ts) in
     ap (λ x. is_in x i) (ids-append (entries_at V t) (kept_in V ts))
-    ∙ (elim (in_either (settles V c t.bytes m) (settled_in V c (bytes_of ts) marks) i there) [
+    ∙ (elim (in_either (settles_by_mark V c t.bytes m) (settled_in V c (bytes_of ts) marks) i there) [
       | inl one ↦ includes_left here rest i (one_within (c || m.gone) t (class_for V t.bytes) i one)
       | inr more ↦ includes_right here rest i (settled_within V c ts marks i more)
     ])

@@ -1,6 +1,6 @@
 -- What was done, once for all that is said of it.
 use Rattle.std.proofs.Common.{◌≡◌, ℕ, Bool, List, [], ◌∷◌, refl}
-use Rattle.fuse_request.specs.Framing.{Held}
+use Rattle.fuse_request.specs.Framing.{HeldBytes}
 use Rattle.fuse_keeper.specs.Model.{Model}
 use Rattle.fuse_keeper.specs.KeeperState.{KeeperState}
 use Rattle.fuse_session.specs.declared.counts.SessionCounts.{SessionCounts}
@@ -12,14 +12,14 @@ use Rattle.fuse_session.specs.declared.port.Received.TheVariants.{End as NoMore}
 use Rattle.fuse_session.specs.Deeds.{Deeds}
 use Rattle.fuse_session.specs.Done.{broken_did}
 use Rattle.fuse_session.specs.Passage.{passage}
-use Rattle.fuse_session.specs.Serving.{Turned, ProcessedAll, Waiting, Whole, Broken}
+use Rattle.fuse_session.specs.Serving.{TookTurn, ProcessedAll, Waiting, Whole, Broken}
 use Rattle.fuse_session.specs.Transcript.{PortEvent, Received}
 use Rattle.fuse_session.specs.inner.Receiving.{SaidEnd, NotHeard}
 use Rattle.fuse_session.proofs.Sessions.{ByOne, came_by}
 
 pub turned_done : (M : Model) → (k new : KeeperState M) (did did' : Deeds → Type 0) (p q : PortState) (ids ids' : List ℕ) (prefix : List (List ℕ)) (going : Bool)
-    (counts : SessionCounts) → (t : Turned (passage k new p q did) ids ids' prefix going counts) → did' t.work.deeds
-    → Turned (passage k new p q did') ids ids' prefix going counts
+    (counts : SessionCounts) → (t : TookTurn (passage k new p q did) ids ids' prefix going counts) → did' t.work.deeds
+    → TookTurn (passage k new p q did') ids ids' prefix going counts
 turned_done M k new did did' p q ids ids' prefix going counts t done = record {
   work = record {
     timed = t.work.timed;
@@ -82,7 +82,7 @@ ended_just became p q n alone once = record {
   receive_failures = n.receive_failures;
 }
 
-pub unheard_just : (e : Ended) (became : List PortEvent → Type 0) (p q : PortState) (h : Held) → (n : NotHeard e became p q h)
+pub unheard_just : (e : Ended) (became : List PortEvent → Type 0) (p q : PortState) (h : HeldBytes) → (n : NotHeard e became p q h)
     → NotHeard e (by_just (came_by e became p q h n)) p q h
 unheard_just End became p q h n = (ended_just became p q n.0 _ refl, n.1)
 unheard_just (Frame f) became p q h n = (ended_just became p q n.0 _ refl, n.1)

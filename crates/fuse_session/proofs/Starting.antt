@@ -4,19 +4,19 @@ use Rattle.std.proofs.Common.{arith, is_some}
 use Rattle.std.proofs.lemmas.Bool.{eqb-true, eqb-false}
 use Rattle.fuse_keeper.specs.History.{is_in}
 use Rattle.fuse_keeper.specs.Lots.{TakesLot}
-use Rattle.fuse_session.specs.Starts.{Kept, UnderAtMostMore, Starts, HasFewEach, LotsOverStarts}
-use Rattle.fuse_session.proofs.Settled.{includes_left, includes_right}
+use Rattle.fuse_session.specs.Starts.{KeptRecords, UnderAtMostMore, Starts, HasFewEach, LotsOverStarts}
+use Rattle.fuse_keeper.proofs.Settled.{includes_left, includes_right}
 
 is_in_one : (lot : ℕ) → is_in (lot ∷ []) lot ≡ true
 is_in_one lot = elim (lot == lot) as (λ b. (lot == lot) ≡ b → (if b then true else false) ≡ true)
     [ true ↦ λ _. refl | false ↦ λ isnt. absurd (eqb-false lot lot isnt refl) ] refl
 
 -- after a start no lot is taken yet
-record Ready (kept : Kept) : Type 0 where
+record Ready (kept : KeptRecords) : Type 0 where
   each : HasFewEach kept
   none : kept.lots.current ≡ None
 
-started : (old new : Kept) → HasFewEach old → Starts old new → Ready new
+started : (old new : KeptRecords) → HasFewEach old → Starts old new → Ready new
 started old new so (inl again) = record {
   each = record {
     there = λ i lot some under. ap (λ ns. is_in ns lot) again.lots.numbers ∙ so.there i lot (again.some i some) (sym (again.lots.under i) ∙ under);
@@ -33,7 +33,7 @@ started old new so (inr began) = record {
   none = began.lots.current;
 }
 
-few_of : (begun left : Kept) → HasFewEach begun → (u : UnderAtMostMore begun left) → (took : TakesLot begun.lots left.lots) → (lot : ℕ) → (b : Bool)
+few_of : (begun left : KeptRecords) → HasFewEach begun → (u : UnderAtMostMore begun left) → (took : TakesLot begun.lots left.lots) → (lot : ℕ) → (b : Bool)
     → (took.lot == lot) ≡ b → (lot ≡ 0 → ⊥) → (ids : List ℕ) × (length ids ≤ 16)
     × ((i : ℕ) → is_some (left.records i) ≡ true → left.lots.under i ≡ Some lot → is_in ids i ≡ true)
 few_of begun left so u took lot true is isnt = (
@@ -62,7 +62,7 @@ few_of begun left so u took lot false is isnt =
       ],
     )
 
-after_session : (begun left : Kept) → Ready begun → UnderAtMostMore begun left → HasFewEach left
+after_session : (begun left : KeptRecords) → Ready begun → UnderAtMostMore begun left → HasFewEach left
 after_session begun left ready u = elim (u.takes.taken ready.none) [
   | inl took ↦ record {
     there = λ i lot some under. ap (λ ns. is_in ns lot) took.numbers

@@ -18,20 +18,21 @@ use Rattle.fuse_session.specs.declared.ended.Ended.TheVariants as ended
 use Rattle.fuse_session.specs.declared.group.Next.{Next}
 use Rattle.fuse_session.specs.declared.group.Next.TheVariants.{GoesOn as GoesOnHere, Destroyed, ZeroUnique}
 use Rattle.fuse_session.specs.Port.{PortState}
-use Rattle.fuse_session.specs.Processed.{Timed, bytes_of, kept_in, answers, says_zero, message_id, StartsZero, GoesOn, Works, moments_in}
+use Rattle.fuse_session.specs.Processed.{Timed, bytes_of, kept_in, answers_to, says_zero, message_id, StartsZero, GoesOn, Works, moments_in}
 use Rattle.fuse_session.specs.Settling.{Mark, replies, settled_in, NoneComesAgain, SentUpTo, Replied, FewHave}
 use Rattle.fuse_session.specs.Counting.{plus, none_counted, counted}
 use Rattle.fuse_session.specs.Batches.{Batch, timed_in, marks_in, pending_after, left_over, AllAnswered}
 use Rattle.fuse_session.specs.Ended.{ended_store, MayEnd}
 use Rattle.fuse_session.specs.Passage.{Passage, passage}
 use Rattle.fuse_session.specs.Exchange.{grown_by, HoldsAt, Lived, Exact, FirstAnswered}
-use Rattle.fuse_session.specs.Serving.{Work, settled_with, Turned, Broken, ProcessedAll, lasts, goes_on}
+use Rattle.fuse_session.specs.Serving.{Work, settled_with, TookTurn, Broken, ProcessedAll, lasts, goes_on}
 use Rattle.fuse_session.proofs.Firsts.{either_part, again_some, first_unsent}
 use Rattle.fuse_session.proofs.Standing.{standing, exchanged, StandAt}
 use Rattle.fuse_session.proofs.Handing.{left_within}
 use Rattle.fuse_session.proofs.Replies.{replied_none, replied_more, joined-append, replies-append}
-use Rattle.fuse_session.proofs.Outs.{answers-append, grown_kept, Works-append, GoesOn-append}
-use Rattle.fuse_session.proofs.Settled.{settled-append, again-parts, includes_left, includes_right, in_either}
+use Rattle.fuse_session.proofs.Outs.{answers_to-append, grown_kept, Works-append, GoesOn-append}
+use Rattle.fuse_session.proofs.Settled.{settled-append, again-parts}
+use Rattle.fuse_keeper.proofs.Settled.{includes_left, includes_right, in_either}
 use Rattle.fuse_session.proofs.Gathering.{moments-append}
 use Rattle.fuse_session.proofs.Batching.{are_more, answered_more, answered_last, answered_all, asked_both, left_both, rests_more, some_more, some_all}
 use Rattle.fuse_session.proofs.Transcripts.{handed_more}
@@ -48,7 +49,7 @@ bytes-append xs ys = map-append (λ (t : Timed). t.bytes) xs ys
 -- nothing was processed
 pub turned_quiet : (M : Model) → (holds : KeeperState M) (did : Deeds → Type 0) (p q : PortState) (pending : List ℕ) (deeds : Deeds) → did deeds
     → deeds.moments ≡ [] → deeds.asked ≡ [] → handed_in deeds.events ≡ [] → Replied p q [] []
-    → Turned (passage holds holds p q did) pending pending [] true none_counted
+    → TookTurn (passage holds holds p q did) pending pending [] true none_counted
 turned_quiet M holds did p q pending deeds done none unasked unhanded replied = record {
   work = record {
     timed = [];
@@ -80,7 +81,7 @@ turned_quiet M holds did p q pending deeds done none unasked unhanded replied = 
 }
 
 pub turned_none : (M : Model) → (holds : KeeperState M) (did : Deeds → Type 0) (p : PortState) (pending : List ℕ) → did no_deeds
-    → Turned (passage holds holds p p did) pending pending [] true none_counted
+    → TookTurn (passage holds holds p p did) pending pending [] true none_counted
 turned_none M holds did p pending none = turned_quiet M holds did p p pending no_deeds none refl refl refl (replied_none p)
 
 -- the moments of two rows of messages
@@ -133,7 +134,7 @@ left_settled V c pending (b ∷ bs) t answered within =
     (both_included t pending (left_pending es pending) here (pending_after V c pending b) within (left_within pending (left_pending es pending) es refl) refl))
 
 pub still_pending : (M : Model) → (p : Passage M) (ids ids' : List ℕ) (prefix : List (List ℕ)) (going : Bool) (counts : SessionCounts)
-    → (one : Turned p ids ids' prefix going counts) → (t : List ℕ) → Includes t ids → Includes (settled_with t one.work) ids'
+    → (one : TookTurn p ids ids' prefix going counts) → (t : List ℕ) → Includes t ids → Includes (settled_with t one.work) ids'
 still_pending M p ids ids' prefix going counts one t within =
     let w = one.work in
     let c = p.port.confirms in
@@ -147,7 +148,7 @@ still_pending M p ids ids' prefix going counts one t within =
 -- the first of both
 first_more : (M : Model) → HistoriesGrow M → (holds mid new : KeeperState M) (did did' : Deeds → Type 0) (p q r : PortState)
     (ids ids' : List ℕ) (prefix : List (List ℕ)) (counts : SessionCounts)
-    → (one : Turned (passage holds mid p q did) ids ids' prefix true counts) (two : Work (passage mid new q r did') ids') → (new.is_honest → mid.is_honest)
+    → (one : TookTurn (passage holds mid p q did) ids ids' prefix true counts) (two : Work (passage mid new q r did') ids') → (new.is_honest → mid.is_honest)
     → new.is_honest → FirstAnswered holds ids (exchanged p.confirms (one.work.timed ++ two.timed) (one.work.marks ++ two.marks))
 first_more M grows holds mid new did did' p q r ids ids' prefix counts one two honest_too honest first others parts s h t so within again =
     let a = one.work in
@@ -177,8 +178,8 @@ first_more M grows holds mid new did did' p q r ids ids' prefix counts one two h
             works = subst (Works M s h) (sym there.1) (Works-append M s h a.timed zs (x.goes refl) y.works);
             unsent = y.unsent;
             sent =
-                ap (λ (l : List Timed). answers M s (grown h (kept_in V l)) l) there.1 ∙ answers-append M grows s h a.timed zs
-                ∙ ap (λ l. l ++ answers M s (grown g (kept_in V zs)) zs) (sym x.sent) ∙ ap (λ l. replies a.marks ++ l) y.sent
+                ap (λ (l : List Timed). answers_to M s (grown h (kept_in V l)) l) there.1 ∙ answers_to-append M grows s h a.timed zs
+                ∙ ap (λ l. l ++ answers_to M s (grown g (kept_in V zs)) zs) (sym x.sent) ∙ ap (λ l. replies a.marks ++ l) y.sent
                 ∙ sym (append_assoc (replies a.marks) (replies (take (length zs) two.marks)) y.unsent)
                 ∙ ap (λ l. l ++ y.unsent) (sym (replies-append a.marks (take (length zs) two.marks)) ∙ ap replies (sym (take-append-add a.marks two.marks (length zs))
                 ∙ ap (λ n. take n (a.marks ++ two.marks)) (sym long)));
@@ -188,7 +189,7 @@ first_more M grows holds mid new did did' p q r ids ids' prefix counts one two h
 -- what was done for both
 abbrev work_more : (M : Model) → HistoriesGrow M → (holds mid new : KeeperState M) (did did' did'' : Deeds → Type 0) (p q r : PortState)
     (ids ids' : List ℕ) (prefix : List (List ℕ)) (counts : SessionCounts)
-    → (one : Turned (passage holds mid p q did) ids ids' prefix true counts) (two : Work (passage mid new q r did') ids') → (new.is_honest → mid.is_honest)
+    → (one : TookTurn (passage holds mid p q did) ids ids' prefix true counts) (two : Work (passage mid new q r did') ids') → (new.is_honest → mid.is_honest)
     → ((b : Deeds) → did' b → did'' (then_did one.work.deeds b)) → Work (passage holds new p r did'') ids
 work_more M grows holds mid new did did' did'' p q r ids ids' prefix counts one two honest_too onward = record {
   timed = one.work.timed ++ two.timed;
@@ -204,9 +205,9 @@ work_more M grows holds mid new did did' did'' p q r ids ids' prefix counts one 
 
 pub turned_more : (M : Model) → HistoriesGrow M → (holds mid new : KeeperState M) (did did' did'' : Deeds → Type 0) (p q r : PortState)
     (ids ids' ids'' : List ℕ) (prefix prefix' : List (List ℕ)) (going : Bool) (counts counts' : SessionCounts)
-    → (one : Turned (passage holds mid p q did) ids ids' prefix true counts) → Turned (passage mid new q r did') ids' ids'' prefix' going counts'
+    → (one : TookTurn (passage holds mid p q did) ids ids' prefix true counts) → TookTurn (passage mid new q r did') ids' ids'' prefix' going counts'
     → (new.is_honest → mid.is_honest) → ((b : Deeds) → did' b → did'' (then_did one.work.deeds b))
-    → Turned (passage holds new p r did'') ids ids'' (prefix ++ prefix') going (plus counts counts')
+    → TookTurn (passage holds new p r did'') ids ids'' (prefix ++ prefix') going (plus counts counts')
 turned_more M grows holds mid new did did' did'' p q r ids ids' ids'' prefix prefix' going counts counts' one two honest_too onward =
     let a = one.work in
     let b = two.work in
@@ -244,8 +245,8 @@ turned_more M grows holds mid new did did' did'' p q r ids ids' ids'' prefix pre
                 (sym (grown_kept M.serves h a.timed b.timed))
                 (subst (StandsFor new s (grown g (kept_in M.serves b.timed)))
                 (settled_both M.serves c q.confirms t a.timed b.timed a.marks b.marks same one.full) y.stands);
-            sent = replies-append a.marks b.marks ∙ ap (λ z. z ++ replies b.marks) x.sent ∙ ap (λ z. answers M s g a.timed ++ z) y.sent
-                ∙ sym (answers-append M grows s h a.timed b.timed);
+            sent = replies-append a.marks b.marks ∙ ap (λ z. z ++ replies b.marks) x.sent ∙ ap (λ z. answers_to M s g a.timed ++ z) y.sent
+                ∙ sym (answers_to-append M grows s h a.timed b.timed);
             counts_are = ap (λ z. plus z counts') x.counts_are ∙ ap (plus (counted M.serves h a.timed)) y.counts_are
                 ∙ sym (counted-append M.serves h a.timed b.timed);
           };
@@ -266,7 +267,7 @@ turned_more M grows holds mid new did did' did'' p q r ids ids' ids'' prefix pre
 -- a life after messages that were answered
 lived_more : (M : Model) → HistoriesGrow M → (Stood : Standing M → Type 0) (s : M.State) (h : History) (c c' : Bool) (t : List ℕ) (xs ys : List Timed)
     (ms ns : List Mark) (answer : List ℕ) → c' ≡ c → length ms ≡ length xs
-    → GoesOn M s h xs → replies ms ≡ answers M s (grown h (kept_in M.serves xs)) xs
+    → GoesOn M s h xs → replies ms ≡ answers_to M s (grown h (kept_in M.serves xs)) xs
     → Lived M (grown_by (standing M s h t) (exchanged c xs ms)) (exchanged c' ys ns) Stood answer
     → Lived M (standing M s h t) (exchanged c (xs ++ ys) (ms ++ ns)) Stood answer
 lived_more M grows Stood s h c c' t xs ys ms ns answer same full goes sent l =
@@ -280,7 +281,7 @@ lived_more M grows Stood s h c c' t xs ys ms ns answer same full goes sent l =
           (subst (λ x. Stood (standing M s (grown g (kept_in M.serves l.worked)) x)) (settled_both M.serves c c' t xs l.worked ms ns same full) l.stands);
       sent = record {
         later = l.sent.later;
-        first = answers-append M grows s h xs l.worked ∙ ap (λ x. x ++ answers M s (grown g (kept_in M.serves l.worked)) l.worked) (sym sent)
+        first = answers_to-append M grows s h xs l.worked ∙ ap (λ x. x ++ answers_to M s (grown g (kept_in M.serves l.worked)) l.worked) (sym sent)
             ∙ ap (λ x. replies ms ++ x) l.sent.first
             ∙ sym (append_assoc (replies ms) (replies ns) l.sent.later) ∙ ap (λ x. x ++ l.sent.later) (sym (replies-append ms ns));
         next = l.sent.next;
@@ -289,7 +290,7 @@ lived_more M grows Stood s h c c' t xs ys ms ns answer same full goes sent l =
 
 exact_more : (M : Model) → HistoriesGrow M → (Stood Stood' : Standing M → Type 0) (s : M.State) (h : History) (c c' : Bool) (t : List ℕ)
     (xs ys : List Timed) (ms ns : List Mark) → c' ≡ c → length ms ≡ length xs
-    → GoesOn M s h xs → replies ms ≡ answers M s (grown h (kept_in M.serves xs)) xs → ((after : Standing M) → Stood after → Stood' after)
+    → GoesOn M s h xs → replies ms ≡ answers_to M s (grown h (kept_in M.serves xs)) xs → ((after : Standing M) → Stood after → Stood' after)
     → Exact M (grown_by (standing M s h t) (exchanged c xs ms)) (exchanged c' ys ns) Stood
     → Exact M (standing M s h t) (exchanged c (xs ++ ys) (ms ++ ns)) Stood'
 exact_more M grows Stood Stood' s h c c' t xs ys ms ns same full goes sent f e =
@@ -301,7 +302,7 @@ exact_more M grows Stood Stood' s h c c' t xs ys ms ns same full goes sent f e =
       works = Works-append M s h xs e.worked goes e.works;
       stands = subst (λ x. Stood' (standing M s x (t ++ settled_in M.serves c (bytes_of (xs ++ e.worked)) (ms ++ ns)))) (sym (grown_kept M.serves h xs e.worked))
           (subst (λ x. Stood' (standing M s (grown g (kept_in M.serves e.worked)) x)) (settled_both M.serves c c' t xs e.worked ms ns same full) (f _ e.stands));
-      sent = replies-append ms ns ∙ ap (λ x. x ++ replies ns) sent ∙ ap (λ x. answers M s g xs ++ x) e.sent ∙ sym (answers-append M grows s h xs e.worked);
+      sent = replies-append ms ns ∙ ap (λ x. x ++ replies ns) sent ∙ ap (λ x. answers_to M s g xs ++ x) e.sent ∙ sym (answers_to-append M grows s h xs e.worked);
     }
 
 pub may_end : (may may' : StoreFault → Type 0) (e : Ended) → ((f : StoreFault) → may' f → may f) → MayEnd may' e → MayEnd may e
@@ -316,7 +317,7 @@ may_end may may' ended.Memory m is = tt
 
 pub turned_broken : (M : Model) → HistoriesGrow M → (holds mid new : KeeperState M) (did did' did'' : Deeds → Type 0) (p q r : PortState)
     (ids ids' : List ℕ) (prefix messages : List (List ℕ)) (counts : SessionCounts) (e : Ended)
-    → (one : Turned (passage holds mid p q did) ids ids' prefix true counts) → Broken (passage mid new q r did') ids' messages e
+    → (one : TookTurn (passage holds mid p q did) ids ids' prefix true counts) → Broken (passage mid new q r did') ids' messages e
     → AnswersNoMore holds mid → (new.is_honest → mid.is_honest) → (mid.is_honest → IsFirm holds → IsFirm mid)
     → ((b : Deeds) → did' b → did'' (then_did one.work.deeds b))
     → Broken (passage holds new p r did'') ids (prefix ++ messages) e
@@ -387,7 +388,7 @@ sent_up_to marks answers sent = record { later = []; first = sym (append-nil (re
 -- messages that were answered, as a life, with others after them
 pub turned_life : (M : Model) → (holds new : KeeperState M) (did : Deeds → Type 0) (p q : PortState) (ids ids' : List ℕ)
     (prefix others messages : List (List ℕ)) (going : Bool) (counts : SessionCounts) (e : Ended) → ended_store e ≡ false
-    → Turned (passage holds new p q did) ids ids' prefix going counts → messages ≡ prefix ++ others → (new.is_honest → IsFirm holds → IsFirm new)
+    → TookTurn (passage holds new p q did) ids ids' prefix going counts → messages ≡ prefix ++ others → (new.is_honest → IsFirm holds → IsFirm new)
     → Broken (passage holds new p q did) ids messages e
 turned_life M holds new did p q ids ids' prefix others messages going counts e inexact one parts firm_still =
     let w = one.work in
@@ -455,21 +456,21 @@ lasts_on ZeroUnique is = absurd (cc is)
 pub group_more : (M : Model) → HistoriesGrow M → (holds mid new : KeeperState M) (did did' did'' : Deeds → Type 0) (p q r : PortState)
     (ids ids' ids'' : List ℕ) (messages slice : List (List ℕ)) (i n : ℕ) (going : Bool) (counts counts' sum : SessionCounts)
     → slice ≡ take (length messages - i) (drop i messages) → sum ≡ plus counts counts'
-    → (one : Turned (passage holds mid p q did) ids ids' (take i messages) true counts) → Turned (passage mid new q r did') ids' ids'' (take n slice) going counts'
+    → (one : TookTurn (passage holds mid p q did) ids ids' (take i messages) true counts) → TookTurn (passage mid new q r did') ids' ids'' (take n slice) going counts'
     → (new.is_honest → mid.is_honest) → ((b : Deeds) → did' b → did'' (then_did one.work.deeds b))
-    → Turned (passage holds new p r did'') ids ids'' (take (i + n) messages) going sum
+    → TookTurn (passage holds new p r did'') ids ids'' (take (i + n) messages) going sum
 group_more M grows holds mid new did did' did'' p q r ids ids' ids'' messages slice i n going counts counts' sum same sum_is one two honest_too onward =
-    subst (λ f. Turned (passage holds new p r did'') ids ids'' f going sum) (take_parts messages i n)
-    (subst (λ c. Turned (passage holds new p r did'') ids ids'' (take i messages ++ take n (take (length messages - i) (drop i messages))) going c) (sym sum_is)
+    subst (λ f. TookTurn (passage holds new p r did'') ids ids'' f going sum) (take_parts messages i n)
+    (subst (λ c. TookTurn (passage holds new p r did'') ids ids'' (take i messages ++ take n (take (length messages - i) (drop i messages))) going c) (sym sum_is)
     (turned_more M grows holds mid new did did' did'' p q r ids ids' ids'' (take i messages) (take n (take (length messages - i) (drop i messages))) going
     counts counts' one
-    (subst (λ x. Turned (passage mid new q r did') ids' ids'' (take n x) going counts') same two) honest_too onward))
+    (subst (λ x. TookTurn (passage mid new q r did') ids' ids'' (take n x) going counts') same two) honest_too onward))
 
 -- a fault in the next group
 pub group_broken : (M : Model) → HistoriesGrow M → (holds mid new : KeeperState M) (did did' did'' : Deeds → Type 0) (p q r : PortState)
     (ids ids' : List ℕ) (messages slice : List (List ℕ)) (i : ℕ) (counts : SessionCounts) (e : Ended)
     → slice ≡ take (length messages - i) (drop i messages)
-    → (one : Turned (passage holds mid p q did) ids ids' (take i messages) true counts) → Broken (passage mid new q r did') ids' slice e
+    → (one : TookTurn (passage holds mid p q did) ids ids' (take i messages) true counts) → Broken (passage mid new q r did') ids' slice e
     → AnswersNoMore holds mid → (new.is_honest → mid.is_honest) → (mid.is_honest → IsFirm holds → IsFirm mid)
     → ((b : Deeds) → did' b → did'' (then_did one.work.deeds b))
     → Broken (passage holds new p r did'') ids messages e
@@ -480,7 +481,7 @@ group_broken M grows holds mid new did did' did'' p q r ids ids' messages slice 
 -- the last group
 pub worked_part : (M : Model) → (pass : Passage M) (ids ids' : List ℕ) (messages slice : List (List ℕ)) (i n : ℕ) (rest : Next) (counts : SessionCounts)
     → slice ≡ take (length messages - i) (drop i messages) → (goes_on rest ≡ false) → (rest ≡ ZeroUnique → StartsZero (drop n slice))
-    → Turned pass ids ids' (take (i + n) messages) (lasts rest) counts
+    → TookTurn pass ids ids' (take (i + n) messages) (lasts rest) counts
     → ProcessedAll pass ids ids' messages (record { count = i + n; next = rest; counts = counts })
 worked_part M pass ids ids' messages slice i n rest counts same over zero t = record {
   all = λ is. absurd (cc (is, over));
@@ -489,7 +490,7 @@ worked_part M pass ids ids' messages slice i n rest counts same over zero t = re
 }
 
 pub worked_all : (M : Model) → (pass : Passage M) (ids ids' : List ℕ) (messages : List (List ℕ)) (i : ℕ) (counts : SessionCounts)
-    → length messages ≤ i → Turned pass ids ids' (take i messages) true counts
+    → length messages ≤ i → TookTurn pass ids ids' (take i messages) true counts
     → ProcessedAll pass ids ids' messages (record { count = i; next = GoesOnHere; counts = counts })
 worked_all M pass ids ids' messages i counts past t = record {
   all = λ _. drop_all i messages past;

@@ -5,7 +5,7 @@ use Rattle.fuse_keeper.specs.Model.{Model}
 use Rattle.fuse_keeper.specs.Stands.{Standing}
 use Rattle.fuse_keeper.specs.KeeperState.{KeeperState, StandsFor}
 use Rattle.fuse_session.specs.declared.counts.SessionCounts.{SessionCounts}
-use Rattle.fuse_session.specs.Processed.{Timed, bytes_of, kept_in, answers, GoesOn, Works, EndsLast}
+use Rattle.fuse_session.specs.Processed.{Timed, bytes_of, kept_in, answers_to, GoesOn, Works, EndsLast}
 use Rattle.fuse_session.specs.Settling.{Mark, replies, settled_in, NoneComesAgain, SentUpTo}
 use Rattle.fuse_session.specs.Counting.{counted}
 
@@ -38,7 +38,7 @@ pub record Answered (M : Model) (at : Standing M) (x : Exchange) (Stood : Standi
   pub goes : going ≡ true → GoesOn M at.state at.history x.timed
   pub last : going ≡ false → EndsLast M at.state at.history x.timed
   pub stands : Stood (grown_by at x)
-  pub sent : replies x.marks ≡ answers M at.state (grown at.history (kept_in M.serves x.timed)) x.timed
+  pub sent : replies x.marks ≡ answers_to M at.state (grown at.history (kept_in M.serves x.timed)) x.timed
   pub counts_are : counts ≡ counted M.serves at.history x.timed
 
 -- some of the messages were processed, and their first answers were sent: whole ones, and then this one was begun
@@ -48,7 +48,7 @@ pub record Lived (M : Model) (at : Standing M) (x : Exchange) (Stood : Standing 
   pub parts : x.timed ≡ worked ++ unprocessed
   pub works : Works M at.state at.history worked
   pub stands : Stood (grown_by at (record x { timed = worked }))
-  pub sent : SentUpTo (answers M at.state (grown at.history (kept_in M.serves worked)) worked) x.marks answer
+  pub sent : SentUpTo (answers_to M at.state (grown at.history (kept_in M.serves worked)) worked) x.marks answer
 
 -- some of the messages were processed, and exactly their answers were sent
 pub record Exact (M : Model) (at : Standing M) (x : Exchange) (Stood : Standing M → Type 0) : Type 0 where
@@ -57,14 +57,14 @@ pub record Exact (M : Model) (at : Standing M) (x : Exchange) (Stood : Standing 
   pub parts : x.timed ≡ worked ++ unprocessed
   pub works : Works M at.state at.history worked
   pub stands : Stood (grown_by at (record x { timed = worked }))
-  pub sent : replies x.marks ≡ answers M at.state (grown at.history (kept_in M.serves worked)) worked
+  pub sent : replies x.marks ≡ answers_to M at.state (grown at.history (kept_in M.serves worked)) worked
 
 -- these messages were processed, and the whole answers that were sent for them are the first of those that are said, where just
 -- these messages are added
 pub record AnswersBegin (M : Model) (at : Standing M) (x : Exchange) : Type 0 where
   pub works : Works M at.state at.history x.timed
   pub unsent : List (List ℕ)
-  pub sent : answers M at.state (grown at.history (kept_in M.serves x.timed)) x.timed ≡ replies (take (length x.timed) x.marks) ++ unsent
+  pub sent : answers_to M at.state (grown at.history (kept_in M.serves x.timed)) x.timed ≡ replies (take (length x.timed) x.marks) ++ unsent
 
 -- so it is up to the first message that comes again: of any of the first messages, whatever comes after them
 abbrev pub FirstAnswered : {M : Model} → KeeperState M → List ℕ → Exchange → Type 0

@@ -15,10 +15,10 @@ use Rattle.fuse_keeper.specs.Performance.{Performance}
 use Rattle.fuse_session.specs.Deeds.{Deeds}
 use Rattle.fuse_session.specs.Transcript.{PortEvent, Received, Handed}
 
-abbrev pub is_kept : Class → Bool
-is_kept Silent = false
-is_kept (Bare errno) = false
-is_kept Kept = true
+abbrev pub is_kept_class : Class → Bool
+is_kept_class Silent = false
+is_kept_class (Bare errno) = false
+is_kept_class Kept = true
 
 abbrev pub asked_in : List Entry → List Asked
 asked_in es = map (λ e. e.asked) es
@@ -37,7 +37,7 @@ abbrev pub groups_after : OpcodeSet → List Asked → List (List ℕ) → List 
 groups_after V so_far [] = one_group so_far
 groups_after V so_far (m ∷ ms) =
     if is_zero m then one_group so_far
-    else if not (is_kept (class_for V m)) then groups_after V so_far ms
+    else if not (is_kept_class (class_for V m)) then groups_after V so_far ms
     else if ends_group (length so_far) m then (so_far ++ asked_at m ∷ []) ∷ groups_after V [] ms
     else groups_after V (so_far ++ asked_at m ∷ []) ms
 

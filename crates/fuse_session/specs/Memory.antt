@@ -69,5 +69,5 @@ abbrev pub LacksRoom : MemoryPort → ℕ → Type 0
 LacksRoom p n = vec_capacity p.sent < vec_len p.sent + n
 
 -- the outcome decides the result; but where it lacks room, it may fail
-abbrev pub Answers : MemoryPort → Outcome → ℕ → Sent → Type 0
-Answers p o len result = (result ≡ sent_by o len) ⊎ ((result ≡ sent.Failed) × LacksRoom p (kept_by o len))
+abbrev pub AnswersSend : MemoryPort → Outcome → ℕ → Sent → Type 0
+AnswersSend p o len result = (result ≡ sent_by o len) ⊎ ((result ≡ sent.Failed) × LacksRoom p (kept_by o len))

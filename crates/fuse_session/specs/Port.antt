@@ -62,10 +62,10 @@ pub record Receives (old new : PortState) (result : Received) (buffer : List ℕ
   pub gone : new.gone ≡ old.gone
 
 -- how many bytes of a slice went out
-abbrev pub Counts : Sent → ℕ → List ℕ → Type 0
-Counts (Took n) count bytes = count ≡ n
-Counts Gone count bytes = count ≡ length bytes
-Counts Failed count bytes = Unit {0}
+abbrev pub CountsSent : Sent → ℕ → List ℕ → Type 0
+CountsSent (Took n) count bytes = count ≡ n
+CountsSent Gone count bytes = count ≡ length bytes
+CountsSent Failed count bytes = Unit {0}
 
 -- a slice of which no byte was taken is a failure, unless it is empty
 abbrev pub send_failures_of : Sent → ℕ → ℕ
@@ -95,7 +95,7 @@ pub record IsQuiet (old new : PortState) : Type 0 where
 pub record Sends (old new : PortState) (result : Sent) (bytes : List ℕ) : Type 0 where
   pub count : ℕ
   pub within : count ≤ length bytes
-  pub counts : Counts result count bytes
+  pub counts : CountsSent result count bytes
   pub sent : Appends old.sent new.sent (take count bytes)
   pub failures : new.failures ≡ old.failures + send_failures_of result (length bytes)
   pub gone : MoreGone (is_gone result) old.gone new.gone new.sent

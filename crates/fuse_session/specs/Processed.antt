@@ -60,12 +60,12 @@ answer_by Kept (Some a) unique = wire a.errno a.body unique
 abbrev pub answered : (M : Model) → M.State → History → Timed → List ℕ
 answered M s g t = answer_by (class_for M.serves t.bytes) (said M s g (message_id t.bytes)) (unique_of t.bytes)
 
-abbrev pub answers : (M : Model) → M.State → History → List Timed → List (List ℕ)
-answers M s g ts = map (answered M s g) ts
+abbrev pub answers_to : (M : Model) → M.State → History → List Timed → List (List ℕ)
+answers_to M s g ts = map (answered M s g) ts
 
 -- the bytes that are to be sent for messages
 abbrev pub out : (M : Model) → M.State → History → List Timed → List ℕ
-out M s h ts = joined (answers M s (grown h (kept_in M.serves ts)) ts)
+out M s h ts = joined (answers_to M s (grown h (kept_in M.serves ts)) ts)
 
 -- a kept DESTROY, and one that is answered without an error
 abbrev pub destroys_by : Class → ℕ → Bool
@@ -80,25 +80,25 @@ abbrev pub says_zero : Option Said → Bool
 says_zero None = false
 says_zero (Some a) = a.errno == 0
 
-abbrev pub Ends : (M : Model) → M.State → History → Timed → Type 0
-Ends M s g t = (destroys M.serves t.bytes ≡ true) × (says_zero (said M s g (message_id t.bytes)) ≡ true)
+abbrev pub EndsSession : (M : Model) → M.State → History → Timed → Type 0
+EndsSession M s g t = (destroys M.serves t.bytes ≡ true) × (says_zero (said M s g (message_id t.bytes)) ≡ true)
 
 -- processed to the end: none is zero, and none ends the session
 abbrev pub GoesOn : (M : Model) → M.State → History → List Timed → Type 0
 GoesOn M s h [] = Unit {0}
-GoesOn M s h (t ∷ ts) = (is_zero t.bytes ≡ false) × (¬ Ends M s (grown h (entries_at M.serves t)) t) × GoesOn M s (grown h (entries_at M.serves t)) ts
+GoesOn M s h (t ∷ ts) = (is_zero t.bytes ≡ false) × (¬ EndsSession M s (grown h (entries_at M.serves t)) t) × GoesOn M s (grown h (entries_at M.serves t)) ts
 
 -- processed: none is zero, and nothing comes after one that ends the session
 abbrev pub Works : (M : Model) → M.State → History → List Timed → Type 0
 Works M s h [] = Unit {0}
-Works M s h (t ∷ ts) = (is_zero t.bytes ≡ false) × ((ts ≡ []) ⊎ (¬ Ends M s (grown h (entries_at M.serves t)) t)) × Works M s (grown h (entries_at M.serves t)) ts
+Works M s h (t ∷ ts) = (is_zero t.bytes ≡ false) × ((ts ≡ []) ⊎ (¬ EndsSession M s (grown h (entries_at M.serves t)) t)) × Works M s (grown h (entries_at M.serves t)) ts
 
 -- the last message ends the session
 pub record EndsLast (M : Model) (s : M.State) (h : History) (timed : List Timed) : Type 0 where
   pub earlier : List Timed
   pub one : Timed
   pub parts : timed ≡ earlier ++ one ∷ []
-  pub ends : Ends M s (grown h (kept_in M.serves timed)) one
+  pub ends : EndsSession M s (grown h (kept_in M.serves timed)) one
 
 -- the last message is a kept DESTROY
 pub record LastDestroys (V : OpcodeSet) (timed : List Timed) : Type 0 where

@@ -9,7 +9,7 @@ use Rattle.fuse_keeper.specs.KeeperState.{KeeperState}
 use Rattle.fuse_session.specs.declared.port.Received.{Received as ReceiveResult}
 use Rattle.fuse_session.specs.Transcript.{PortEvent, Received, received_in, handed_in, Gave}
 use Rattle.fuse_session.specs.Deeds.{Deeds}
-use Rattle.fuse_session.specs.Processed.{Timed, bytes_of, kept_in, answers, GoesOn}
+use Rattle.fuse_session.specs.Processed.{Timed, bytes_of, kept_in, answers_to, GoesOn}
 use Rattle.fuse_session.specs.Settling.{Mark, replies}
 use Rattle.fuse_session.specs.Slices.{RestsOfAll}
 use Rattle.fuse_session.specs.Passage.{Passage}
@@ -25,7 +25,7 @@ pub record CaughtUp {M : Model} (k new : KeeperState M) (confirms : Bool) (event
   pub full : length marks ≡ length timed
   pub slices : RestsOfAll marks (handed_in events)
   pub sent : new.is_honest → IfNoneComesAgain k [] (record { confirms = confirms; timed = timed; marks = marks })
-      (λ at. replies marks ≡ answers M at.state (grown at.history (kept_in M.serves timed)) timed)
+      (λ at. replies marks ≡ answers_to M at.state (grown at.history (kept_in M.serves timed)) timed)
   pub goes : new.is_honest → IfNoneComesAgain k [] (record { confirms = confirms; timed = timed; marks = marks })
       (λ at. GoesOn M at.state at.history timed)
   pub good : bad_length (length (joined (bytes_of timed))) (cut (received_in events)).1 ≡ None

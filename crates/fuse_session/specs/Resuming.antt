@@ -5,7 +5,7 @@ use Rattle.fuse_wire.specs.declared.init_flags.InitFlags.{InitFlags}
 use Rattle.fuse_answer.specs.Notice.{resend_bytes, epoch_bytes}
 use Rattle.fuse_init.specs.declared.settings.Settings.{Settings}
 use Rattle.fuse_keeper.specs.declared.fault.StoreFault.{StoreFault}
-use Rattle.fuse_keeper.specs.Model.{Model, IsRowed}
+use Rattle.fuse_keeper.specs.Model.{Model, IsOfGoodState}
 use Rattle.fuse_keeper.specs.Stands.{Records}
 use Rattle.fuse_keeper.specs.KeeperState.{KeeperState}
 use Rattle.fuse_session.specs.declared.resend.ResumeFault.{ResumeFault}
@@ -33,7 +33,7 @@ knows_epochs (Some agreed) = nat_le epoch_minor agreed.minor
 
 -- what is read off the settings of a tree that is held
 abbrev pub SettingsSay : {M : Model} → KeeperState M → (Option Settings → Bool) → Bool → Type 0
-SettingsSay {M} k read so = (rows : M.Rows) (records : Records) → k.holds rows records → IsRowed M rows → read (M.settings rows) ≡ so
+SettingsSay {M} k read so = (rows : M.Rows) (records : Records) → k.holds rows records → IsOfGoodState M rows → read (M.settings rows) ≡ so
 
 -- the notices that a kernel gets, in order, by whether it knows epochs
 abbrev pub notices : Bool → List (List ℕ)

@@ -48,7 +48,7 @@ settled_with {M} {p} t work = t ++ settled_in M.serves p.port.confirms (bytes_of
 
 -- these messages were processed and answered, and the session goes on after them, or the last one ended it. Of the settled ids few
 -- have a record, all of them pending, if so it was before
-pub record Turned {M : Model} (p : Passage M) (pending pending' : List ℕ) (prefix : List (List ℕ)) (going : Bool) (counts : SessionCounts) : Type 0 where
+pub record TookTurn {M : Model} (p : Passage M) (pending pending' : List ℕ) (prefix : List (List ℕ)) (going : Bool) (counts : SessionCounts) : Type 0 where
   pub work : Work p pending
   pub bytes : prefix ≡ bytes_of work.timed
   pub full : length work.marks ≡ length work.timed
@@ -79,7 +79,7 @@ goes_on ZeroUnique = false
 pub record ProcessedAll {M : Model} (p : Passage M) (pending pending' : List ℕ) (messages : List (List ℕ)) (progress : Progress) : Type 0 where
   pub all : goes_on progress.next ≡ true → drop progress.count messages ≡ []
   pub zero : progress.next ≡ ZeroUnique → StartsZero (drop progress.count messages)
-  pub turned : Turned p pending pending' (take progress.count messages) (lasts progress.next) progress.counts
+  pub turned : TookTurn p pending pending' (take progress.count messages) (lasts progress.next) progress.counts
 
 -- what a session holds between two receives: the settled ids that are pending, the bytes of a message that isn't whole yet, and the
 -- offset at which these begin
@@ -97,7 +97,7 @@ pub record Whole {M : Model} (p : Passage M) (before after : Waiting) (counts : 
   pub came : Consumes p.port.coming p.port'.coming received
   pub rest_is : after.bytes ≡ (cut (before.bytes ++ received)).1
   pub at : after.at ≡ before.at + length (joined (cut (before.bytes ++ received)).0)
-  pub turned : Turned (hearing p received) before.pending after.pending (cut (before.bytes ++ received)).0 true counts
+  pub turned : TookTurn (hearing p received) before.pending after.pending (cut (before.bytes ++ received)).0 true counts
 
 -- ---- however it ended
 

@@ -7,7 +7,7 @@ use Rattle.fuse_request.specs.Classes.{class_for}
 use Rattle.fuse_request.specs.Opcodes.{OpcodeSet}
 use Rattle.fuse_request.specs.Stream.{joined}
 use Rattle.fuse_keeper.specs.History.{is_in}
-use Rattle.fuse_keeper.specs.Model.{Model, IsRowed}
+use Rattle.fuse_keeper.specs.Model.{Model, IsOfGoodState}
 use Rattle.fuse_keeper.specs.Stands.{Records}
 use Rattle.fuse_keeper.specs.KeeperState.{KeeperState}
 use Rattle.fuse_session.specs.Port.{PortState}
@@ -28,14 +28,14 @@ settles_if true Silent i = []
 settles_if true (Bare errno) i = []
 settles_if true Kept i = i ∷ []
 
-abbrev pub settles : OpcodeSet → Bool → List ℕ → Mark → List ℕ
-settles V confirms m mark = settles_if (confirms || mark.gone) (class_for V m) (message_id m)
+abbrev pub settles_by_mark : OpcodeSet → Bool → List ℕ → Mark → List ℕ
+settles_by_mark V confirms m mark = settles_if (confirms || mark.gone) (class_for V m) (message_id m)
 
 -- the ids that are settled by the answers to the first of these messages
 abbrev pub settled_in : OpcodeSet → Bool → List (List ℕ) → List Mark → List ℕ
 settled_in V confirms [] marks = []
 settled_in V confirms (m ∷ ms) [] = []
-settled_in V confirms (m ∷ ms) (mark ∷ marks) = settles V confirms m mark ++ settled_in V confirms ms marks
+settled_in V confirms (m ∷ ms) (mark ∷ marks) = settles_by_mark V confirms m mark ++ settled_in V confirms ms marks
 
 -- whether a kept message comes though its id is settled
 abbrev pub comes_again : List ℕ → Class → ℕ → Bool
@@ -50,7 +50,7 @@ MayCome V t m = comes_again t (class_for V m) (message_id m) ≡ false
 abbrev pub NoneComesAgain : OpcodeSet → Bool → List ℕ → List (List ℕ) → List Mark → Type 0
 NoneComesAgain V confirms t [] marks = Unit {0}
 NoneComesAgain V confirms t (m ∷ ms) [] = MayCome V t m × NoneComesAgain V confirms t ms []
-NoneComesAgain V confirms t (m ∷ ms) (mark ∷ marks) = MayCome V t m × NoneComesAgain V confirms (t ++ settles V confirms m mark) ms marks
+NoneComesAgain V confirms t (m ∷ ms) (mark ∷ marks) = MayCome V t m × NoneComesAgain V confirms (t ++ settles_by_mark V confirms m mark) ms marks
 
 -- one place for each answer that was answered Gone: where it ends in the bytes sent, if those are known
 abbrev pub PlaceFirst : Bool → Option (List ℕ) → (List ℕ → Type 0) → List ℕ → Type 0
@@ -86,7 +86,7 @@ pub record FewHave {M : Model} (k : KeeperState M) (ids more : List ℕ) : Type 
   pub rows : M.Rows
   pub records : Records
   pub held : k.holds rows records
-  pub rowed : IsRowed M rows
+  pub rowed : IsOfGoodState M rows
   pub few : length more ≤ 16
   pub others : (i : ℕ) → is_in ids i ≡ true → is_in more i ≡ false → records i ≡ None
 

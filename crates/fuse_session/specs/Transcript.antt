@@ -26,14 +26,14 @@ abbrev pub one_send : List ℕ → Sent → List PortEvent
 one_send slice result = Handed slice result ∷ []
 
 -- a receive with this result gave these bytes, in some buffer
-pub record Gives (old new : PortState) (result : Receipt) (bytes : List ℕ) : Type 0 where
+pub record GotBytes (old new : PortState) (result : Receipt) (bytes : List ℕ) : Type 0 where
   pub buffer : List ℕ
   pub came : bytes ≡ bytes_got result buffer
   pub receives : Receives old new result buffer
 
 -- the state after one call
 abbrev pub Step : PortState → PortState → PortEvent → Type 0
-Step old new (Received result bytes) = Gives old new result bytes
+Step old new (Received result bytes) = GotBytes old new result bytes
 Step old new (Handed slice result) = Sends old new result slice
 
 -- the state after several calls, one after the other

@@ -8,7 +8,7 @@ ghost use Rattle.fuse_keeper.specs.Group.{entries_of, HasId, IsKept};
 ghost use Rattle.fuse_keeper.specs.declared.keeper.TheConstants.{MAX_GROUP as max_group};
 ghost use Rattle.fuse_session.specs.Grouping.{one_group, groups_of, asked_in};
 ghost use Rattle.fuse_session.specs.Processed.{entry_if, message_entry, moment_if};
-ghost use Rattle.fuse_session.specs.inner.Group.{Gathers, IsStuck, listed, classes_in};
+ghost use Rattle.fuse_session.specs.inner.Group.{Gathers, IsStuck, as_list, classes_in};
 
 use crate::clock::Clock;
 use bytes::Bytes;
@@ -46,10 +46,10 @@ fn read_one<'a, K: Keeper, C: Clock>(
 ) -> Option<(Request<'a>, Moment)>
     requires message { IsMessage message.now }
     requires class { class ≡ class_for K.model.serves message.now }
-    ensures entry { (t : MomentValue) × (entries_of (listed result)
+    ensures entry { (t : MomentValue) × (entries_of (as_list result)
         ≡ entry_if (class_for K.model.serves message.now) (message_entry message.now t))
         × C.gave clock.old clock.new (moment_if (class_for K.model.serves message.now) t) }
-    ensures kept { All (IsKept K.model) (entries_of (listed result)) }
+    ensures kept { All (IsKept K.model) (entries_of (as_list result)) }
 {
     match class {
         Class::Kept => match decode(message) {

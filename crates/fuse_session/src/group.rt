@@ -9,9 +9,9 @@ ghost use Rattle.fuse_session.specs.Port.{IsYoung, IsQuiet};
 ghost use Rattle.fuse_session.specs.Processed.{StartsZero};
 ghost use Rattle.fuse_session.specs.Deeds.{Did};
 ghost use Rattle.fuse_session.specs.Passage.{passage};
-ghost use Rattle.fuse_session.specs.Starts.{Kept, HoldsUnder};
+ghost use Rattle.fuse_session.specs.Starts.{KeptRecords, HoldsUnder};
 ghost use Rattle.fuse_session.specs.Ended.{ended_store, IsIntact};
-ghost use Rattle.fuse_session.specs.Serving.{KeepsFirm, Turned, Broken, lasts, goes_on};
+ghost use Rattle.fuse_session.specs.Serving.{KeepsFirm, TookTurn, Broken, lasts, goes_on};
 ghost use Rattle.fuse_session.specs.inner.Counting.{IsBelow};
 ghost use Rattle.fuse_session.specs.inner.Finishing.{ended_at, ended_port};
 ghost use Rattle.fuse_session.specs.inner.Group.{answers_in, last_zero, rest_by};
@@ -99,7 +99,7 @@ impl<K: Keeper, P: Port, C: Clock> Session<'_, '_, '_, '_, K, P, C> {
             → progress.count ≡ 0 → messages.now ≡ []) }
         ensures zero { IfOk result (λ progress. progress.next ≡ Next.ZeroUnique
             → StartsZero (drop progress.count messages.now)) }
-        ensures ok { IfOk result (λ progress. Turned (muted (passage (K.told self.old.keeper.now)
+        ensures ok { IfOk result (λ progress. TookTurn (muted (passage (K.told self.old.keeper.now)
             (K.told self.new.keeper.now) (P.told self.old.port.now) (P.told self.new.port.now)
             (Did (C.gave self.old.clock.now self.new.clock.now)
             (Grouped K.model.serves messages.now
@@ -116,7 +116,7 @@ impl<K: Keeper, P: Port, C: Clock> Session<'_, '_, '_, '_, K, P, C> {
         ensures firm_still { IfErr result (λ fault. ended_store (ended_at fault) ≡ false
             → KeepsFirm (K.told self.old.keeper.now) (K.told self.new.keeper.now)) }
         ensures more { OnOk result ((P.told self.old.port.now).confirms ≡ true
-            → (K.told self.new.keeper.now).is_honest → (before : Kept)
+            → (K.told self.new.keeper.now).is_honest → (before : KeptRecords)
             → HandsOn before (K.told self.old.keeper.now) (ids_of self.old.pending.now.items)
             → HandsOn before (K.told self.new.keeper.now) (ids_of self.new.pending.now.items)) }
         ensures failures { OnOk result
@@ -132,7 +132,7 @@ impl<K: Keeper, P: Port, C: Clock> Session<'_, '_, '_, '_, K, P, C> {
         ensures medium { (K.told self.old.keeper.now).in_memory
             → (K.told self.new.keeper.now).in_memory }
         ensures at_most { IfErr result (λ fault. IsIntact (K.told self.new.keeper.now) (ended_at fault)
-            → (before : Kept)
+            → (before : KeptRecords)
             → HandsOn before (K.told self.old.keeper.now) (ids_of self.old.pending.now.items)
             → HoldsUnder before (K.told self.new.keeper.now)) }
         ensures failed { IfErr result (λ fault. FailedBy (ended_port (ended_at fault))

@@ -5,7 +5,7 @@ ghost use Rattle.fuse_request.specs.Framing.{fed_of};
 ghost use Rattle.fuse_request.specs.declared.framer.TheConstants.{MAX_FED as max_fed};
 ghost use Rattle.fuse_request.specs.declared.header.TheConstants.{MAX_MESSAGE as max_message};
 ghost use Rattle.fuse_session.specs.Port.{IsYoung};
-ghost use Rattle.fuse_session.specs.inner.Receiving.{IsOpen, TookAll, IsHearing, EndsSo};
+ghost use Rattle.fuse_session.specs.inner.Receiving.{IsOpen, TookAll, IsHearing, EndsReceiving};
 ghost use Rattle.fuse_session.specs.inner.Receiving.{Comes, Heard, NotHeard};
 
 use crate::ended::Ended;
@@ -86,7 +86,7 @@ fn take_waiting(alloc: Global, framer: &mut Framer) -> Result<Waiting, Memory>
 // How a session ends whose port has ended.
 fn ended_by(framer: &Framer) -> Ended
     requires opened { IsOpen framer.now }
-    ensures { EndsSo result framer.now }
+    ensures { EndsReceiving result framer.now }
 {
     match framer.end() {
         Ok(()) => Ended::End,

@@ -133,7 +133,8 @@ impl MemoryPort {
 impl Port for MemoryPort {
     ghost use Rattle.fuse_session.specs.Memory.{memory_told, arrivals_left, outcomes_left};
     ghost use Rattle.fuse_session.specs.Memory.{bytes_left};
-    ghost use Rattle.fuse_session.specs.Memory.{first_arrival, first_outcome, received_by, Answers};
+    ghost use Rattle.fuse_session.specs.Memory.{first_arrival, first_outcome, received_by};
+    ghost use Rattle.fuse_session.specs.Memory.{AnswersSend};
     ghost use Rattle.fuse_session.specs.Memory.{HasRoom, kept_by};
     ghost use Rattle.fuse_session.specs.Port.{IsYoung, Receives, Sends};
     ghost use Rattle.fuse_session.specs.Stepping.{Stepped};
@@ -178,11 +179,14 @@ impl Port for MemoryPort {
         ensures sent { Sends (memory_told self.old) (memory_told self.new) result bytes.now }
         ensures same { Stepped memory_told self.old self.new (one_send bytes.now result) }
         // By its list of outcomes, which is then one shorter.
-        ensures answers { Answers self.old (first_outcome (outcomes_left self.old))
+        ensures answers { AnswersSend self.old (first_outcome (outcomes_left self.old))
             (length bytes.now) result }
         // What it keeps is taken from its room.
         ensures room { (more : ℕ) → HasRoom self.old (kept_by (first_outcome
             (outcomes_left self.old)) (length bytes.now) + more) → HasRoom self.new more }
+        // A send that fails keeps nothing.
+        ensures failed { result ≡ Sent.Failed
+            → (memory_told self.new).sent ≡ (memory_told self.old).sent }
         ensures left { outcomes_left self.new ≡ drop 1 (outcomes_left self.old) }
         ensures others { arrivals_left self.new ≡ arrivals_left self.old }
     {

@@ -8,7 +8,7 @@ ghost use Rattle.fuse_keeper.specs.declared.keeper.TheConstants.{MAX_SETTLED as 
 ghost use Rattle.fuse_session.specs.Port.{IsYoung, IsQuiet};
 ghost use Rattle.fuse_session.specs.Deeds.{Did};
 ghost use Rattle.fuse_session.specs.Passage.{passage};
-ghost use Rattle.fuse_session.specs.Starts.{Kept, HoldsUnder};
+ghost use Rattle.fuse_session.specs.Starts.{KeptRecords, HoldsUnder};
 ghost use Rattle.fuse_session.specs.Ended.{ended_store, IsIntact};
 ghost use Rattle.fuse_session.specs.Serving.{KeepsFirm, ProcessedAll, Broken, goes_on};
 ghost use Rattle.fuse_session.specs.inner.Counting.{IsBelow};
@@ -76,7 +76,7 @@ impl<K: Keeper, P: Port, C: Clock> Session<'_, '_, '_, '_, K, P, C> {
         ensures firm_still { IfErr result (λ fault. ended_store (ended_at fault) ≡ false
             → KeepsFirm (K.told self.old.keeper.now) (K.told self.new.keeper.now)) }
         ensures more { OnOk result ((P.told self.old.port.now).confirms ≡ true
-            → (K.told self.new.keeper.now).is_honest → (before : Kept)
+            → (K.told self.new.keeper.now).is_honest → (before : KeptRecords)
             → HandsOn before (K.told self.old.keeper.now) (ids_of self.old.pending.now.items)
             → HandsOn before (K.told self.new.keeper.now) (ids_of self.new.pending.now.items)) }
         ensures failures { OnOk result
@@ -92,7 +92,7 @@ impl<K: Keeper, P: Port, C: Clock> Session<'_, '_, '_, '_, K, P, C> {
         ensures medium { (K.told self.old.keeper.now).in_memory
             → (K.told self.new.keeper.now).in_memory }
         ensures at_most { IfErr result (λ fault. (P.told self.old.port.now).confirms ≡ true
-            → IsIntact (K.told self.new.keeper.now) (ended_at fault) → (before : Kept)
+            → IsIntact (K.told self.new.keeper.now) (ended_at fault) → (before : KeptRecords)
             → HandsOn before (K.told self.old.keeper.now) (ids_of self.old.pending.now.items)
             → HoldsUnder before (K.told self.new.keeper.now)) }
         ensures failed { IfErr result (λ fault. FailedBy (ended_port (ended_at fault))

@@ -9,7 +9,9 @@ ghost use Rattle.fuse_session.specs.Source.{ReadsOnce, WritesOnce, FlushesOnce};
 use std::io;
 use std::io::{Read, Write};
 
-/// Where bytes are read from: any reader. What is said of one read distinguishes it from none and from two.
+/// Where bytes are read from: any reader. By `was_read` a type may distinguish one read from none
+/// and from two. That of a reader of std is what std promises of a read; it does not distinguish
+/// them where the read failed, or where the bytes to come are not known.
 pub trait Source: Drop {
     /// The bytes that reads will give from here on, where they are known.
     ghost remaining: { Self → Option (List ℕ) };
@@ -38,7 +40,10 @@ impl<R: Read + Drop> Source for R {
     ghost consumed = { λ a b result buffer once. once };
 }
 
-/// Where bytes are written to: any writer. What is said of one call distinguishes it from none and from two.
+/// Where bytes are written to: any writer. By `was_written` and `was_flushed` a type may distinguish
+/// one call from none and from two. Those of a writer of std are what std promises of a write and of
+/// a flush; they do not distinguish them where the call failed or is a flush, or where the bytes
+/// held are not known.
 pub trait Sink: Drop {
     /// The bytes that it holds, where they are known.
     ghost contents: { Self → Option (List ℕ) };

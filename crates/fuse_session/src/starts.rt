@@ -2,7 +2,7 @@
 ghost use Rattle.std.specs.Prelude.{List};
 ghost use Rattle.std.specs.List.{AllByRecursion};
 ghost use Rattle.fuse_keeper.specs.KeeperState.{OfHeld};
-ghost use Rattle.fuse_session.specs.Starts.{LotsOverStarts, HasFewEach, kept_by, HoldsKept};
+ghost use Rattle.fuse_session.specs.Starts.{LotsOverStarts, HasFewEach, records_kept_by, HoldsKept};
 ghost use Rattle.fuse_session.specs.Starts.{StartsOnce, StartsOften, IsStart};
 
 use fuse_keeper::Keeper;
@@ -20,7 +20,7 @@ pub fn lots_over_starts()
 pub fn keepers_start<K: Keeper>()
     // What each start makes of the records and lots that are held is a start of records and lots,
     ensures once { (old left : K) (one : StartsOnce K.told old left) → OfHeld (K.told old)
-        (λ rows records. HoldsKept (K.told left) (IsStart (kept_by (K.told old) records))) }
+        (λ rows records. HoldsKept (K.told left) (IsStart (records_kept_by (K.told old) records))) }
     // so after each of them each lot but 0 has the records of at most 16 ids, if it was so at first.
     ensures often { (old : K) (lefts : List K) → HoldsKept (K.told old) HasFewEach
         → StartsOften K.told old lefts

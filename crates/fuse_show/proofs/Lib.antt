@@ -1,7 +1,14 @@
+pub mod AnyLines
+pub mod Failing
+pub mod Found
 pub mod Lines
+pub mod Looking
+pub mod Naming
 pub mod Once
 pub mod Pages
 pub mod Shows
+pub mod Sinking
 pub mod Splits
+pub mod Texts
 pub mod Trees
 pub mod Walks

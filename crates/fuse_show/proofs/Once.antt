@@ -1,15 +1,16 @@
 -- The names of a path lead to one node, or fail for one reason.
 use Rattle.std.proofs.Common.{◌≡◌, ◌⊎◌, ℕ, Bool, true, false, List, [], ◌∷◌, ◌++◌, Option, Some, None, inl, inr, refl, sym, ap, subst, ◌∙◌}
 use Rattle.std.specs.Prelude.{Result, Ok, Err}
-use Rattle.fuse_tree.specs.declared.rows.NodeRow.{NodeRow}
-use Rattle.fuse_tree.specs.declared.rows.EntryRow.{EntryRow}
+use Rattle.fuse_rows.specs.declared.rows.NodeRow.{NodeRow}
+use Rattle.fuse_rows.specs.declared.rows.EntryRow.{EntryRow}
 use Rattle.fuse_tree.specs.State.{is_dir}
-use Rattle.fuse_tree.specs.Bounds.{fuse_root_id}
-use Rattle.fuse_tree.specs.Rows.{Rows, IsRowed, row_at, entry_at}
+use Rattle.fuse_rows.specs.Bounds.{fuse_root_id}
+use Rattle.fuse_rows.specs.Rows.{Rows, row_at, entry_at}
+use Rattle.fuse_tree.specs.Rowed.{IsRowed}
 use Rattle.fuse_tree.specs.RowsOfTrees.{RowsOfTrees}
 use Rattle.fuse_show.specs.declared.fault.ShowFault.{ShowFault}
 use Rattle.fuse_show.specs.declared.fault.ShowFault.TheVariants.{Look, NotATree, NoSuchPath, NotDirectory, NotFile, Output}
-use Rattle.fuse_show.specs.Lookup.{LeadsBy, Lead, LeadTo, Stops, HasNone, IsNoDirectory, Finds, NoLookFault, FindsSomething, FoundOnce}
+use Rattle.fuse_show.specs.Lookup.{LeadsBy, Lead, LeadTo, Stops, HasNoEntry, IsNoDirectory, Finds, NoLookFault, FindsSomething, FoundOnce}
 use Rattle.fuse_show.proofs.Trees.{root_there, child_row}
 
 some_once : {A : Type 0} (x y : A) (o : Option A) → o ≡ Some x → o ≡ Some y → x ≡ y
@@ -31,7 +32,7 @@ lead_once rows from (name ∷ names) a b p q =
 abbrev EndsHere : Rows → NodeRow → List ℕ → Type 0
 EndsHere rows last name = (next : NodeRow) → LeadsBy rows last name next → ⊥
 
-none_ends : (rows : Rows) (last : NodeRow) (name : List ℕ) → HasNone rows last name → EndsHere rows last name
+none_ends : (rows : Rows) (last : NodeRow) (name : List ℕ) → HasNoEntry rows last name → EndsHere rows last name
 none_ends rows last name why next one =
     let found : entry_at rows.entries last.node name ≡ Some one.entry = one.found in
     let none : entry_at rows.entries last.node name ≡ None = why.1 in
@@ -86,7 +87,7 @@ leads_or_stops rows names a Why ends p s =
     on_and_stop rows p.root s.prefix s.name s.after a s.last (subst (λ (x : List (List ℕ)). Lead rows p.root x a) s.parts p.lead)
     (subst (λ (x : NodeRow). Lead rows x s.prefix s.last) root s.leads.lead) (ends s.last s.name s.why)
 
-stops_or : (rows : Rows) (names : List (List ℕ)) → Stops rows names (HasNone rows) → Stops rows names IsNoDirectory → ⊥
+stops_or : (rows : Rows) (names : List (List ℕ)) → Stops rows names (HasNoEntry rows) → Stops rows names IsNoDirectory → ⊥
 stops_or rows names p q =
     let root = root_once rows p.prefix q.prefix p.last q.last p.leads q.leads in
     let last : p.last ≡ q.last =
@@ -101,14 +102,14 @@ place_or : (rows : Rows) (names : List (List ℕ)) (a : NodeRow) (b : Result Nod
 place_or rows names a (Ok b) known p q = ap Ok (places_once rows names a b p q)
 place_or rows names a (Err (Look f)) known p q = absurd known
 place_or rows names a (Err NotATree) known p q = absurd q
-place_or rows names a (Err NoSuchPath) known p q = absurd (leads_or_stops rows names a (HasNone rows) (none_ends rows) p q)
+place_or rows names a (Err NoSuchPath) known p q = absurd (leads_or_stops rows names a (HasNoEntry rows) (none_ends rows) p q)
 place_or rows names a (Err NotDirectory) known p q = absurd (leads_or_stops rows names a IsNoDirectory (no_directory_ends rows) p q)
 place_or rows names a (Err NotFile) known p q = absurd q
 place_or rows names a (Err Output) known p q = absurd q
 
-none_or : (rows : Rows) (names : List (List ℕ)) (b : Result NodeRow ShowFault) → NoLookFault b → Stops rows names (HasNone rows) → Finds rows names b
+none_or : (rows : Rows) (names : List (List ℕ)) (b : Result NodeRow ShowFault) → NoLookFault b → Stops rows names (HasNoEntry rows) → Finds rows names b
     → Err NoSuchPath ≡ b
-none_or rows names (Ok b) known p q = absurd (leads_or_stops rows names b (HasNone rows) (none_ends rows) q p)
+none_or rows names (Ok b) known p q = absurd (leads_or_stops rows names b (HasNoEntry rows) (none_ends rows) q p)
 none_or rows names (Err (Look f)) known p q = absurd known
 none_or rows names (Err NotATree) known p q = absurd q
 none_or rows names (Err NoSuchPath) known p q = refl
@@ -145,7 +146,7 @@ record StopsFrom (rows : Rows) (from : NodeRow) (names : List (List ℕ)) : Type
   pub parts : names ≡ prefix ++ name ∷ after
   pub last : NodeRow
   pub lead : Lead rows from prefix last
-  pub why : HasNone rows last name ⊎ IsNoDirectory last name
+  pub why : HasNoEntry rows last name ⊎ IsNoDirectory last name
 
 abbrev GoesFrom : Rows → NodeRow → List (List ℕ) → Type 0
 GoesFrom rows from names = ((to : NodeRow) × Lead rows from names to) ⊎ StopsFrom rows from names
@@ -164,7 +165,7 @@ goes_on rows from next name names one (inr s) = inr (record {
   why = s.why;
 })
 
-stops_here : (rows : Rows) (from : NodeRow) (name : List ℕ) (names : List (List ℕ)) → HasNone rows from name ⊎ IsNoDirectory from name
+stops_here : (rows : Rows) (from : NodeRow) (name : List ℕ) (names : List (List ℕ)) → HasNoEntry rows from name ⊎ IsNoDirectory from name
     → GoesFrom rows from (name ∷ names)
 stops_here rows from name names why =
     inr (record { prefix = []; name = name; after = names; parts = refl; last = from; lead = refl; why = why })
@@ -197,7 +198,7 @@ found_so rows names root here (inr s) = of_why s.why
     leads : LeadTo rows s.prefix s.last
     leads = record { root = root; is_root = here; lead = s.lead }
 
-    of_why : HasNone rows s.last s.name ⊎ IsNoDirectory s.last s.name → (found : Result NodeRow ShowFault) × NoLookFault found × Finds rows names found
+    of_why : HasNoEntry rows s.last s.name ⊎ IsNoDirectory s.last s.name → (found : Result NodeRow ShowFault) × NoLookFault found × Finds rows names found
     of_why (inl why) =
         (Err NoSuchPath, tt, record { prefix = s.prefix; name = s.name; after = s.after; parts = s.parts; last = s.last; leads = leads; why = why })
     of_why (inr why) =

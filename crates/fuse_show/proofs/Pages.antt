@@ -1,24 +1,20 @@
 -- The entries of a directory, page by page.
 use Rattle.std.proofs.Common.{◌≡◌, ◌==◌, ◌&&◌, ◌<◌, ◌≤◌, ◌-◌, ℕ, Bool, true, false, cond, eqb, zero, suc, List, [], ◌∷◌, ◌++◌, take, drop}
 use Rattle.std.proofs.Common.{Option, Some, None, refl, sym, ap, subst, ◌∙◌, arith, append_assoc, append-nil}
-use Rattle.std.specs.Prelude.{filter, nat_lt, Err}
+use Rattle.std.specs.Prelude.{filter, nat_lt}
 use Rattle.std.specs.Option.{option_map}
 use Rattle.std.specs.List.{AllByRecursion, flat_map, slice_get}
-use Rattle.std.specs.Io.KnownBytes.{Appends}
-use Rattle.std.proofs.KnownBytes.{Appends-trans}
 use Rattle.std.proofs.lemmas.Bool.{lt-ltb, le-ltb, ltb-true}
 use Rattle.std.proofs.lemmas.List.{take-append-drop}
 use Rattle.std.proofs.lemmas.Grind.{flat_map-append}
-use Rattle.fuse_tree.specs.declared.rows.EntryRow.{EntryRow}
+use Rattle.fuse_rows.specs.declared.rows.EntryRow.{EntryRow}
 use Rattle.fuse_tree.specs.State.{Apart}
-use Rattle.fuse_tree.specs.Rows.{Rows, IsRowed, is_after, entries_after}
+use Rattle.fuse_rows.specs.Rows.{Rows, is_after, entries_after}
+use Rattle.fuse_tree.specs.Rowed.{IsRowed}
 use Rattle.fuse_tree.specs.RowsOfTrees.{RowsOfTrees}
-use Rattle.fuse_show.specs.declared.fault.ShowFault.{ShowFault}
-use Rattle.fuse_show.specs.declared.fault.ShowFault.TheVariants.{Look, NotATree, NoSuchPath, NotDirectory, NotFile, Output}
-use Rattle.fuse_show.specs.Looks.{look_fault}
-use Rattle.fuse_show.specs.inner.Writing.{WritesOut}
-use Rattle.fuse_show.specs.Listing.{line_of, listing}
-use Rattle.fuse_show.specs.inner.Pages.{entries_following, lines_after, lines_left, cookie_at, is_higher, WritesPrefix, WritesPage}
+use Rattle.fuse_show.specs.Sinks.{IsPartOf}
+use Rattle.fuse_show.specs.Listing.{line_of_entry, listing}
+use Rattle.fuse_show.specs.inner.Pages.{entry_rows_after, lines_after, lines_left, cookie_at, is_higher}
 use Rattle.fuse_show.proofs.Trees.{filtered}
 
 -- ---- on lists
@@ -117,42 +113,42 @@ second true c is = is
 second false c is = absurd cc
 
 -- the entries after a cookie have higher ones
-higher_after : (rows : Rows) (dir after i : ℕ) (x : EntryRow) → slice_get (entries_following rows dir after) i ≡ Some x → nat_lt after x.cookie ≡ true
+higher_after : (rows : Rows) (dir after i : ℕ) (x : EntryRow) → slice_get (entry_rows_after rows dir after) i ≡ Some x → nat_lt after x.cookie ≡ true
 higher_after rows dir after i x there =
     second (x.dir == dir) (nat_lt after x.cookie)
-    (all_got (λ e. is_after dir after e ≡ true) (entries_following rows dir after) i x (passes (is_after dir after) rows.entries) there)
+    (all_got (λ e. is_after dir after e ≡ true) (entry_rows_after rows dir after) i x (passes (is_after dir after) rows.entries) there)
 
 -- the entries after the last one of a page are those after the page
-after_page : RowsOfTrees → (rows : Rows) (dir after i : ℕ) (x : EntryRow) → IsRowed rows → slice_get (entries_following rows dir after) i ≡ Some x
-    → entries_following rows dir x.cookie ≡ drop (suc i) (entries_following rows dir after)
+after_page : RowsOfTrees → (rows : Rows) (dir after i : ℕ) (x : EntryRow) → IsRowed rows → slice_get (entry_rows_after rows dir after) i ≡ Some x
+    → entry_rows_after rows dir x.cookie ≡ drop (suc i) (entry_rows_after rows dir after)
 after_page law rows dir after i x is there =
     let higher : after < x.cookie = ltb-true after x.cookie (higher_after rows dir after i x there) in
     sym (still_after rows.entries dir after x.cookie (omega arith))
-    ∙ above_one (entries_following rows dir after) i x (apart_filtered Rise (is_after dir after) rows.entries (law rows is).rise) there
+    ∙ above_one (entry_rows_after rows dir after) i x (apart_filtered Rise (is_after dir after) rows.entries (law rows is).rise) there
 
 abbrev text_of : Rows → List EntryRow → List ℕ
-text_of rows es = flat_map (line_of rows) es
+text_of rows es = flat_map (line_of_entry rows) es
 
 -- the lines of a page and those left after it are those left before it
 pub page_lines : RowsOfTrees → (rows : Rows) (dir after i : ℕ) (es : List EntryRow) → IsRowed rows → es ≡ entries_after rows dir after (suc i)
-    → lines_after rows dir after ≡ flat_map (line_of rows) es ++ lines_left rows dir (cookie_at i es)
+    → lines_after rows dir after ≡ flat_map (line_of_entry rows) es ++ lines_left rows dir (cookie_at i es)
 page_lines law rows dir after i es is same = step (slice_get es i) refl
   where
-    whole : slice_get es i ≡ None → es ≡ entries_following rows dir after
-    whole got = same ∙ short_page (entries_following rows dir after) i (subst (λ (ys : List EntryRow). slice_get ys i ≡ None) same got)
+    whole : slice_get es i ≡ None → es ≡ entry_rows_after rows dir after
+    whole got = same ∙ short_page (entry_rows_after rows dir after) i (subst (λ (ys : List EntryRow). slice_get ys i ≡ None) same got)
 
-    there : (x : EntryRow) → slice_get es i ≡ Some x → entries_following rows dir x.cookie ≡ drop (suc i) (entries_following rows dir after)
+    there : (x : EntryRow) → slice_get es i ≡ Some x → entry_rows_after rows dir x.cookie ≡ drop (suc i) (entry_rows_after rows dir after)
     there x got =
         after_page law rows dir after i x is
-        (full_page (entries_following rows dir after) i x (subst (λ (ys : List EntryRow). slice_get ys i ≡ Some x) same got))
+        (full_page (entry_rows_after rows dir after) i x (subst (λ (ys : List EntryRow). slice_get ys i ≡ Some x) same got))
 
     step : (o : Option EntryRow) → slice_get es i ≡ o
         → lines_after rows dir after ≡ text_of rows es ++ lines_left rows dir (option_map (λ (e : EntryRow). e.cookie) o)
     step None got = ap (text_of rows) (sym (whole got)) ∙ sym (append-nil (text_of rows es))
     step (Some x) got =
-        ap (text_of rows) (sym (take-append-drop (suc i) (entries_following rows dir after)))
-        ∙ flat_map-append (line_of rows) (take (suc i) (entries_following rows dir after)) (drop (suc i) (entries_following rows dir after))
-        ∙ ap (λ (ys : List EntryRow). text_of rows ys ++ text_of rows (drop (suc i) (entries_following rows dir after))) (sym same)
+        ap (text_of rows) (sym (take-append-drop (suc i) (entry_rows_after rows dir after)))
+        ∙ flat_map-append (line_of_entry rows) (take (suc i) (entry_rows_after rows dir after)) (drop (suc i) (entry_rows_after rows dir after))
+        ∙ ap (λ (ys : List EntryRow). text_of rows ys ++ text_of rows (drop (suc i) (entry_rows_after rows dir after))) (sym same)
         ∙ ap (λ (ys : List EntryRow). text_of rows es ++ text_of rows ys) (sym (there x got))
 
 -- a page ends with a higher cookie than those before it
@@ -163,7 +159,7 @@ page_higher rows dir after i es same = step (slice_get es i) refl
     step None got = refl
     step (Some x) got =
         higher_after rows dir after i x
-        (full_page (entries_following rows dir after) i x (subst (λ (ys : List EntryRow). slice_get ys i ≡ Some x) same got))
+        (full_page (entry_rows_after rows dir after) i x (subst (λ (ys : List EntryRow). slice_get ys i ≡ Some x) same got))
 
 -- ---- pages one after the other
 
@@ -182,37 +178,19 @@ in_after (e ∷ es) dir all =
 
 -- before the first page all is left
 pub all_left : RowsOfTrees → (rows : Rows) (dir : ℕ) → IsRowed rows → listing rows dir ≡ lines_after rows dir 0
-all_left law rows dir is = ap (flat_map (line_of rows)) (sym (in_after rows.entries dir (law rows is).cookies))
+all_left law rows dir is = ap (flat_map (line_of_entry rows)) (sym (in_after rows.entries dir (law rows is).cookies))
 
-pub prefix_more : (a b c : Option (List ℕ)) (text mid rest : List ℕ) → WritesPrefix a b text mid → WritesPrefix b c mid rest → WritesPrefix a c text rest
-prefix_more a b c text mid rest p q = record {
-  prefix = p.prefix ++ q.prefix;
-  written = Appends-trans a b c p.prefix q.prefix p.written q.written;
-  parts = p.parts ∙ ap (λ (x : List ℕ). p.prefix ++ x) q.parts ∙ sym (append_assoc p.prefix q.prefix rest);
-}
+-- a page more
+pub pages_more : (text bytes mid ys rest : List ℕ) → text ≡ bytes ++ mid → mid ≡ ys ++ rest → text ≡ (bytes ++ ys) ++ rest
+pages_more text bytes mid ys rest p q = p ∙ ap (λ (x : List ℕ). bytes ++ x) q ∙ sym (append_assoc bytes ys rest)
+
+-- a part of a page
+pub pages_part : (text bytes mid ys : List ℕ) → text ≡ bytes ++ mid → IsPartOf ys mid → IsPartOf (bytes ++ ys) text
+pages_part text bytes mid ys p q = (q.0, pages_more text bytes mid ys q.0 p q.1)
 
 -- nothing is left
-pub prefix_all : (a b : Option (List ℕ)) (text : List ℕ) → WritesPrefix a b text [] → Appends a b text
-prefix_all a b text p = subst (Appends a b) (sym (p.parts ∙ append-nil p.prefix)) p.written
-
--- a page failed
-pub page_fails : (rows : Rows) (dir after : ℕ) (a b c : Option (List ℕ)) (text : List ℕ) (f : ShowFault)
-    → (look_fault {X = Option ℕ} (Err f) ≡ None → WritesPage rows dir after b c (Err f)) → WritesOut a c text (Err f)
-page_fails rows dir after a b c text (Look f) so = tt
-page_fails rows dir after a b c text NotATree so = so refl
-page_fails rows dir after a b c text NoSuchPath so = so refl
-page_fails rows dir after a b c text NotDirectory so = so refl
-page_fails rows dir after a b c text NotFile so = so refl
-page_fails rows dir after a b c text Output so = tt
-
-pub fails_page : (rows : Rows) (dir after : ℕ) (a b : Option (List ℕ)) (text : List ℕ) (f : ShowFault)
-    → (look_fault {X = Unit {0}} (Err f) ≡ None → WritesOut a b text (Err f)) → WritesPage rows dir after a b (Err f)
-fails_page rows dir after a b text (Look f) so = tt
-fails_page rows dir after a b text NotATree so = so refl
-fails_page rows dir after a b text NoSuchPath so = so refl
-fails_page rows dir after a b text NotDirectory so = so refl
-fails_page rows dir after a b text NotFile so = so refl
-fails_page rows dir after a b text Output so = tt
+pub pages_all : (text bytes : List ℕ) → text ≡ bytes ++ [] → bytes ≡ text
+pages_all text bytes p = sym (p ∙ append-nil bytes)
 
 -- how many cookies may come
 abbrev pub cookies_left : Option ℕ → ℕ

@@ -8,12 +8,12 @@ use Rattle.std.proofs.lemmas.Bool.{eqb-true}
 use Rattle.fuse_init.specs.declared.profile.Profile.{Profile}
 use Rattle.fuse_init.specs.declared.profile.Profile.TheVariants.{Plain, Everyday}
 use Rattle.fuse_init.specs.Profile.{terms}
-use Rattle.fuse_tree.specs.Bounds.{fuse_root_id, file_limit}
-use Rattle.fuse_tree.specs.declared.rows.EntryRow.{EntryRow}
-use Rattle.fuse_tree.specs.declared.rows.NodeRow.{NodeRow}
-use Rattle.fuse_tree.specs.declared.rows.Full.{Full}
-use Rattle.fuse_tree.specs.State.{is_entry}
-use Rattle.fuse_tree.specs.Rows.{Rows, IsRowed, profile_at, row_at, entry_at, is_after, entries_after}
+use Rattle.fuse_rows.specs.Bounds.{fuse_root_id, file_limit}
+use Rattle.fuse_rows.specs.declared.rows.EntryRow.{EntryRow}
+use Rattle.fuse_rows.specs.declared.rows.NodeRow.{NodeRow}
+use Rattle.fuse_rows.specs.declared.rows.Full.{Full}
+use Rattle.fuse_rows.specs.Rows.{is_entry, Rows, profile_at, row_at, entry_at, is_after, entries_after}
+use Rattle.fuse_tree.specs.Rowed.{IsRowed}
 use Rattle.fuse_tree.specs.RowsOfTrees.{RowsOfTrees, LeadsToRow}
 use Rattle.fuse_show.specs.Content.{content_at}
 

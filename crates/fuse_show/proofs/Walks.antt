@@ -1,15 +1,15 @@
 -- Names followed one after the other.
 use Rattle.std.proofs.Common.{◌≡◌, ℕ, List, [], ◌∷◌, ◌++◌, Some, None, refl, sym, ap, subst, ◌∙◌, append_assoc, append-nil}
 use Rattle.std.specs.Prelude.{Ok, Err}
-use Rattle.fuse_tree.specs.Bounds.{fuse_root_id}
-use Rattle.fuse_tree.specs.declared.rows.NodeRow.{NodeRow}
-use Rattle.fuse_tree.specs.Rows.{Rows, row_at}
+use Rattle.fuse_rows.specs.Bounds.{fuse_root_id}
+use Rattle.fuse_rows.specs.declared.rows.NodeRow.{NodeRow}
+use Rattle.fuse_rows.specs.Rows.{Rows, row_at}
 use Rattle.fuse_show.specs.declared.fault.ShowFault.{ShowFault}
 use Rattle.fuse_show.specs.declared.fault.ShowFault.TheVariants.{Look, NotATree, NoSuchPath, NotDirectory, NotFile, Output}
-use Rattle.fuse_show.specs.Looks.{ReadOff, look_fault}
+use Rattle.fuse_show.specs.Looks.{ReadOff, look_fault_in}
 use Rattle.fuse_show.specs.Paths.{names_of}
 use Rattle.fuse_show.specs.Lookup.{LeadsBy, Lead, LeadTo, Finds}
-use Rattle.fuse_show.specs.inner.Finding.{Steps, IsRoot}
+use Rattle.fuse_show.specs.inner.Finding.{StepsTo, IsRoot}
 use Rattle.fuse_show.proofs.Trees.{row_numbered}
 
 lead_more : (rows : Rows) (from : NodeRow) (names : List (List ℕ)) (to : NodeRow) (name : List ℕ) (next : NodeRow) → Lead rows from names to
@@ -23,7 +23,7 @@ leads_more rows names to name next leads one =
     record { root = leads.root; is_root = leads.is_root; lead = lead_more rows leads.root names to name next leads.lead one }
 
 stop_at : (rows : Rows) (names prefix : List (List ℕ)) (name : List ℕ) (after : List (List ℕ)) (place : NodeRow) (f : ShowFault)
-    → names ≡ prefix ++ name ∷ after → LeadTo rows prefix place → Steps rows place name (Err f) → Finds rows names (Err f)
+    → names ≡ prefix ++ name ∷ after → LeadTo rows prefix place → StepsTo rows place name (Err f) → Finds rows names (Err f)
 stop_at rows names prefix name after place (Look f) parts leads why = tt
 stop_at rows names prefix name after place NotATree parts leads why = why
 stop_at rows names prefix name after place NoSuchPath parts leads why =
@@ -58,13 +58,13 @@ went_more clean clean' sees sees' path rest name after place next went cut was k
 -- the next name leads nowhere, or a look failed
 pub stop_if : (clean : Type 0) (sees : Rows → Type 0) (path rest name after : List ℕ) (place : NodeRow) (went : Went clean sees path rest place)
     → names_of rest ≡ name ∷ names_of after → (rows : Rows) (f : ShowFault)
-    → (look_fault {X = NodeRow} (Err f) ≡ None → LeadTo rows went.prefix place × Steps rows place name (Err f)) → Finds rows (names_of path) (Err f)
+    → (look_fault_in {X = NodeRow} (Err f) ≡ None → LeadTo rows went.prefix place × StepsTo rows place name (Err f)) → Finds rows (names_of path) (Err f)
 stop_if clean sees path rest name after place went cut rows f so = stop f so
   where
     parts : names_of path ≡ went.prefix ++ name ∷ names_of after
     parts = went.parts ∙ ap (λ (x : List (List ℕ)). went.prefix ++ x) cut
 
-    stop : (e : ShowFault) → (look_fault {X = NodeRow} (Err e) ≡ None → LeadTo rows went.prefix place × Steps rows place name (Err e))
+    stop : (e : ShowFault) → (look_fault_in {X = NodeRow} (Err e) ≡ None → LeadTo rows went.prefix place × StepsTo rows place name (Err e))
         → Finds rows (names_of path) (Err e)
     stop (Look e) so = tt
     stop NotATree so = let p = so refl in stop_at rows (names_of path) went.prefix name (names_of after) place NotATree parts p.0 p.1

@@ -1,6 +1,6 @@
 -- The bytes of a file (defined by this project).
 use Rattle.std.specs.Prelude.{ℕ, List}
-use Rattle.fuse_tree.specs.Rows.{Rows, full_at, content_of}
+use Rattle.fuse_rows.specs.Rows.{Rows, full_at, content_of}
 
 -- all bytes of the node with this number
 abbrev pub content_at : Rows → ℕ → List ℕ

@@ -1,4 +1,6 @@
 pub mod Content
+pub mod Fields
+pub mod Findings
 pub mod Listing
 pub mod Looks
 pub mod Lookup
@@ -6,6 +8,8 @@ pub mod Modes
 pub mod Names
 pub mod Paths
 pub mod Shown
+pub mod Sinks
 pub mod Summary
 pub mod Verdict
+pub mod Walked
 pub mod inner

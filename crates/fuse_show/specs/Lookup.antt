@@ -1,10 +1,11 @@
 -- The node at a path (defined by this project).
 use Rattle.std.specs.Prelude.{◌≡◌, ℕ, true, false, List, [], ◌∷◌, ◌++◌, Some, None, Result, Ok, Err}
-use Rattle.fuse_tree.specs.Bounds.{fuse_root_id}
-use Rattle.fuse_tree.specs.declared.rows.NodeRow.{NodeRow}
-use Rattle.fuse_tree.specs.declared.rows.EntryRow.{EntryRow}
+use Rattle.fuse_rows.specs.Bounds.{fuse_root_id}
+use Rattle.fuse_rows.specs.declared.rows.NodeRow.{NodeRow}
+use Rattle.fuse_rows.specs.declared.rows.EntryRow.{EntryRow}
 use Rattle.fuse_tree.specs.State.{is_dir}
-use Rattle.fuse_tree.specs.Rows.{Rows, IsRowed, row_at, entry_at}
+use Rattle.fuse_rows.specs.Rows.{Rows, row_at, entry_at}
+use Rattle.fuse_tree.specs.Rowed.{IsRowed}
 use Rattle.fuse_show.specs.declared.fault.ShowFault.{ShowFault}
 use Rattle.fuse_show.specs.declared.fault.ShowFault.TheVariants.{Look, NotATree, NoSuchPath, NotDirectory, NotFile, Output}
 
@@ -37,8 +38,8 @@ pub record Stops (rows : Rows) (names : List (List ℕ)) (Why : NodeRow → List
   pub why : Why last name
 
 -- the node is a directory without an entry of this name
-abbrev pub HasNone : Rows → NodeRow → List ℕ → Type 0
-HasNone rows last name = (is_dir last.mode ≡ true) × (entry_at rows.entries last.node name ≡ None)
+abbrev pub HasNoEntry : Rows → NodeRow → List ℕ → Type 0
+HasNoEntry rows last name = (is_dir last.mode ≡ true) × (entry_at rows.entries last.node name ≡ None)
 
 -- the node is no directory
 abbrev pub IsNoDirectory : NodeRow → List ℕ → Type 0
@@ -49,7 +50,7 @@ abbrev pub Finds : Rows → List (List ℕ) → Result NodeRow ShowFault → Typ
 Finds rows names (Ok row) = LeadTo rows names row
 Finds rows names (Err (Look f)) = Unit {0}
 Finds rows names (Err NotATree) = ⊥
-Finds rows names (Err NoSuchPath) = Stops rows names (HasNone rows)
+Finds rows names (Err NoSuchPath) = Stops rows names (HasNoEntry rows)
 Finds rows names (Err NotDirectory) = Stops rows names IsNoDirectory
 Finds rows names (Err NotFile) = ⊥
 Finds rows names (Err Output) = ⊥

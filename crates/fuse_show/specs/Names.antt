@@ -1,5 +1,5 @@
 -- A name on one line, for any bytes (defined by this project).
-use Rattle.std.specs.Prelude.{◌+◌, ◌-◌, ◌/◌, ◌%◌, ◌==◌, ◌&&◌, ℕ, Bool, not, nat_le, nat_lt, if◌then◌else◌, List, [], ◌∷◌}
+use Rattle.std.specs.Prelude.{◌≡◌, ◌+◌, ◌-◌, ◌/◌, ◌%◌, ◌==◌, ◌&&◌, ℕ, Bool, not, nat_le, nat_lt, if◌then◌else◌, List, [], ◌∷◌}
 use Rattle.std.specs.List.{flat_map}
 
 -- the digit of a number below 16
@@ -16,3 +16,9 @@ byte_text b = if is_plain b then b ∷ [] else 92 ∷ 120 ∷ hex_digit (b / 16)
 
 abbrev pub name_text : List ℕ → List ℕ
 name_text name = flat_map byte_text name
+
+-- ---- laws
+
+-- names that are written alike are one
+abbrev pub NamesApart : Type 0
+NamesApart = (a b : List ℕ) → name_text a ≡ name_text b → a ≡ b

@@ -1,6 +1,7 @@
 -- The verdict on a tree (defined by this project).
-use Rattle.std.specs.Prelude.{◌≡◌, ℕ, List, ◌++◌, codes, decimal, IfSome}
-use Rattle.fuse_tree.specs.declared.rows.Counters.{Counters as CountersRow}
+use Rattle.std.specs.Prelude.{◌≡◌, ℕ, List, [], ◌∷◌, ◌++◌, codes, IfSome}
+use Rattle.fuse_rows.specs.declared.rows.Counters.{Counters as CountersRow}
+use Rattle.fuse_show.specs.Fields.{fields_text}
 use Rattle.fuse_show.specs.declared.tally.Tally.{Tally}
 
 -- as many nodes as these counters say, and as many blocks as are in use of a store that counts them
@@ -11,5 +12,6 @@ pub record Counts (c : CountersRow) (t : Tally) : Type 0 where
 -- the line of a sound tree
 abbrev pub tally_text : Tally → List ℕ
 tally_text t =
-    codes "ok nodes=" ++ (decimal t.nodes ++ (codes " directories=" ++ (decimal t.directories ++ (codes " files=" ++ (decimal t.files
-    ++ (codes " links=" ++ (decimal t.links ++ (codes " others=" ++ (decimal t.others ++ (codes " bytes=" ++ (decimal t.bytes ++ codes "\n")))))))))))
+    fields_text ((codes "ok nodes=", t.nodes) ∷ (codes " directories=", t.directories) ∷ (codes " files=", t.files)
+    ∷ (codes " links=", t.links) ∷ (codes " others=", t.others) ∷ (codes " bytes=", t.bytes) ∷ [])
+    ++ codes "\n"

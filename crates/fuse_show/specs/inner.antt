@@ -1,4 +1,3 @@
 pub mod Pages
 pub mod Finding
 pub mod Writing
-pub mod Going

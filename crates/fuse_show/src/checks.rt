@@ -1,7 +1,8 @@
 // What the rows of a tree must be, one by one. Each function returns what is wrong.
+use crate::findings::Finding;
+use fuse_rows::{COUNTER_END, Counters, EntryRow, MAX_TARGET, NodeRow, ROOT_ID};
 use fuse_tree::{
-    COUNTER_END, Counters, EntryRow, MAX_TARGET, NodeRow, ROOT_ID, S_IFBLK, S_IFCHR, S_IFDIR,
-    S_IFIFO, S_IFLNK, S_IFREG, S_IFSOCK, TYPE_UNIT, TYPES, max_file,
+    S_IFBLK, S_IFCHR, S_IFDIR, S_IFIFO, S_IFLNK, S_IFREG, S_IFSOCK, TYPE_UNIT, TYPES, max_file,
 };
 
 // The most bytes of a name.
@@ -48,30 +49,30 @@ pub(crate) fn fault_of_entry(
     dir: u64,
     after: u64,
     counters: &Counters,
-) -> Option<&'static str> {
+) -> Option<Finding> {
     if entry.dir != dir {
-        return Some("its entry is of another directory");
+        return Some(Finding::EntryOfAnotherDirectory);
     }
     if entry.cookie <= after || entry.cookie < FIRST_COOKIE {
-        return Some("its cookie is out of order");
+        return Some(Finding::CookieOutOfOrder);
     }
     if entry.cookie >= counters.next_cookie {
-        return Some("its cookie was not given out");
+        return Some(Finding::CookieNotGiven);
     }
     if !is_name(entry.name.as_slice()) {
-        return Some("its name is none");
+        return Some(Finding::NoName);
     }
     if entry.child == ROOT_ID {
-        return Some("it is the root");
+        return Some(Finding::LeadsToRoot);
     }
     if entry.child == 0 || entry.child >= counters.next_node {
-        return Some("the number of its node was not given out");
+        return Some(Finding::NodeNotGiven);
     }
     None
 }
 
 // Of the size of a node.
-fn fault_of_size(row: &NodeRow, counters: &Counters) -> Option<&'static str> {
+fn fault_of_size(row: &NodeRow, counters: &Counters) -> Option<Finding> {
     let kind = type_of(row.mode);
     let fits = if kind == S_IFREG {
         row.size <= max_file(counters.profile())
@@ -80,40 +81,36 @@ fn fault_of_size(row: &NodeRow, counters: &Counters) -> Option<&'static str> {
     } else {
         row.size == 0
     };
-    if fits {
-        None
-    } else {
-        Some("its size is none of such a node")
-    }
+    if fits { None } else { Some(Finding::NoSize) }
 }
 
 /// Of the row of a node in this directory, 0 for the root.
-pub(crate) fn fault_of_row(row: &NodeRow, dir: u64, counters: &Counters) -> Option<&'static str> {
+pub(crate) fn fault_of_row(row: &NodeRow, dir: u64, counters: &Counters) -> Option<Finding> {
     if row.up != dir {
-        return Some("its node is of another directory");
+        return Some(Finding::NodeOfAnotherDirectory);
     }
     if row.mode >= MODE_END || !is_type(row.mode) {
-        return Some("its mode is none");
+        return Some(Finding::NoMode);
     }
     if row.rdev != 0 && !is_device(row.mode) {
-        return Some("it is no device, and has the number of one");
+        return Some(Finding::DeviceNumberOfNoDevice);
     }
     if type_of(row.mode) == S_IFLNK && counters.room.is_none() {
-        return Some("it is a symbolic link, and the store is plain");
+        return Some(Finding::LinkInPlainStore);
     }
     fault_of_size(row, counters)
 }
 
 /// Of the counters.
-pub(crate) fn fault_of_counters(counters: &Counters) -> Option<&'static str> {
+pub(crate) fn fault_of_counters(counters: &Counters) -> Option<Finding> {
     if counters.next_node > COUNTER_END
         || counters.next_fh > COUNTER_END
         || counters.next_cookie > COUNTER_END
     {
-        return Some("a counter is too high");
+        return Some(Finding::HighCounter);
     }
     match counters.room {
-        Some(room) if room.used > room.capacity => Some("more is in use than it has room for"),
+        Some(room) if room.used > room.capacity => Some(Finding::MoreUsedThanRoom),
         _ => None,
     }
 }

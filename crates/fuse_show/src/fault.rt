@@ -1,5 +1,4 @@
 use fuse_tree::LookFault;
-use std::io;
 
 /// Why a listing or a content is not shown, or not to its end.
 #[derive(Clone, Copy, Debug, PartialEq, Eq)]
@@ -26,16 +25,5 @@ impl From<LookFault> for ShowFault {
 
     fn from(fault: LookFault) -> ShowFault {
         ShowFault::Look(fault)
-    }
-}
-
-impl From<io::Error> for ShowFault {
-    ghost use Rattle.std.specs.Prelude.{◌≡◌};
-    ghost use Rattle.fuse_show.specs.declared.fault.ShowFault.TheVariants.{Output as OfOutput};
-
-    ghost from_gives = { λ _ e. e ≡ OfOutput };
-
-    fn from(_e: io::Error) -> ShowFault {
-        ShowFault::Output
     }
 }

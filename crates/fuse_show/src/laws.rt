@@ -1,4 +1,5 @@
 ghost use Rattle.fuse_show.specs.Lookup.{FindsSomething, FoundOnce};
+ghost use Rattle.fuse_show.specs.Names.{NamesApart};
 
 use fuse_tree::rows_of_trees;
 
@@ -9,3 +10,8 @@ pub fn found_once()
 {
     rows_of_trees();
 }
+
+/// Different names are written differently.
+pub fn names_apart()
+    ensures { NamesApart }
+{}

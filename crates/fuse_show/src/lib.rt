@@ -5,11 +5,13 @@
 mod checks;
 mod content;
 mod fault;
+mod findings;
 mod laws;
 mod listing;
 mod lookup;
 mod modes;
 mod names;
+mod output;
 mod paths;
 mod summary;
 mod tally;
@@ -17,7 +19,8 @@ mod verify;
 
 pub use content::show_content;
 pub use fault::ShowFault;
-pub use laws::found_once;
+pub use findings::{Finding, show_finding};
+pub use laws::{found_once, names_apart};
 pub use listing::show_listing;
 pub use summary::{Summary, show_summary};
 pub use tally::{Tally, show_tally};

@@ -1,22 +1,24 @@
 ghost use Rattle.std.specs.Prelude.{◌≡◌, ◌+◌, true, false, None};
-ghost use Rattle.std.specs.Prelude.{IfErr, IfOk, OnOk, IsTrue};
+ghost use Rattle.std.specs.Prelude.{IfErr, IfOk, IsTrue};
 ghost use Rattle.std.specs.List.{AllByRecursion, flat_map};
-ghost use Rattle.std.specs.Io.KnownBytes.{Appends};
-ghost use Rattle.fuse_show.specs.Looks.{ReadOff, OnlyLooked, is_of_path};
-ghost use Rattle.fuse_show.specs.inner.Writing.{WritesOut};
+ghost use Rattle.fuse_show.specs.Looks.{OnlyLooked, ReadUpTo, is_of_path, look_fault_in};
+ghost use Rattle.fuse_show.specs.Sinks.{Outputs};
+ghost use Rattle.fuse_show.specs.inner.Writing.{PutsOut, WritesOut};
 ghost use Rattle.fuse_tree.specs.RowsOfTrees.{LeadsToRow};
-ghost use Rattle.fuse_show.specs.Listing.{links_of_row, entry_line, line_of, listing};
+ghost use Rattle.fuse_show.specs.Listing.{links_of_row, row_text, entry_line, line_of_entry};
+ghost use Rattle.fuse_show.specs.Listing.{listing};
 ghost use Rattle.fuse_show.specs.inner.Pages.{cookie_at, is_higher, WritesPage};
 ghost use Rattle.fuse_show.specs.Paths.{names_of};
-ghost use Rattle.fuse_show.specs.Shown.{ShowsListing};
+ghost use Rattle.fuse_show.specs.Shown.{ShowsListing, WritesLines, way_of};
 
 use crate::fault::ShowFault;
 use crate::lookup::find;
-use crate::modes::{Mode, is_directory};
+use crate::modes::{is_directory, put_mode};
 use crate::names::write_name;
-use fuse_tree::{EntryRow, Look, NodeRow, rows_of_trees};
-use std::fmt;
-use std::io::Write;
+use crate::output::{put, put_fields};
+use fuse_rows::{EntryRow, NodeRow};
+use fuse_session::Sink;
+use fuse_tree::{Look, rows_of_trees};
 
 // The number of entries that one look reads.
 const PAGE: usize = 1024;
@@ -32,52 +34,61 @@ fn links_of(row: &NodeRow) -> u64
     }
 }
 
-// The part of a line before the name.
-#[derive(Clone, Copy)]
-struct NodeText(NodeRow);
-
-impl fmt::Display for NodeText {
-    ghost use Rattle.std.specs.Prelude.{Some};
-    ghost use Rattle.fuse_show.specs.Listing.{row_text};
-
-    ghost output = { λ t. Some (row_text t.0) };
-
-    fn fmt<W: fmt::Write>(&self, f: &mut fmt::Formatter<W>) -> fmt::Result {
-        write!(
-            f,
-            "{} {} {} {} {} {} ",
-            Mode(self.0.mode),
-            links_of(&self.0),
-            self.0.uid,
-            self.0.gid,
-            self.0.size,
-            self.0.node
-        )
+// Writes the part of a line before the name.
+fn put_row<W: Sink>(writer: &mut W, row: &NodeRow) -> Result<(), ShowFault>
+    ensures put { PutsOut W.was_written writer.old writer.new result
+        (λ bytes. WritesOut (row_text row.now) bytes result) }
+    ensures fault { IfErr result (λ fault. fault ≡ ShowFault.Output) }
+{
+    match put_mode(writer, row.mode) {
+        Ok(()) => {}
+        Err(fault) => return Err(fault),
     }
+    put_fields(
+        writer,
+        &[
+            (" ", links_of(row)),
+            (" ", u64::from(row.uid)),
+            (" ", u64::from(row.gid)),
+            (" ", row.size),
+            (" ", row.node),
+        ],
+    )
 }
 
 // Writes the line of an entry: its name, and the row of its node.
-fn write_entry<W: Write>(writer: &mut W, row: &NodeRow, name: &[u8]) -> Result<(), ShowFault>
-    ensures ok { OnOk result (Appends (W.contents writer.old) (W.contents writer.new)
-        (entry_line name.now row.now)) }
-    ensures err { IfErr result (λ fault. fault ≡ ShowFault.Output) }
+fn write_entry<W: Sink>(writer: &mut W, row: &NodeRow, name: &[u8]) -> Result<(), ShowFault>
+    ensures put { PutsOut W.was_written writer.old writer.new result
+        (λ bytes. WritesOut (entry_line name.now row.now) bytes result) }
+    ensures fault { IfErr result (λ fault. fault ≡ ShowFault.Output) }
 {
-    write!(writer, "{}", NodeText(*row))?;
-    write_name(writer, name)?;
-    writer.write_all(b"\n")?;
-    Ok(())
+    match put_row(writer, row) {
+        Ok(()) => {}
+        Err(fault) => return Err(fault),
+    }
+    match put(writer, b" ") {
+        Ok(()) => {}
+        Err(fault) => return Err(fault),
+    }
+    match write_name(writer, name) {
+        Ok(()) => {}
+        Err(fault) => return Err(fault),
+    }
+    put(writer, b"\n")
 }
 
 // Looks up the node of an entry, and writes the line of the entry.
-fn show_entry<L: Look, W: Write>(
+fn show_entry<L: Look, W: Sink>(
     look: &mut L,
     entry: &EntryRow,
     writer: &mut W,
 ) -> Result<(), ShowFault>
     requires { L.fault look.old ≡ None }
-    ensures line { ReadOff (L.is_clean look.new) (L.sees look.old) (λ rows.
-        LeadsToRow rows entry.now → WritesOut (W.contents writer.old) (W.contents writer.new)
-        (line_of rows entry.now) result) }
+    ensures line { PutsOut W.was_written writer.old writer.new result (λ bytes.
+        ReadUpTo L.is_clean (L.looks look.old) (L.sees look.old) look.new (look_fault_in result)
+        (λ rows. LeadsToRow rows entry.now → WritesOut (line_of_entry rows entry.now) bytes result)) }
+    ensures written { PutsOut W.was_written writer.old writer.new result
+        (λ bytes. WritesLines bytes result) }
     ensures looked { OnlyLooked L.fault L.looks L.fails look.old look.new result }
     ensures reasons { IfErr result (λ fault. is_of_path fault ≡ false) }
 {
@@ -88,16 +99,18 @@ fn show_entry<L: Look, W: Write>(
 }
 
 // Writes the lines of entries, in order.
-fn show_entries<L: Look, W: Write>(
+fn show_entries<L: Look, W: Sink>(
     look: &mut L,
     entries: &[EntryRow],
     writer: &mut W,
 ) -> Result<(), ShowFault>
     requires { L.fault look.old ≡ None }
-    ensures lines { ReadOff (L.is_clean look.new) (L.sees look.old) (λ rows.
-        AllByRecursion (LeadsToRow rows) entries.now
-        → WritesOut (W.contents writer.old) (W.contents writer.new)
-        (flat_map (line_of rows) entries.now) result) }
+    ensures lines { PutsOut W.was_written writer.old writer.new result (λ bytes.
+        ReadUpTo L.is_clean (L.looks look.old) (L.sees look.old) look.new (look_fault_in result)
+        (λ rows. AllByRecursion (LeadsToRow rows) entries.now
+        → WritesOut (flat_map (line_of_entry rows) entries.now) bytes result)) }
+    ensures written { PutsOut W.was_written writer.old writer.new result
+        (λ bytes. WritesLines bytes result) }
     ensures looked { OnlyLooked L.fault L.looks L.fails look.old look.new result }
     ensures reasons { IfErr result (λ fault. is_of_path fault ≡ false) }
 {
@@ -132,15 +145,18 @@ fn is_higher(cookie: Option<u64>, after: u64) -> bool
 
 // Writes the lines of the page of entries after the cookie `after`. Returns the cookie of the last
 // one if there may be more.
-fn list_page<L: Look, W: Write>(
+fn list_page<L: Look, W: Sink>(
     look: &mut L,
     dir: u64,
     after: u64,
     writer: &mut W,
 ) -> Result<Option<u64>, ShowFault>
     requires { L.fault look.old ≡ None }
-    ensures page { ReadOff (L.is_clean look.new) (L.sees look.old) (λ rows.
-        WritesPage rows dir after (W.contents writer.old) (W.contents writer.new) result) }
+    ensures page { PutsOut W.was_written writer.old writer.new result (λ bytes.
+        ReadUpTo L.is_clean (L.looks look.old) (L.sees look.old) look.new (look_fault_in result)
+        (λ rows. WritesPage rows dir after bytes result)) }
+    ensures written { PutsOut W.was_written writer.old writer.new result
+        (λ bytes. WritesLines bytes result) }
     ensures higher { IfOk result (λ left. IsTrue (is_higher left after)) }
     ensures looked { OnlyLooked L.fault L.looks L.fails look.old look.new result }
     ensures reasons { IfErr result (λ fault. is_of_path fault ≡ false) }
@@ -158,14 +174,17 @@ fn list_page<L: Look, W: Write>(
 }
 
 /// Writes a line for each entry of a directory, in the order of the directory, page by page.
-pub(crate) fn list<L: Look, W: Write>(
+pub(crate) fn list<L: Look, W: Sink>(
     look: &mut L,
     dir: u64,
     writer: &mut W,
 ) -> Result<(), ShowFault>
     requires { L.fault look.old ≡ None }
-    ensures listed { ReadOff (L.is_clean look.new) (L.sees look.old) (λ rows.
-        WritesOut (W.contents writer.old) (W.contents writer.new) (listing rows dir) result) }
+    ensures listed { PutsOut W.was_written writer.old writer.new result (λ bytes.
+        ReadUpTo L.is_clean (L.looks look.old) (L.sees look.old) look.new (look_fault_in result)
+        (λ rows. WritesOut (listing rows dir) bytes result)) }
+    ensures written { PutsOut W.was_written writer.old writer.new result
+        (λ bytes. WritesLines bytes result) }
     ensures looked { OnlyLooked L.fault L.looks L.fails look.old look.new result }
     ensures reasons { IfErr result (λ fault. is_of_path fault ≡ false) }
 {
@@ -181,19 +200,22 @@ pub(crate) fn list<L: Look, W: Write>(
 }
 
 /// Writes a line for each entry of the directory at a path.
-pub fn show_listing<L: Look, W: Write>(
+pub fn show_listing<L: Look, W: Sink>(
     look: &mut L,
     path: &[u8],
     writer: &mut W,
 ) -> Result<(), ShowFault>
     requires { L.fault look.old ≡ None }
-    ensures shown { ReadOff (L.is_clean look.new) (L.sees look.old) (λ rows.
-        ShowsListing rows (names_of path.now) (W.contents writer.old) (W.contents writer.new)
-        result) }
+    ensures shown { Outputs W.was_written W.was_flushed writer.old writer.new (way_of result)
+        (λ bytes. ReadUpTo L.is_clean (L.looks look.old) (L.sees look.old) look.new
+        (look_fault_in result) (λ rows. ShowsListing rows (names_of path.now) bytes result)) }
+    // Whatever the rows are, lines of entries are written.
+    ensures written { Outputs W.was_written W.was_flushed writer.old writer.new (way_of result)
+        (λ bytes. WritesLines bytes result) }
     ensures looked { OnlyLooked L.fault L.looks L.fails look.old look.new result }
     // A fault of the path writes nothing.
     ensures silent { IfErr result (λ fault. is_of_path fault ≡ true
-        → W.contents writer.new ≡ W.contents writer.old) }
+        → writer.new ≡ writer.old) }
 {
     let place = match find(look, path) {
         Ok(place) => place,
@@ -206,7 +228,7 @@ pub fn show_listing<L: Look, W: Write>(
         Ok(()) => {}
         Err(fault) => return Err(fault),
     }
-    match writer.flush() {
+    match writer.flush_once() {
         Ok(()) => Ok(()),
         Err(_) => Err(ShowFault::Output),
     }

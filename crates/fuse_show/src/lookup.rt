@@ -1,13 +1,14 @@
 ghost use Rattle.std.specs.Prelude.{◌≡◌, true, None, IfErr};
 ghost use Rattle.fuse_show.specs.Looks.{ReadOff, OnlyLooked};
-ghost use Rattle.fuse_show.specs.inner.Finding.{is_of_finding, IsRoot, Steps};
+ghost use Rattle.fuse_show.specs.inner.Finding.{is_of_finding, IsRoot, StepsTo};
 ghost use Rattle.fuse_show.specs.Paths.{names_of};
 ghost use Rattle.fuse_show.specs.Lookup.{Finds};
 
 use crate::fault::ShowFault;
 use crate::modes::is_directory;
 use crate::paths::next_name;
-use fuse_tree::{Look, NodeRow, ROOT_ID, rows_of_trees};
+use fuse_rows::{NodeRow, ROOT_ID};
+use fuse_tree::{Look, rows_of_trees};
 
 // The row of the root.
 fn find_root<L: Look>(look: &mut L) -> Result<NodeRow, ShowFault>
@@ -27,7 +28,7 @@ fn find_root<L: Look>(look: &mut L) -> Result<NodeRow, ShowFault>
 fn step<L: Look>(look: &mut L, from: &NodeRow, name: &[u8]) -> Result<NodeRow, ShowFault>
     requires { L.fault look.old ≡ None }
     ensures found { ReadOff (L.is_clean look.new) (L.sees look.old) (λ rows.
-        Steps rows from.now name.now result) }
+        StepsTo rows from.now name.now result) }
     ensures looked { OnlyLooked L.fault L.looks L.fails look.old look.new result }
     ensures reasons { IfErr result (λ fault. is_of_finding fault ≡ true) }
 {

@@ -1,11 +1,13 @@
-ghost use Rattle.std.specs.Prelude.{◌≡◌, ◌<◌, if◌then◌else◌, codes};
+ghost use Rattle.std.specs.Prelude.{◌≡◌, ◌<◌, if◌then◌else◌, codes, IfErr};
 ghost use Rattle.fuse_tree.specs.State.{is_dir, is_file};
-ghost use Rattle.fuse_show.specs.Modes.{has_bit, kind_text, run_text};
-ghost use Rattle.fuse_show.specs.inner.Writing.{class_text};
+ghost use Rattle.fuse_show.specs.Modes.{has_bit, kind_text, run_text, mode_text};
+ghost use Rattle.fuse_show.specs.inner.Writing.{class_text, PutsOut, WritesOut};
 ghost use Rattle.fuse_show.specs.Modes.{owner_text, group_text, others_text};
 
+use crate::fault::ShowFault;
+use crate::output::put_texts;
+use fuse_session::Sink;
 use fuse_tree::{S_IFBLK, S_IFCHR, S_IFDIR, S_IFIFO, S_IFLNK, S_IFREG, S_IFSOCK, TYPE_UNIT, TYPES};
-use std::fmt;
 
 /// Whether a mode is of a directory.
 pub(crate) fn is_directory(mode: u32) -> bool
@@ -77,17 +79,6 @@ struct Class {
     run: &'static str,
 }
 
-impl fmt::Display for Class {
-    ghost use Rattle.std.specs.Prelude.{Some};
-    ghost use Rattle.fuse_show.specs.inner.Writing.{class_text};
-
-    ghost output = { λ c. Some (class_text c.read.now c.write.now c.run.now) };
-
-    fn fmt<W: fmt::Write>(&self, f: &mut fmt::Formatter<W>) -> fmt::Result {
-        write!(f, "{}{}{}", self.read, self.write, self.run)
-    }
-}
-
 fn owner_class(mode: u32) -> Class
     ensures { class_text result.read.now result.write.now result.run.now ≡ owner_text mode }
 {
@@ -118,24 +109,28 @@ fn others_class(mode: u32) -> Class
     }
 }
 
-/// The type and the permissions of a node, as the ten letters of ls(1).
-#[derive(Clone, Copy)]
-pub(crate) struct Mode(pub(crate) u32);
-
-impl fmt::Display for Mode {
-    ghost use Rattle.std.specs.Prelude.{Some};
-    ghost use Rattle.fuse_show.specs.Modes.{mode_text};
-
-    ghost output = { λ m. Some (mode_text m.0) };
-
-    fn fmt<W: fmt::Write>(&self, f: &mut fmt::Formatter<W>) -> fmt::Result {
-        write!(
-            f,
-            "{}{}{}{}",
-            kind_of(self.0),
-            owner_class(self.0),
-            group_class(self.0),
-            others_class(self.0)
-        )
-    }
+/// Writes the type and the permissions of a node, as the ten letters of ls(1).
+pub(crate) fn put_mode<W: Sink>(writer: &mut W, mode: u32) -> Result<(), ShowFault>
+    ensures put { PutsOut W.was_written writer.old writer.new result
+        (λ bytes. WritesOut (mode_text mode) bytes result) }
+    ensures fault { IfErr result (λ fault. fault ≡ ShowFault.Output) }
+{
+    let owner = owner_class(mode);
+    let group = group_class(mode);
+    let others = others_class(mode);
+    put_texts(
+        writer,
+        &[
+            kind_of(mode),
+            owner.read,
+            owner.write,
+            owner.run,
+            group.read,
+            group.write,
+            group.run,
+            others.read,
+            others.write,
+            others.run,
+        ],
+    )
 }

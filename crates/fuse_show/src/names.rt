@@ -1,9 +1,10 @@
-ghost use Rattle.std.specs.Prelude.{◌≡◌, ◌<◌, ◌&&◌, IfErr, OnOk};
-ghost use Rattle.std.specs.Io.KnownBytes.{Appends};
+ghost use Rattle.std.specs.Prelude.{◌≡◌, ◌<◌, ◌&&◌, IfErr};
+ghost use Rattle.fuse_show.specs.inner.Writing.{PutsOut, WritesOut};
 ghost use Rattle.fuse_show.specs.Names.{hex_digit, is_plain, byte_text, name_text};
 
 use crate::fault::ShowFault;
-use std::io::Write;
+use crate::output::put;
+use fuse_session::Sink;
 
 // The digit of a number below 16.
 fn digit_of(number: u8) -> u8
@@ -25,28 +26,30 @@ fn stands_for_itself(byte: u8) -> bool
 }
 
 // Writes a byte, or `\x` and its hexadecimal digits.
-fn write_byte<W: Write>(writer: &mut W, byte: u8) -> Result<(), ShowFault>
-    ensures ok { OnOk result (Appends (W.contents writer.old) (W.contents writer.new)
-        (byte_text byte)) }
-    ensures err { IfErr result (λ fault. fault ≡ ShowFault.Output) }
+fn write_byte<W: Sink>(writer: &mut W, byte: u8) -> Result<(), ShowFault>
+    ensures put { PutsOut W.was_written writer.old writer.new result
+        (λ bytes. WritesOut (byte_text byte) bytes result) }
+    ensures fault { IfErr result (λ fault. fault ≡ ShowFault.Output) }
 {
     if stands_for_itself(byte) {
-        writer.write_all(&[byte])?;
+        put(writer, &[byte])
     } else {
         let digits = [b'\\', b'x', digit_of(byte / 16), digit_of(byte % 16)];
-        writer.write_all(&digits)?;
+        put(writer, &digits)
     }
-    Ok(())
 }
 
 /// Writes a name on one line. Different names are written differently.
-pub(crate) fn write_name<W: Write>(writer: &mut W, name: &[u8]) -> Result<(), ShowFault>
-    ensures ok { OnOk result (Appends (W.contents writer.old) (W.contents writer.new)
-        (name_text name.now)) }
-    ensures err { IfErr result (λ fault. fault ≡ ShowFault.Output) }
+pub(crate) fn write_name<W: Sink>(writer: &mut W, name: &[u8]) -> Result<(), ShowFault>
+    ensures put { PutsOut W.was_written writer.old writer.new result
+        (λ bytes. WritesOut (name_text name.now) bytes result) }
+    ensures fault { IfErr result (λ fault. fault ≡ ShowFault.Output) }
 {
     for byte in name {
-        write_byte(writer, *byte)?;
+        match write_byte(writer, *byte) {
+            Ok(()) => {}
+            Err(fault) => return Err(fault),
+        }
     }
     Ok(())
 }

@@ -1,84 +1,16 @@
-ghost use Rattle.std.specs.Prelude.{◌≡◌, OnOk, IfErr};
-ghost use Rattle.std.specs.Io.KnownBytes.{Appends};
-ghost use Rattle.fuse_show.specs.Summary.{store_text, bytes_of};
+ghost use Rattle.std.specs.Prelude.{◌≡◌, IfErr};
+ghost use Rattle.fuse_show.specs.Shown.{IsWritten, way_of};
+ghost use Rattle.fuse_show.specs.Sinks.{Outputs};
+ghost use Rattle.fuse_show.specs.Summary.{size_of_blocks, counts_text, room_text};
+ghost use Rattle.fuse_show.specs.Summary.{settings_text, store_text};
+ghost use Rattle.fuse_show.specs.inner.Writing.{PutsOut, WritesOut};
 
 use crate::fault::ShowFault;
+use crate::output::{finish, put, put_field, put_fields};
 use fuse_init::Settings;
 use fuse_keeper::StoreCounts;
-use fuse_tree::{BLOCK_SIZE, Room};
-use std::fmt;
-use std::io::Write;
-
-// The settings that INIT agreed on.
-#[derive(Clone, Copy)]
-struct Agreed(Option<Settings>);
-
-impl fmt::Display for Agreed {
-    ghost use Rattle.std.specs.Prelude.{Some};
-    ghost use Rattle.fuse_show.specs.Summary.{settings_text};
-
-    ghost output = { λ a. Some (settings_text a.0) };
-
-    fn fmt<W: fmt::Write>(&self, f: &mut fmt::Formatter<W>) -> fmt::Result {
-        match self.0 {
-            Some(settings) => write!(
-                f,
-                "minor={} max_readahead={} flags={}",
-                settings.minor, settings.max_readahead, settings.flags.0
-            ),
-            None => f.write_str("none"),
-        }
-    }
-}
-
-// The lines of the counts.
-#[derive(Clone, Copy)]
-struct CountsText(StoreCounts);
-
-impl fmt::Display for CountsText {
-    ghost use Rattle.std.specs.Prelude.{Some};
-    ghost use Rattle.fuse_show.specs.Summary.{counts_text};
-
-    ghost output = { λ t. Some (counts_text t.0) };
-
-    fn fmt<W: fmt::Write>(&self, f: &mut fmt::Formatter<W>) -> fmt::Result {
-        write!(
-            f,
-            "nodes={}\nhandles={}\nrecords={}\nlots={}\n",
-            self.0.nodes, self.0.handles, self.0.records, self.0.lots
-        )
-    }
-}
-
-// The bytes of so many blocks.
-fn bytes_in(blocks: u64) -> u128
-    ensures { result ≡ bytes_of blocks }
-{
-    u128::from(blocks) * u128::from(BLOCK_SIZE)
-}
-
-// The lines of the profile and the room, none of a plain store.
-#[derive(Clone, Copy)]
-struct RoomText(Option<Room>);
-
-impl fmt::Display for RoomText {
-    ghost use Rattle.std.specs.Prelude.{Some};
-    ghost use Rattle.fuse_show.specs.Summary.{room_text};
-
-    ghost output = { λ t. Some (room_text t.0) };
-
-    fn fmt<W: fmt::Write>(&self, f: &mut fmt::Formatter<W>) -> fmt::Result {
-        match self.0 {
-            Some(room) => write!(
-                f,
-                "profile=everyday\ncapacity={}\nused={}\n",
-                bytes_in(room.capacity),
-                bytes_in(room.used)
-            ),
-            None => Ok(()),
-        }
-    }
-}
+use fuse_rows::{BLOCK_SIZE, Room};
+use fuse_session::Sink;
 
 /// What a summary says of a store.
 #[derive(Clone, Copy)]
@@ -93,33 +25,93 @@ pub struct Summary {
     pub agreed: Option<Settings>,
 }
 
-impl fmt::Display for Summary {
-    ghost use Rattle.std.specs.Prelude.{Some};
-    ghost use Rattle.fuse_show.specs.Summary.{store_text};
-
-    ghost output = { λ t. Some (store_text t.version t.counts t.bytes t.room t.agreed) };
-
-    fn fmt<W: fmt::Write>(&self, f: &mut fmt::Formatter<W>) -> fmt::Result {
-        write!(
-            f,
-            "version={}\n{}bytes={}\n{}settings: {}\n",
-            self.version,
-            CountsText(self.counts),
-            self.bytes,
-            RoomText(self.room),
-            Agreed(self.agreed)
-        )
+// Writes a line for the version, for each count, and for the bytes of all contents.
+fn put_counts<W: Sink>(writer: &mut W, summary: &Summary) -> Result<(), ShowFault>
+    ensures put { PutsOut W.was_written writer.old writer.new result (λ bytes. WritesOut
+        (counts_text summary.now.version summary.now.counts summary.now.bytes) bytes result) }
+    ensures fault { IfErr result (λ fault. fault ≡ ShowFault.Output) }
+{
+    let fields = [
+        ("version=", summary.version),
+        ("\nnodes=", summary.counts.nodes),
+        ("\nhandles=", summary.counts.handles),
+        ("\nrecords=", summary.counts.records),
+        ("\nlots=", summary.counts.lots),
+        ("\nbytes=", summary.bytes),
+    ];
+    match put_fields(writer, &fields) {
+        Ok(()) => {}
+        Err(fault) => return Err(fault),
     }
+    put(writer, b"\n")
+}
+
+// The bytes of so many blocks.
+fn bytes_in(blocks: u64) -> u128
+    ensures { result ≡ size_of_blocks blocks }
+{
+    u128::from(blocks) * u128::from(BLOCK_SIZE)
+}
+
+// Writes the lines of the profile and the room, none of a plain store.
+fn put_room<W: Sink>(writer: &mut W, room: Option<Room>) -> Result<(), ShowFault>
+    ensures put { PutsOut W.was_written writer.old writer.new result
+        (λ bytes. WritesOut (room_text room) bytes result) }
+    ensures fault { IfErr result (λ fault. fault ≡ ShowFault.Output) }
+{
+    let Some(room) = room else {
+        return Ok(());
+    };
+    match put_field(
+        writer,
+        "profile=everyday\ncapacity=",
+        bytes_in(room.capacity),
+    ) {
+        Ok(()) => {}
+        Err(fault) => return Err(fault),
+    }
+    match put_field(writer, "\nused=", bytes_in(room.used)) {
+        Ok(()) => {}
+        Err(fault) => return Err(fault),
+    }
+    put(writer, b"\n")
+}
+
+// Writes the line of the settings, and flushes.
+fn finish_settings<W: Sink>(writer: &mut W, agreed: Option<Settings>) -> Result<(), ShowFault>
+    ensures ends { Outputs W.was_written W.was_flushed writer.old writer.new (way_of result)
+        (λ bytes. IsWritten (settings_text agreed) bytes result) }
+    ensures fault { IfErr result (λ fault. fault ≡ ShowFault.Output) }
+{
+    let Some(settings) = agreed else {
+        return finish(writer, b"settings: none\n");
+    };
+    let fields = [
+        ("settings: minor=", u64::from(settings.minor)),
+        (" max_readahead=", u64::from(settings.max_readahead)),
+        (" flags=", settings.flags.0),
+    ];
+    match put_fields(writer, &fields) {
+        Ok(()) => {}
+        Err(fault) => return Err(fault),
+    }
+    finish(writer, b"\n")
 }
 
 /// Writes the lines of a summary.
-pub fn show_summary<W: Write>(summary: &Summary, writer: &mut W) -> Result<(), ShowFault>
-    ensures shown { OnOk result (Appends (W.contents writer.old) (W.contents writer.new)
-        (store_text summary.now.version summary.now.counts summary.now.bytes summary.now.room
-        summary.now.agreed)) }
+pub fn show_summary<W: Sink>(summary: &Summary, writer: &mut W) -> Result<(), ShowFault>
+    ensures shown { Outputs W.was_written W.was_flushed writer.old writer.new (way_of result)
+        (λ bytes. IsWritten (store_text summary.now.version summary.now.counts summary.now.bytes
+        summary.now.room summary.now.agreed) bytes result) }
     ensures fault { IfErr result (λ fault. fault ≡ ShowFault.Output) }
 {
-    write!(writer, "{summary}")?;
-    writer.flush()?;
-    Ok(())
+    match put_counts(writer, summary) {
+        Ok(()) => {}
+        Err(fault) => return Err(fault),
+    }
+    match put_room(writer, summary.room) {
+        Ok(()) => {}
+        Err(fault) => return Err(fault),
+    }
+    finish_settings(writer, summary.agreed)
 }

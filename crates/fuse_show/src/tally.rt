@@ -1,12 +1,14 @@
-ghost use Rattle.std.specs.Prelude.{◌≡◌, IfErr, OnOk};
-ghost use Rattle.std.specs.Io.KnownBytes.{Appends};
+ghost use Rattle.std.specs.Prelude.{◌≡◌, IfErr};
+ghost use Rattle.fuse_show.specs.Shown.{IsWritten, way_of};
+ghost use Rattle.fuse_show.specs.Sinks.{Outputs};
 ghost use Rattle.fuse_show.specs.Verdict.{tally_text};
 
 use crate::checks::type_of;
 use crate::fault::ShowFault;
-use fuse_tree::{NodeRow, S_IFDIR, S_IFLNK, S_IFREG, blocks_of};
-use std::fmt;
-use std::io::Write;
+use crate::output::{finish, put_fields};
+use fuse_rows::NodeRow;
+use fuse_session::Sink;
+use fuse_tree::{S_IFDIR, S_IFLNK, S_IFREG, blocks_of};
 
 /// What a walk over a tree met: its nodes, those of each type, and their bytes.
 #[derive(Clone, Copy, Debug, PartialEq, Eq)]
@@ -54,28 +56,23 @@ impl Tally {
     }
 }
 
-impl fmt::Display for Tally {
-    ghost use Rattle.std.specs.Prelude.{Some};
-    ghost use Rattle.fuse_show.specs.Verdict.{tally_text};
-
-    ghost output = { λ t. Some (tally_text t) };
-
-    fn fmt<W: fmt::Write>(&self, f: &mut fmt::Formatter<W>) -> fmt::Result {
-        write!(
-            f,
-            "ok nodes={} directories={} files={} links={} others={} bytes={}\n",
-            self.nodes, self.directories, self.files, self.links, self.others, self.bytes
-        )
-    }
-}
-
 /// Writes the line of a sound tree.
-pub fn show_tally<W: Write>(tally: &Tally, writer: &mut W) -> Result<(), ShowFault>
-    ensures shown { OnOk result (Appends (W.contents writer.old) (W.contents writer.new)
-        (tally_text tally.now)) }
+pub fn show_tally<W: Sink>(tally: &Tally, writer: &mut W) -> Result<(), ShowFault>
+    ensures shown { Outputs W.was_written W.was_flushed writer.old writer.new (way_of result)
+        (λ bytes. IsWritten (tally_text tally.now) bytes result) }
     ensures fault { IfErr result (λ fault. fault ≡ ShowFault.Output) }
 {
-    write!(writer, "{tally}")?;
-    writer.flush()?;
-    Ok(())
+    let fields = [
+        ("ok nodes=", tally.nodes),
+        (" directories=", tally.directories),
+        (" files=", tally.files),
+        (" links=", tally.links),
+        (" others=", tally.others),
+        (" bytes=", tally.bytes),
+    ];
+    match put_fields(writer, &fields) {
+        Ok(()) => {}
+        Err(fault) => return Err(fault),
+    }
+    finish(writer, b"\n")
 }

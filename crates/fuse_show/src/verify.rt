@@ -1,18 +1,19 @@
 // A walk over a whole tree, which checks each row that it meets.
-ghost use Rattle.std.specs.Prelude.{◌≡◌, ◌<◌, ◌≤◌, None, OnOk, IfOk};
-ghost use Rattle.fuse_tree.specs.Bounds.{read_limit};
+ghost use Rattle.std.specs.Prelude.{◌≡◌, ◌<◌, ◌≤◌, Option, Some, None, OnOk, IfOk, IfErr};
+ghost use Rattle.fuse_rows.specs.Bounds.{read_limit};
 ghost use Rattle.fuse_show.specs.Looks.{ReadOff};
 ghost use Rattle.fuse_show.specs.Verdict.{Counts};
-ghost use Rattle.fuse_show.specs.inner.Going.{Goes};
+ghost use Rattle.fuse_show.specs.Walked.{OnlyWalked, TellsLook, WalkWrites};
+ghost use Rattle.fuse_tree.specs.declared.look.LookFault.{LookFault};
 
 use crate::checks::{fault_of_counters, fault_of_entry, fault_of_row, type_of};
-use crate::fault::ShowFault;
+use crate::findings::{Finding, show_finding, show_unread};
 use crate::modes::is_directory;
-use crate::names::write_name;
 use crate::tally::Tally;
-use fuse_tree::{Counters, EntryRow, Look, LookFault, MAX_READ, NodeRow, ROOT_ID, S_IFLNK};
+use fuse_rows::{Counters, EntryRow, MAX_READ, NodeRow, ROOT_ID};
+use fuse_session::Sink;
+use fuse_tree::{Look, LookFault, S_IFLNK};
 use std::alloc::{AllocError, Global};
-use std::io::Write;
 
 // The number of entries that one look reads.
 const PAGE: usize = 1024;
@@ -31,14 +32,13 @@ pub enum VerifyFault {
 }
 
 impl From<AllocError> for VerifyFault {
+    ghost use Rattle.std.specs.Prelude.{◌≡◌};
+    ghost use Rattle.fuse_show.specs.declared.verify.VerifyFault.TheVariants.{Memory};
+
+    ghost from_gives = { λ _ e. e ≡ Memory };
+
     fn from(_e: AllocError) -> VerifyFault {
         VerifyFault::Memory
-    }
-}
-
-impl From<ShowFault> for VerifyFault {
-    fn from(_e: ShowFault) -> VerifyFault {
-        VerifyFault::Output
     }
 }
 
@@ -57,41 +57,34 @@ struct Walk {
     left: Vec<Place>,
 }
 
-// Writes a line of what is wrong at a path.
-fn write_finding<W: Write>(writer: &mut W, path: &[u8], text: &str) -> Result<(), ShowFault> {
-    write_name(
-        writer,
-        if path.is_empty() {
-            b"/".as_slice()
-        } else {
-            path
-        },
-    )?;
-    write!(writer, ": {text}\n")?;
-    writer.flush()?;
-    Ok(())
-}
-
 // The fault of what is wrong at a path, of which the line is written.
-fn wrong<W: Write>(writer: &mut W, path: &[u8], text: &str) -> VerifyFault {
-    match write_finding(writer, path, text) {
+fn wrong<W: Sink>(writer: &mut W, path: &[u8], finding: Finding) -> VerifyFault
+    ensures found { WalkWrites W.was_written W.was_flushed writer.old writer.new result }
+    ensures tells { (fault : Option LookFault) → TellsLook fault result }
+{
+    match show_finding(writer, path, finding) {
         Ok(()) => VerifyFault::Wrong,
         Err(_) => VerifyFault::Output,
     }
 }
 
 // The fault of a look at a path, of which a line is written.
-fn unread<W: Write>(writer: &mut W, path: &[u8], fault: LookFault) -> VerifyFault {
-    match write_finding(writer, path, "its rows can't be read") {
+fn unread<W: Sink>(writer: &mut W, path: &[u8], fault: LookFault) -> VerifyFault
+    ensures found { WalkWrites W.was_written W.was_flushed writer.old writer.new result }
+    ensures tells { (told : Option LookFault) → told ≡ Some fault → TellsLook told result }
+{
+    match show_unread(writer, path) {
         Ok(()) => VerifyFault::Look(fault),
         Err(_) => VerifyFault::Output,
     }
 }
 
-// The path of a name in a directory.
+// The path of a name in a directory, from the root on. The root's own is empty.
 fn path_of(alloc: Global, dir: &[u8], name: &[u8]) -> Result<Vec<u8>, AllocError> {
     let mut path = Vec::from_slice(alloc, dir)?;
-    path.push(b'/')?;
+    if !dir.is_empty() {
+        path.push(b'/')?;
+    }
     path.extend_from_slice(name)?;
     Ok(path)
 }
@@ -106,26 +99,27 @@ fn piece_of(left: u64) -> u32
 }
 
 // What is wrong with a piece of a content, which has so many bytes.
-fn fault_of_piece(row: &NodeRow, bytes: &[u8], len: u32) -> Option<&'static str> {
+fn fault_of_piece(row: &NodeRow, bytes: &[u8], len: u32) -> Option<Finding> {
     if bytes.len() as u64 != u64::from(len) {
-        return Some("its content has fewer bytes than its size says");
+        return Some(Finding::ContentCutShort);
     }
     if type_of(row.mode) == S_IFLNK && bytes.contains(&0) {
-        return Some("its target has a zero byte");
+        return Some(Finding::ZeroInTarget);
     }
     None
 }
 
 // Reads the whole content of a node.
-fn read_content<L: Look, W: Write>(
+fn read_content<L: Look, W: Sink>(
     look: &mut L,
     row: &NodeRow,
     path: &[u8],
     writer: &mut W,
 ) -> Result<(), VerifyFault>
     requires { L.fault look.old ≡ None }
-    ensures goes { Goes L.fault L.looks look.old look.new result }
-    ensures silent { OnOk result (W.contents writer.new ≡ W.contents writer.old) }
+    ensures walked { OnlyWalked L.fault L.looks L.fails look.old look.new result }
+    ensures silent { OnOk result (writer.new ≡ writer.old) }
+    ensures found { IfErr result (WalkWrites W.was_written W.was_flushed writer.old writer.new) }
 {
     let mut offset: u64 = 0;
     while offset < row.size {
@@ -134,8 +128,8 @@ fn read_content<L: Look, W: Write>(
             Ok(bytes) => bytes,
             Err(fault) => return Err(unread(writer, path, fault)),
         };
-        if let Some(text) = fault_of_piece(row, bytes.as_slice(), len) {
-            return Err(wrong(writer, path, text));
+        if let Some(finding) = fault_of_piece(row, bytes.as_slice(), len) {
+            return Err(wrong(writer, path, finding));
         }
         offset += u64::from(len);
     }
@@ -143,7 +137,7 @@ fn read_content<L: Look, W: Write>(
 }
 
 // The row of the node of an entry, whose content is read.
-fn find_row<L: Look, W: Write>(
+fn find_row<L: Look, W: Sink>(
     look: &mut L,
     number: u64,
     dir: u64,
@@ -152,16 +146,17 @@ fn find_row<L: Look, W: Write>(
     writer: &mut W,
 ) -> Result<NodeRow, VerifyFault>
     requires { L.fault look.old ≡ None }
-    ensures goes { Goes L.fault L.looks look.old look.new result }
-    ensures silent { OnOk result (W.contents writer.new ≡ W.contents writer.old) }
+    ensures walked { OnlyWalked L.fault L.looks L.fails look.old look.new result }
+    ensures silent { OnOk result (writer.new ≡ writer.old) }
+    ensures found { IfErr result (WalkWrites W.was_written W.was_flushed writer.old writer.new) }
 {
     let row = match look.node(number) {
         Ok(Some(row)) => row,
-        Ok(None) => return Err(wrong(writer, path, "its node is missing")),
+        Ok(None) => return Err(wrong(writer, path, Finding::NodeMissing)),
         Err(fault) => return Err(unread(writer, path, fault)),
     };
-    if let Some(text) = fault_of_row(&row, dir, counters) {
-        return Err(wrong(writer, path, text));
+    if let Some(finding) = fault_of_row(&row, dir, counters) {
+        return Err(wrong(writer, path, finding));
     }
     match read_content(look, &row, path, writer) {
         Ok(()) => Ok(row),
@@ -183,7 +178,7 @@ fn add_node(walk: &mut Walk, row: &NodeRow, path: Vec<u8>) -> Result<(), AllocEr
 }
 
 // Checks an entry of a directory after this cookie, and its node. Returns the node's row.
-fn visit_entry<L: Look, W: Write>(
+fn visit_entry<L: Look, W: Sink>(
     alloc: Global,
     look: &mut L,
     walk: &mut Walk,
@@ -194,12 +189,13 @@ fn visit_entry<L: Look, W: Write>(
     writer: &mut W,
 ) -> Result<NodeRow, VerifyFault>
     requires { L.fault look.old ≡ None }
-    ensures goes { Goes L.fault L.looks look.old look.new result }
-    ensures silent { OnOk result (W.contents writer.new ≡ W.contents writer.old) }
+    ensures walked { OnlyWalked L.fault L.looks L.fails look.old look.new result }
+    ensures silent { OnOk result (writer.new ≡ writer.old) }
+    ensures found { IfErr result (WalkWrites W.was_written W.was_flushed writer.old writer.new) }
 {
     let path = path_of(alloc, place.path.as_slice(), entry.name.as_slice())?;
-    if let Some(text) = fault_of_entry(entry, place.node, after, counters) {
-        return Err(wrong(writer, path.as_slice(), text));
+    if let Some(finding) = fault_of_entry(entry, place.node, after, counters) {
+        return Err(wrong(writer, path.as_slice(), finding));
     }
     match find_row(
         look,
@@ -236,7 +232,7 @@ impl Passed {
 }
 
 // Checks entries of a directory, in order.
-fn visit_entries<L: Look, W: Write>(
+fn visit_entries<L: Look, W: Sink>(
     alloc: Global,
     look: &mut L,
     walk: &mut Walk,
@@ -247,8 +243,9 @@ fn visit_entries<L: Look, W: Write>(
     writer: &mut W,
 ) -> Result<Passed, VerifyFault>
     requires { L.fault look.old ≡ None }
-    ensures goes { Goes L.fault L.looks look.old look.new result }
-    ensures silent { OnOk result (W.contents writer.new ≡ W.contents writer.old) }
+    ensures walked { OnlyWalked L.fault L.looks L.fails look.old look.new result }
+    ensures silent { OnOk result (writer.new ≡ writer.old) }
+    ensures found { IfErr result (WalkWrites W.was_written W.was_flushed writer.old writer.new) }
 {
     let mut passed = before;
     for entry in entries {
@@ -271,7 +268,7 @@ fn visit_entries<L: Look, W: Write>(
 
 // Checks the entries of a directory after those that were passed, as many as one look reads. The
 // second result is whether there may be more.
-fn visit_page<L: Look, W: Write>(
+fn visit_page<L: Look, W: Sink>(
     alloc: Global,
     look: &mut L,
     walk: &mut Walk,
@@ -281,8 +278,9 @@ fn visit_page<L: Look, W: Write>(
     writer: &mut W,
 ) -> Result<(Passed, bool), VerifyFault>
     requires { L.fault look.old ≡ None }
-    ensures goes { Goes L.fault L.looks look.old look.new result }
-    ensures silent { OnOk result (W.contents writer.new ≡ W.contents writer.old) }
+    ensures walked { OnlyWalked L.fault L.looks L.fails look.old look.new result }
+    ensures silent { OnOk result (writer.new ≡ writer.old) }
+    ensures found { IfErr result (WalkWrites W.was_written W.was_flushed writer.old writer.new) }
 {
     let entries = match look.entries_after(place.node, before.cookie, PAGE) {
         Ok(entries) => entries,
@@ -297,7 +295,7 @@ fn visit_page<L: Look, W: Write>(
 
 // Checks all entries of a directory, and that it has as many directories as are counted. No more
 // nodes are met than there are.
-fn visit_directory<L: Look, W: Write>(
+fn visit_directory<L: Look, W: Sink>(
     alloc: Global,
     look: &mut L,
     walk: &mut Walk,
@@ -306,8 +304,9 @@ fn visit_directory<L: Look, W: Write>(
     writer: &mut W,
 ) -> Result<(), VerifyFault>
     requires { L.fault look.old ≡ None }
-    ensures goes { Goes L.fault L.looks look.old look.new result }
-    ensures silent { OnOk result (W.contents writer.new ≡ W.contents writer.old) }
+    ensures walked { OnlyWalked L.fault L.looks L.fails look.old look.new result }
+    ensures silent { OnOk result (writer.new ≡ writer.old) }
+    ensures found { IfErr result (WalkWrites W.was_written W.was_flushed writer.old writer.new) }
 {
     let mut passed = Passed {
         cookie: 0,
@@ -319,44 +318,38 @@ fn visit_directory<L: Look, W: Write>(
             Ok((more, false)) => {
                 if more.directories != place.subdirs {
                     let path = place.path.as_slice();
-                    return Err(wrong(
-                        writer,
-                        path,
-                        "its directories are not those that are counted",
-                    ));
+                    return Err(wrong(writer, path, Finding::OtherDirectories));
                 }
                 return Ok(());
             }
             Err(fault) => return Err(fault),
         }
     }
-    Err(wrong(
-        writer,
-        place.path.as_slice(),
-        "it has more entries than there are nodes",
-    ))
+    let path = place.path.as_slice();
+    Err(wrong(writer, path, Finding::MoreEntriesThanNodes))
 }
 
 // The walk that begins at the root.
-fn begin_walk<L: Look, W: Write>(
+fn begin_walk<L: Look, W: Sink>(
     alloc: Global,
     look: &mut L,
     counters: &Counters,
     writer: &mut W,
 ) -> Result<Walk, VerifyFault>
     requires { L.fault look.old ≡ None }
-    ensures goes { Goes L.fault L.looks look.old look.new result }
-    ensures silent { OnOk result (W.contents writer.new ≡ W.contents writer.old) }
+    ensures walked { OnlyWalked L.fault L.looks L.fails look.old look.new result }
+    ensures silent { OnOk result (writer.new ≡ writer.old) }
+    ensures found { IfErr result (WalkWrites W.was_written W.was_flushed writer.old writer.new) }
 {
-    if let Some(text) = fault_of_counters(counters) {
-        return Err(wrong(writer, b"/", text));
+    if let Some(finding) = fault_of_counters(counters) {
+        return Err(wrong(writer, b"", finding));
     }
-    let row = match find_row(look, ROOT_ID, 0, counters, b"/", writer) {
+    let row = match find_row(look, ROOT_ID, 0, counters, b"", writer) {
         Ok(row) => row,
         Err(fault) => return Err(fault),
     };
     if !is_directory(row.mode) {
-        return Err(wrong(writer, b"/", "it is no directory"));
+        return Err(wrong(writer, b"", Finding::NoDirectoryAtRoot));
     }
     let mut walk = Walk {
         tally: Tally::NONE,
@@ -367,7 +360,7 @@ fn begin_walk<L: Look, W: Write>(
 }
 
 // Goes on with a walk to its end.
-fn go_on<L: Look, W: Write>(
+fn go_on<L: Look, W: Sink>(
     alloc: Global,
     look: &mut L,
     walk: &mut Walk,
@@ -375,8 +368,9 @@ fn go_on<L: Look, W: Write>(
     writer: &mut W,
 ) -> Result<(), VerifyFault>
     requires { L.fault look.old ≡ None }
-    ensures goes { Goes L.fault L.looks look.old look.new result }
-    ensures silent { OnOk result (W.contents writer.new ≡ W.contents writer.old) }
+    ensures walked { OnlyWalked L.fault L.looks L.fails look.old look.new result }
+    ensures silent { OnOk result (writer.new ≡ writer.old) }
+    ensures found { IfErr result (WalkWrites W.was_written W.was_flushed writer.old writer.new) }
 {
     for _ in 0..counters.nodes {
         let Some(place) = walk.left.pop() else {
@@ -392,40 +386,41 @@ fn go_on<L: Look, W: Write>(
 
 // What is wrong with what was met at the end of a walk. The walk is at its end only where no directory
 // is left.
-fn fault_of_walk(walk: &Walk, counters: &Counters) -> Option<&'static str>
+fn fault_of_walk(walk: &Walk, counters: &Counters) -> Option<Finding>
     ensures { result ≡ None → Counts counters.now walk.now.tally }
 {
     if !walk.left.is_empty() || walk.tally.nodes > counters.nodes {
-        return Some("more nodes lie in it than are counted");
+        return Some(Finding::MoreNodes);
     }
     if walk.tally.nodes != counters.nodes {
-        return Some("fewer nodes lie in it than are counted");
+        return Some(Finding::FewerNodes);
     }
     match counters.room {
-        Some(room) if room.used != walk.tally.blocks => {
-            Some("its files take not as many blocks as are counted")
-        }
+        Some(room) if room.used != walk.tally.blocks => Some(Finding::OtherBlocks),
         _ => None,
     }
 }
 
 /// Walks over the whole tree that a look sees, from the root on: checks each entry and the row of its
 /// node, and reads each content. What is wrong is written on a line, with its path.
-pub fn verify_tree<L: Look, W: Write>(
+pub fn verify_tree<L: Look, W: Sink>(
     alloc: Global,
     look: &mut L,
     writer: &mut W,
 ) -> Result<Tally, VerifyFault>
     requires { L.fault look.old ≡ None }
+    // Only looks are done, whatever they see.
+    ensures walked { OnlyWalked L.fault L.looks L.fails look.old look.new result }
     // As many nodes and blocks were met as there are.
     ensures counted { ReadOff (L.is_clean look.new) (L.sees look.old) (λ rows.
         IfOk result (Counts rows.counters)) }
-    // Nothing is written of a tree in which all is right.
-    ensures silent { OnOk result (W.contents writer.new ≡ W.contents writer.old) }
+    // Nothing is written of a tree in which all is right, else the line of what is wrong.
+    ensures silent { OnOk result (writer.new ≡ writer.old) }
+    ensures found { IfErr result (WalkWrites W.was_written W.was_flushed writer.old writer.new) }
 {
     let counters = match look.counters() {
         Ok(counters) => counters,
-        Err(fault) => return Err(unread(writer, b"/", fault)),
+        Err(fault) => return Err(unread(writer, b"", fault)),
     };
     let mut walk = match begin_walk(alloc, look, &counters, writer) {
         Ok(walk) => walk,
@@ -437,6 +432,6 @@ pub fn verify_tree<L: Look, W: Write>(
     }
     match fault_of_walk(&walk, &counters) {
         None => Ok(walk.tally),
-        Some(text) => Err(wrong(writer, b"/", text)),
+        Some(finding) => Err(wrong(writer, b"", finding)),
     }
 }

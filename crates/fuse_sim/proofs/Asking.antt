@@ -6,9 +6,9 @@ use Rattle.fuse_keeper.specs.History.{Entry}
 use Rattle.fuse_keeper.specs.Performance.{Performance, performances_of}
 use Rattle.fuse_sim.specs.declared.event.Event.{Event}
 use Rattle.fuse_sim.specs.Driving.{commits, commits_in, settles, Calm}
-use Rattle.fuse_sim.specs.HandedOn.{Ledger, empty_ledger, after_event, joined_by, with_one, with_commit, performed_after, performances, handed_in}
+use Rattle.fuse_sim.specs.HandedOn.{Ledger, empty_ledger, after_event, joined_by, with_one, with_commit, performed_after, performances, handed_on_in}
 use Rattle.fuse_sim.specs.inner.HandedBy.{handed_by, handed_at, ledger_after, handed_on, AsksOne}
-use Rattle.fuse_sim.specs.inner.Running.{IsRun}
+use Rattle.fuse_sim.specs.inner.Running.{IsGroupRun}
 use Rattle.fuse_sim.proofs.Ledgers.{commits_one, none_step, one_step, fewer, fewer_too, too_many}
 
 -- ---- events, and then others
@@ -97,7 +97,7 @@ last_more V e es room p ps g h end few =
           ∙ group_is ps (g ++ one.0 ∷ []) (g ++ commits_in V (e ∷ es)) h (ap (λ (cs : List Entry). g ++ cs) (sym (commits_last V e es (one.0 ∷ []) one.1 end)))
     ]
 
-room_asks : (V : OpcodeSet) (died : Bool) (es : List Event) (room : ℕ) (p : List ℕ) (ps : List Performance) (g : List Entry) (h : List ℕ) → IsRun died es
+room_asks : (V : OpcodeSet) (died : Bool) (es : List Event) (room : ℕ) (p : List ℕ) (ps : List Performance) (g : List Entry) (h : List ℕ) → IsGroupRun died es
     → length (commits_in V es) ≤ room
     → performed_after V (record { room = room; pending = p }) (ps ++ one_asked g h ∷ []) es ≡ ps ++ one_asked (g ++ commits_in V es) h ∷ []
 room_asks V died [] room p ps g h so few = group_is ps g (g ++ []) h (sym (append-nil g))
@@ -140,7 +140,7 @@ first_last V e es p ps end =
     ]
 
 -- a group that begins is asked for once
-pub group_asks : (V : OpcodeSet) (died : Bool) (es : List Event) (p : List ℕ) → IsRun died es → length (commits_in V es) ≤ 16
+pub group_asks : (V : OpcodeSet) (died : Bool) (es : List Event) (p : List ℕ) → IsGroupRun died es → length (commits_in V es) ≤ 16
     → AsksOne V (record { room = 0; pending = p }) es
 unfolding one_asked
 group_asks V died [] p so few ps = sym (append-nil ps)
@@ -168,29 +168,29 @@ asks_more V xs run p is one = performed-append V empty_ledger [] xs run ∙ one 
 
 -- ---- the ids that are handed on
 
-handed_joined : (x : Entry) (ps : List Performance) → handed_in (joined_by x ps) ≡ handed_in ps
+handed_joined : (x : Entry) (ps : List Performance) → handed_on_in (joined_by x ps) ≡ handed_on_in ps
 handed_joined x [] = refl
 handed_joined x (p ∷ []) = refl
 handed_joined x (p ∷ q ∷ ps) = ap (λ (r : List ℕ). p.settled ++ r) (handed_joined x (q ∷ ps))
 
-pub handed_in-append : (ps qs : List Performance) → handed_in (ps ++ qs) ≡ handed_in ps ++ handed_in qs
-handed_in-append [] qs = refl
-handed_in-append (p ∷ ps) qs = ap (λ (r : List ℕ). p.settled ++ r) (handed_in-append ps qs) ∙ sym (append_assoc p.settled (handed_in ps) (handed_in qs))
+pub handed_on_in-append : (ps qs : List Performance) → handed_on_in (ps ++ qs) ≡ handed_on_in ps ++ handed_on_in qs
+handed_on_in-append [] qs = refl
+handed_on_in-append (p ∷ ps) qs = ap (λ (r : List ℕ). p.settled ++ r) (handed_on_in-append ps qs) ∙ sym (append_assoc p.settled (handed_on_in ps) (handed_on_in qs))
 
-handed_with : (room : ℕ) (p : List ℕ) (x : Entry) (ps : List Performance) → handed_in (with_one room p x ps) ≡ handed_in ps ++ handed_by room p
-handed_with zero p x ps = handed_in-append ps (record { group = x ∷ []; settled = p } ∷ []) ∙ ap (λ (r : List ℕ). handed_in ps ++ r) (append-nil p)
-handed_with (suc room) p x ps = handed_joined x ps ∙ sym (append-nil (handed_in ps))
+handed_with : (room : ℕ) (p : List ℕ) (x : Entry) (ps : List Performance) → handed_on_in (with_one room p x ps) ≡ handed_on_in ps ++ handed_by room p
+handed_with zero p x ps = handed_on_in-append ps (record { group = x ∷ []; settled = p } ∷ []) ∙ ap (λ (r : List ℕ). handed_on_in ps ++ r) (append-nil p)
+handed_with (suc room) p x ps = handed_joined x ps ∙ sym (append-nil (handed_on_in ps))
 
-handed_commit : (cs : List Entry) (l : Ledger) (ps : List Performance) → handed_in (with_commit cs l ps) ≡ handed_in ps ++ handed_at cs l
-handed_commit [] l ps = sym (append-nil (handed_in ps))
+handed_commit : (cs : List Entry) (l : Ledger) (ps : List Performance) → handed_on_in (with_commit cs l ps) ≡ handed_on_in ps ++ handed_at cs l
+handed_commit [] l ps = sym (append-nil (handed_on_in ps))
 handed_commit (x ∷ cs) l ps = handed_with l.room l.pending x ps
 
-handed_all : (V : OpcodeSet) (l : Ledger) (ps : List Performance) (es : List Event) → handed_in (performed_after V l ps es) ≡ handed_in ps ++ handed_on V l es
-handed_all V l ps [] = sym (append-nil (handed_in ps))
+handed_all : (V : OpcodeSet) (l : Ledger) (ps : List Performance) (es : List Event) → handed_on_in (performed_after V l ps es) ≡ handed_on_in ps ++ handed_on V l es
+handed_all V l ps [] = sym (append-nil (handed_on_in ps))
 handed_all V l ps (e ∷ es) =
     handed_all V (after_event V l e) (with_commit (commits V e) l ps) es
     ∙ ap (λ (r : List ℕ). r ++ handed_on V (after_event V l e) es) (handed_commit (commits V e) l ps)
-    ∙ append_assoc (handed_in ps) (handed_at (commits V e) l) (handed_on V (after_event V l e) es)
+    ∙ append_assoc (handed_on_in ps) (handed_at (commits V e) l) (handed_on V (after_event V l e) es)
 
-pub handed_performances : (V : OpcodeSet) (es : List Event) → handed_in (performances V es) ≡ handed_on V empty_ledger es
+pub handed_performances : (V : OpcodeSet) (es : List Event) → handed_on_in (performances V es) ≡ handed_on V empty_ledger es
 handed_performances V es = handed_all V empty_ledger [] es

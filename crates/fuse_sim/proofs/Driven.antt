@@ -20,14 +20,13 @@ use Rattle.fuse_sim.specs.Driving.{commits, commits_by, commits_in, committed, a
 use Rattle.fuse_sim.specs.Driving.{dies}
 use Rattle.fuse_sim.specs.HandedOn.{Ledger, empty_ledger, after_one, after_commit, crashed_if, after_event}
 use Rattle.fuse_sim.specs.inner.HandedBy.{handed_by, handed_at, ledger_after, handed_on}
-use Rattle.fuse_sim.proofs.Gathered.{commits-append, only_one}
-use Rattle.fuse_sim.proofs.Settled.{includes_left, includes_right, includes_both, unsettled_too}
+use Rattle.fuse_sim.proofs.Gathered.{commits-append}
+use Rattle.fuse_session.proofs.Settled.{only_one}
+use Rattle.fuse_keeper.proofs.Settled.{includes_left, includes_right, includes_both}
+use Rattle.fuse_keeper.proofs.Standing.{unsettled_too}
+use Rattle.fuse_keeper.proofs.Histories.{grown-append}
 
 -- ---- histories
-
-pub grown-append : (h : History) (xs ys : List Entry) → grown h (xs ++ ys) ≡ grown (grown h xs) ys
-grown-append h [] ys = refl
-grown-append h (x ∷ xs) ys = grown-append (add h x) xs ys
 
 pub committed-append : (V : OpcodeSet) (h : History) (xs ys : List Event) → committed V h (xs ++ ys) ≡ committed V (committed V h xs) ys
 committed-append V h xs ys = ap (grown h) (commits-append V xs ys) ∙ grown-append h (commits_in V xs) (commits_in V ys)

@@ -17,12 +17,12 @@ use Rattle.fuse_sim.specs.declared.event.DriveFault.{DriveFault}
 use Rattle.fuse_sim.specs.Driving.{commits_in, committed, outcome_of, bytes_given, settled_by, NoneReused, told_in, StandsIn, became_in, deaths, Opened, AnsweredBy}
 use Rattle.fuse_sim.specs.Driving.{OfRestart, IsFit, event_of, before, is_store, LeftBy, OutcomesBegin, StoodBefore, KeepsMedium, performed_in}
 use Rattle.fuse_sim.specs.AfterEvents.{DeletesHanded}
-use Rattle.fuse_sim.specs.HandedOn.{Ledger, empty_ledger, performances, handed_in, AsksUpTo, AskedSome}
+use Rattle.fuse_sim.specs.HandedOn.{Ledger, empty_ledger, performances, handed_on_in, AsksUpTo, AskedSome}
 use Rattle.fuse_sim.specs.inner.HandedBy.{ledger_after, handed_on, AsksOne}
 use Rattle.fuse_sim.specs.LeftRecords.{RecordsLeft, HoldsRecords}
 use Rattle.fuse_sim.specs.Twice.{Seen}
-use Rattle.fuse_sim.specs.inner.Running.{stage, Moved, MayBegin, Opens, Stops, AsksFrom, AsksRun, StopsAsking}
-use Rattle.fuse_sim.proofs.Settled.{is_in-append, stands_later, stands_kept}
+use Rattle.fuse_sim.specs.inner.Running.{stage, Moved, MayBegin, Opens, StopsAtEvent, AsksFrom, AsksGroup, StopsAsking}
+use Rattle.fuse_keeper.proofs.Settled.{is_in-append, stands_later, stands_kept}
 use Rattle.fuse_sim.proofs.Driven.{ledger-append, pending_settled, settled_all, includes_none, handed_came}
 use Rattle.fuse_sim.proofs.Asking.{handed_performances, asks_more}
 use Rattle.fuse_sim.proofs.AskedGroups.{performed_then}
@@ -155,7 +155,7 @@ pub moved_left : (M : Model) → {K : Type 0} (told : K → KeeperState M) (old 
     → Moved (stage (told_in told old) [] []) (stage (told_in told new) p outcomes) 0 es others
     → (told_in told new).is_honest → (s : M.State) (h : History) (t : List ℕ) → StandsIn told old s h t → NoneReused M.serves t es → (rows : M.Rows) (records : Records)
     → (told_in told new).holds rows records
-    → (i : ℕ) → is_in t i ≡ false → is_in (handed_in (performances M.serves es)) i ≡ false → records i ≡ said M s (committed M.serves h es) i
+    → (i : ℕ) → is_in t i ≡ false → is_in (handed_on_in (performances M.serves es)) i ≡ false → records i ≡ said M s (committed M.serves h es) i
 moved_left M told old new es others p outcomes one moved is s h t so none rows records held i unsettled isnt =
     let left = moved_kept M (told_in told old) (told_in told new) es others p outcomes moved is s h t so none in
     same_records M told new rows left.rows records left.records one held left.held i
@@ -188,7 +188,7 @@ stopped_at M told old mid events at fault p outcomes moved place is s h t so non
 
 pub stopped : (M : Model) → {K : Type 0} (seen : Seen M K) (old mid new : Option K)
     (events : List Event) (at : ℕ) (fault : DriveFault) (p : List ℕ) (outcomes : List (Option Outcome))
-    → ((k : K) → (seen.told k).is_clean → (seen.told k).is_honest) → Moved (stage (told_in seen.told old) [] []) (stage (told_in seen.told mid) p outcomes) 0 (take at events) (drop at events) → Stops seen mid new events at fault
+    → ((k : K) → (seen.told k).is_clean → (seen.told k).is_honest) → Moved (stage (told_in seen.told old) [] []) (stage (told_in seen.told mid) p outcomes) 0 (take at events) (drop at events) → StopsAtEvent seen mid new events at fault
     → (s : M.State) (h : History) (t : List ℕ) → StandsIn seen.told old s h t → NoneReused M.serves t (before fault events)
     → LeftBy (told_in seen.told new) (is_store fault) (StandsIn seen.told new s (committed M.serves h (before fault events)) (settled_by M.serves t (before fault events)))
 stopped M seen old mid new events at fault p outcomes too moved stops s h t so none =
@@ -201,7 +201,7 @@ stopped M seen old mid new events at fault p outcomes too moved stops s h t so n
 -- the records that a fault leaves are those that the events before it left
 pub stopped_records : (M : Model) → {K : Type 0} (seen : Seen M K) (old mid new : Option K)
     (events : List Event) (at : ℕ) (fault : DriveFault) (p : List ℕ) (outcomes : List (Option Outcome))
-    → ((k : K) → (seen.told k).is_clean → (seen.told k).is_honest) → Moved (stage (told_in seen.told old) [] []) (stage (told_in seen.told mid) p outcomes) 0 (take at events) (drop at events) → Stops seen mid new events at fault
+    → ((k : K) → (seen.told k).is_clean → (seen.told k).is_honest) → Moved (stage (told_in seen.told old) [] []) (stage (told_in seen.told mid) p outcomes) 0 (take at events) (drop at events) → StopsAtEvent seen mid new events at fault
     → LeftBy (told_in seen.told new) (is_store fault) (DeletesHanded seen.told old new (performances M.serves (before fault events)) (before fault events))
 stopped_records M seen old mid new events at fault p outcomes too moved stops =
     left_map M seen.told (is_store fault) new ((event_of fault ≡ at) × KeepsHeld (told_in seen.told mid) (told_in seen.told new))
@@ -220,7 +220,7 @@ there_is M told k is none = subst (λ o. (told_in told o).is_clean) none is
 pub stopped_store : (M : Model) → {K : Type 0} (seen : Seen M K)
     (old mid new : Option K) (events : List Event) (at : ℕ) (fault : DriveFault) (p : List ℕ) (outcomes : List (Option Outcome))
     → ((k : K) → (seen.told k).is_clean → (seen.told k).is_honest) → Moved (stage (told_in seen.told old) [] []) (stage (told_in seen.told mid) p outcomes) 0 (take at events) (drop at events)
-    → Opened seen.told seen.became old mid (take at events) → Stops seen mid new events at fault → is_store fault ≡ true → (told_in seen.told new).is_clean
+    → Opened seen.told seen.became old mid (take at events) → StopsAtEvent seen mid new events at fault → is_store fault ≡ true → (told_in seen.told new).is_clean
     → (s : M.State) (h : History) (t : List ℕ) → StandsIn seen.told old s h t → NoneReused M.serves t (before fault events)
     → AnsweredBy seen.told seen.became old new (before fault events) fault
 stopped_store M seen old mid new events at fault p outcomes too moved opened stops store is s h t so none =
@@ -236,7 +236,7 @@ stopped_store M seen old mid new events at fault p outcomes too moved opened sto
 
 pub stopped_opened : (M : Model) → {K : Type 0} (seen : Seen M K) → IsCount seen.became
     → (old mid new : Option K) (events : List Event) (at : ℕ) (fault : DriveFault)
-    → Opened seen.told seen.became old mid (take at events) → Stops seen mid new events at fault → (new ≡ None → ⊥)
+    → Opened seen.told seen.became old mid (take at events) → StopsAtEvent seen mid new events at fault → (new ≡ None → ⊥)
     → Opened seen.told seen.became old new (before fault events)
 stopped_opened M seen law old mid new events at fault opened stops there =
     let stayed = stops.stayed there in
@@ -246,7 +246,7 @@ stopped_opened M seen law old mid new events at fault opened stops there =
 -- no keeper was left
 pub stopped_emptied : (M : Model) → {K : Type 0} (seen : Seen M K) → IsCount seen.became
     → (old mid new : Option K) (events : List Event) (at : ℕ) (fault : DriveFault)
-    → Opened seen.told seen.became old mid (take at events) → Stops seen mid new events at fault → new ≡ None → OfRestart seen.became seen.may_refuse old (before fault events) events fault
+    → Opened seen.told seen.became old mid (take at events) → StopsAtEvent seen mid new events at fault → new ≡ None → OfRestart seen.became seen.may_refuse old (before fault events) events fault
 stopped_emptied M seen law old mid new events at fault opened stops none =
     let refused = stops.emptied none in
     record {
@@ -271,7 +271,7 @@ moved_stood M told became law old mid new events at n p outcomes moved opened st
 
 pub stopped_stood : (M : Model) → {K : Type 0} (seen : Seen M K) → IsCount seen.became
     → (old mid new : Option K) (events : List Event) (at : ℕ) (fault : DriveFault)
-    → StoodBefore seen.told seen.became old mid (take at events) → Stops seen mid new events at fault → (new ≡ None → ⊥)
+    → StoodBefore seen.told seen.became old mid (take at events) → StopsAtEvent seen mid new events at fault → (new ≡ None → ⊥)
     → StoodBefore seen.told seen.became old new (before fault events)
 stopped_stood M seen law old mid new events at fault stood stops there =
     let stayed = stops.stayed there in
@@ -280,14 +280,14 @@ stopped_stood M seen law old mid new events at fault stood stops there =
 
 pub stopped_medium : (M : Model) → {K : Type 0} (seen : Seen M K)
     (P : K → Type 0) (old mid new : Option K) (events : List Event) (at : ℕ) (fault : DriveFault)
-    → IsSomeAnd mid P → KeepsMedium seen.told old mid → Stops seen mid new events at fault → KeepsMedium seen.told old new
+    → IsSomeAnd mid P → KeepsMedium seen.told old mid → StopsAtEvent seen mid new events at fault → KeepsMedium seen.told old new
 stopped_medium M seen P old mid new events at fault going medium stops =
     medium_then M seen.told old mid new P going medium (medium_left M seen.told mid new stops.medium)
 
 pub stopped_firm : (M : Model) → {K : Type 0} (seen : Seen M K)
     (old mid new : Option K) (events others : List Event) (at : ℕ) (fault : DriveFault) (p : List ℕ) (outcomes : List (Option Outcome))
     → Moved (stage (told_in seen.told old) [] []) (stage (told_in seen.told mid) p outcomes) 0 (take at events) others
-    → Stops seen mid new events at fault → is_store fault ≡ false → (told_in seen.told new).is_honest
+    → StopsAtEvent seen mid new events at fault → is_store fault ≡ false → (told_in seen.told new).is_honest
     → IsFirm (told_in seen.told old) → IsFirm (told_in seen.told new)
 stopped_firm M seen old mid new events others at fault p outcomes moved stops kind is so =
     stops.firm kind is (moved.ran.firm (stops.was_honest is) so)
@@ -298,7 +298,7 @@ pub moved_asked : (M : Model) → {K : Type 0} (performed : K → K → List Per
     (old mid new : Option K) (events : List Event) (at n : ℕ) (p : List ℕ) (outcomes : List (Option Outcome))
     → Moved (stage k [] []) (stage k' p outcomes) 0 (take at events) (drop at events)
     → performed_in performed old mid (performances M.serves (take at events))
-    → AsksFrom M.serves p (take n (drop at events)) (drop at events) → AsksRun M.serves performed mid new p (take n (drop at events))
+    → AsksFrom M.serves p (take n (drop at events)) (drop at events) → AsksGroup M.serves performed mid new p (take n (drop at events))
     → performed_in performed old new (performances M.serves (take (at + n) events))
 moved_asked M performed law k k' old mid new events at n p outcomes moved asked asks more =
     let run = take n (drop at events) in
@@ -312,7 +312,7 @@ moved_asked M performed law k k' old mid new events at n p outcomes moved asked 
 pub stopped_asked : (M : Model) → {K : Type 0} (seen : Seen M K) → IsPerformanceLog seen.performed → (old mid new : Option K) (events : List Event) (at : ℕ) (fault : DriveFault)
     (p : List ℕ) (outcomes : List (Option Outcome))
     → Moved (stage (told_in seen.told old) [] []) (stage (told_in seen.told mid) p outcomes) 0 (take at events) (drop at events)
-    → performed_in seen.performed old mid (performances M.serves (take at events)) → Stops seen mid new events at fault
+    → performed_in seen.performed old mid (performances M.serves (take at events)) → StopsAtEvent seen mid new events at fault
     → StopsAsking seen mid new p (drop at events) fault → (new ≡ None → ⊥)
     → AskedSome seen.performed old new (AsksUpTo M.serves events fault)
 stopped_asked M seen law old mid new events at fault p outcomes moved asked stops asking there =

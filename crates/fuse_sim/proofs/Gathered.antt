@@ -1,18 +1,14 @@
 -- Groups, one event after another.
-use Rattle.std.proofs.Common.{◌≡◌, ◌≢◌, ◌⊎◌, inl, inr, ℕ, ◌+◌, ◌≤◌, ◌<◌, ◌==◌, Bool, true, false, not, ◌&&◌, if◌then◌else◌, List, [], ◌∷◌, ◌++◌, length, take}
+use Rattle.std.proofs.Common.{◌≡◌, ◌⊎◌, inl, inr, ℕ, ◌+◌, ◌≤◌, ◌<◌, Bool, true, false, List, [], ◌∷◌, ◌++◌, length, take}
 use Rattle.std.proofs.Common.{drop, get_or, All, refl, sym, ap, subst, ◌∙◌, arith, append_assoc, length-append, drop-cons}
 use Rattle.std.proofs.lemmas.List.{take_more, append-nil, map-append, length-map, length-take-le, drop_all}
-use Rattle.std.proofs.lemmas.List.Elements.{All-append, All-cons, All-nil}
+use Rattle.std.proofs.lemmas.List.Elements.{All-append, All-nil}
 use Rattle.fuse_request.specs.Opcodes.{OpcodeSet}
-use Rattle.fuse_wire.specs.Ids.{id_of}
-use Rattle.fuse_wire.specs.Opcodes.{silent}
 use Rattle.fuse_wire.specs.declared.moment.Moment.{Moment}
 use Rattle.fuse_request.specs.declared.request.Request.{Request}
 use Rattle.fuse_request.specs.declared.class.Class.{Class}
 use Rattle.fuse_request.specs.declared.class.Class.TheVariants.{Silent, Bare, Kept}
-use Rattle.fuse_request.specs.Classes.{class_for, class_for, class_by, is_zero}
-use Rattle.fuse_request.specs.Faults.{first_fault}
-use Rattle.fuse_request.specs.Header.{raw_of}
+use Rattle.fuse_request.specs.Classes.{class_for, is_zero}
 use Rattle.fuse_keeper.specs.History.{Entry}
 use Rattle.fuse_keeper.specs.Model.{Model}
 use Rattle.fuse_keeper.specs.declared.keeper.TheConstants.{MAX_GROUP}
@@ -23,10 +19,9 @@ use Rattle.fuse_sim.specs.declared.event.Fate.TheVariants.{Answered, AnswerLost,
 use Rattle.fuse_sim.specs.declared.event.Event.{Event}
 use Rattle.fuse_sim.specs.declared.group.Group.{Group}
 use Rattle.fuse_sim.specs.Driving.{commits, commits_by, commits_in, dies, IsFit}
-use Rattle.fuse_sim.specs.inner.Running.{dies_before, IsRun, StartsNone, EndsWith, StopsAt, Gathers, Joins}
-
-pub only_one : {A : Type 0} (P : A → Type 0) (x : A) → P x → All P (x ∷ [])
-only_one P x p = All-cons P x [] p (All-nil P)
+use Rattle.fuse_sim.specs.inner.Running.{dies_before, IsGroupRun, StartsNone, EndsWith, StopsAt, GathersEvents, Joins}
+use Rattle.fuse_session.proofs.Settled.{only_one}
+use Rattle.fuse_session.proofs.Gathering.{has_id}
 
 pub commits-append : (V : OpcodeSet) (xs ys : List Event) → commits_in V (xs ++ ys) ≡ commits_in V xs ++ commits_in V ys
 commits-append V [] ys = refl
@@ -40,7 +35,7 @@ commits_kept DiedBeforeCommit es is = absurd (cc is)
 commits_kept DiedAfterCommit es is = refl
 
 -- one more event, after which the server goes on, or dies
-run_more : (xs : List Event) (e : Event) (b : Bool) → IsRun false xs → dies e.fate ≡ b → (b ≡ true → e.fate ≡ DiedAfterCommit) → IsRun b (xs ++ e ∷ [])
+run_more : (xs : List Event) (e : Event) (b : Bool) → IsGroupRun false xs → dies e.fate ≡ b → (b ≡ true → e.fate ≡ DiedAfterCommit) → IsGroupRun b (xs ++ e ∷ [])
 run_more [] e true so is died = inr (refl, died refl, refl)
 run_more [] e false so is died = inl (is, refl)
 run_more (x ∷ xs) e b so is died = elim so [
@@ -48,7 +43,7 @@ run_more (x ∷ xs) e b so is died = elim so [
   | inr last ↦ absurd (cc last.0)
 ]
 
-pub none_gathered : (M : Model) (group : Group) → group.classes.items ≡ [] → group.taken.items ≡ [] → group.died ≡ false → Gathers M [] group
+pub none_gathered : (M : Model) (group : Group) → group.classes.items ≡ [] → group.taken.items ≡ [] → group.died ≡ false → GathersEvents M [] group
 none_gathered M group none is alive = record {
   fit = All-nil IsFit;
   goes = alive;
@@ -61,23 +56,23 @@ none_gathered M group none is alive = record {
 
 -- one more
 pub gathers_next : (M : Model) (events : List Event) (i : ℕ) (e : Event) (old new : Group) → i < length events → e ≡ get_or events i e
-    → Gathers M (take i events) old → Joins M e old new → Gathers M (take (i + 1) events) new
+    → GathersEvents M (take i events) old → Joins M e old new → GathersEvents M (take (i + 1) events) new
 gathers_next M events i e old new lt at so_far joins =
     let more : take i events ++ e ∷ [] ≡ take (i + 1) events = ap (λ x. take i events ++ x ∷ []) at ∙ sym (take_more events i e lt) in
-    subst (λ run. Gathers M run new) more (joins (take i events) so_far)
+    subst (λ run. GathersEvents M run new) more (joins (take i events) so_far)
 
-pub gathers_count : (M : Model) (events : List Event) (i : ℕ) (group : Group) → i ≤ length events → Gathers M (take i events) group
+pub gathers_count : (M : Model) (events : List Event) (i : ℕ) (group : Group) → i ≤ length events → GathersEvents M (take i events) group
     → length group.classes.items ≡ i
 gathers_count M events i group le g = ap length g.classes_are ∙ length-map (take i events) (λ (e : Event). class_for M.serves e.bytes)
     ∙ length-take-le i events le
 
-pub gathers_counted : (M : Model) (events : List Event) (i : ℕ) (group : Group) → i ≤ length events → Gathers M (take i events) group
-    → Gathers M (take (length group.classes.items) events) group
-gathers_counted M events i group le g = subst (λ n. Gathers M (take n events) group) (sym (gathers_count M events i group le g)) g
+pub gathers_counted : (M : Model) (events : List Event) (i : ℕ) (group : Group) → i ≤ length events → GathersEvents M (take i events) group
+    → GathersEvents M (take (length group.classes.items) events) group
+gathers_counted M events i group le g = subst (λ n. GathersEvents M (take n events) group) (sym (gathers_count M events i group le g)) g
 
 -- a group ends where the server died, where it is full, or before an event that stands apart
 pub ends_here : (M : Model) (events : List Event) (i : ℕ) (e : Event) (group : Group) → i < length events → e ≡ get_or events i e
-    → Gathers M (take i events) group → EndsWith group e → StopsAt group (drop (length group.classes.items) events)
+    → GathersEvents M (take i events) group → EndsWith group e → StopsAt group (drop (length group.classes.items) events)
 ends_here M events i e group lt at g ends alive = elim ends [
   | inl dead ↦ absurd (cc (alive, dead))
   | inr so ↦ elim so [
@@ -87,29 +82,13 @@ ends_here M events i e group lt at g ends alive = elim ends [
   ]
 ]
 
-pub stops_at_end : (M : Model) (events : List Event) (i : ℕ) (group : Group) → i ≤ length events → length events ≤ i → Gathers M (take i events) group
+pub stops_at_end : (M : Model) (events : List Event) (i : ℕ) (group : Group) → i ≤ length events → length events ≤ i → GathersEvents M (take i events) group
     → StopsAt group (drop (length group.classes.items) events)
 stops_at_end M events i group le past g alive =
     let n = gathers_count M events i group le g in
     inr (subst StartsNone (sym (drop_all (length group.classes.items) events (omega (arith, n, past)))) tt)
 
 -- a kept message is answered
-kept_speaks : (V : OpcodeSet) (b : List ℕ) → class_for V b ≡ Kept → silent (raw_of b).opcode ≡ false
-unfolding class_for
-kept_speaks V b kept =
-    elim (silent (raw_of b).opcode) as (λ s. (if s then Silent else class_by V (first_fault b) (raw_of b).opcode) ≡ Kept → s ≡ false)
-    [ true ↦ λ isnt. absurd (cc isnt) | false ↦ λ _. refl ] kept
-
-not_zero : (n : ℕ) → (n == 0) ≡ false → n ≢ 0
-not_zero n isnt is = grind arith
-
-spoken : (s e : Bool) → s ≡ false → (not s && e) ≡ false → e ≡ false
-spoken true e isnt both = absurd (cc isnt)
-spoken false e isnt both = both
-
-has_id : (V : OpcodeSet) (m : List ℕ) (t : Moment) → class_for V m ≡ Kept → is_zero m ≡ false → HasId (message_entry m t)
-has_id V m t kept named = not_zero (id_of (raw_of m).unique) (spoken (silent (raw_of m).opcode) (id_of (raw_of m).unique == 0) (kept_speaks V m kept) named)
-
 one_kept : (class : Class) (x e : Entry) → x ∷ [] ≡ entry_if class e → (class ≡ Kept) × (x ≡ e)
 one_kept Silent x e is = absurd (cc is)
 one_kept (Bare errno) x e is = absurd (cc is)
@@ -147,7 +126,7 @@ pub joins_kept : (M : Model) (e : Event) (old new : Group) (one : Request × Mom
 joins_kept M e old new one alive fit goes some kept room classed pushed is dead =
     λ run g. record {
       fit = All-append IsFit run (e ∷ []) g.fit (only_one IsFit e fit);
-      goes = run_more run e new.died (subst (λ b. IsRun b run) alive g.goes) is dead;
+      goes = run_more run e new.died (subst (λ b. IsGroupRun b run) alive g.goes) is dead;
       classes_are = classed ∙ ap (λ (cs : List Class). cs ++ class_for M.serves e.bytes ∷ []) g.classes_are
           ∙ sym (map-append (λ (x : Event). class_for M.serves x.bytes) run (e ∷ []));
       entries = ap entries_of pushed ∙ map-append entry_of old.taken.items (one ∷ []) ∙ ap (λ r. r ++ entry_of one ∷ []) g.entries
@@ -165,7 +144,7 @@ pub joins_bare : (M : Model) (e : Event) (old new : Group) → old.died ≡ fals
 joins_bare M e old new alive fit goes none classed same is dead =
     λ run g. record {
       fit = All-append IsFit run (e ∷ []) g.fit (only_one IsFit e fit);
-      goes = run_more run e new.died (subst (λ b. IsRun b run) alive g.goes) is dead;
+      goes = run_more run e new.died (subst (λ b. IsGroupRun b run) alive g.goes) is dead;
       classes_are = classed ∙ ap (λ (cs : List Class). cs ++ class_for M.serves e.bytes ∷ []) g.classes_are
           ∙ sym (map-append (λ (x : Event). class_for M.serves x.bytes) run (e ∷ []));
       entries = ap entries_of same ∙ g.entries ∙ sym (append-nil (commits_in M.serves run)) ∙ entries_one M.serves run e [] goes none;

@@ -1,5 +1,5 @@
 -- A group that was performed.
-use Rattle.std.proofs.Common.{◌≡◌, ℕ, suc, ◌<◌, Bool, true, false, if◌then◌else◌, List, [], ◌∷◌, ◌++◌, length, map, All, Option, Some, None, Err, option_map, refl, sym}
+use Rattle.std.proofs.Common.{◌≡◌, ℕ, suc, ◌<◌, false, List, [], ◌∷◌, ◌++◌, length, map, All, Option, Some, Err, option_map, refl, sym}
 use Rattle.std.proofs.Common.{ap, subst, ◌∙◌, arith}
 use Rattle.std.proofs.lemmas.List.{length-map, map-append}
 use Rattle.std.proofs.lemmas.List.Elements.{All-nil, All-cons}
@@ -11,12 +11,11 @@ use Rattle.fuse_request.specs.declared.request.Request.{Request}
 use Rattle.fuse_request.specs.declared.class.Class.{Class}
 use Rattle.fuse_request.specs.declared.class.Class.TheVariants.{Silent, Bare, Kept}
 use Rattle.fuse_request.specs.Classes.{class_for}
-use Rattle.fuse_keeper.specs.History.{Entry, entry_id, History, after, grown, said, is_in, IsUnsettled}
+use Rattle.fuse_keeper.specs.History.{Entry, entry_id, History, said, IsUnsettled}
 use Rattle.fuse_keeper.specs.declared.fault.StoreFault.{StoreFault}
-use Rattle.fuse_keeper.specs.Model.{Model, IsRowed}
+use Rattle.fuse_keeper.specs.Model.{Model}
 use Rattle.fuse_keeper.specs.KeeperState.{KeeperState, StandsFor, IsFirm, Performed, ActsOn, KeepsOthers, Called}
-use Rattle.fuse_keeper.specs.Stands.{Records, Content, Stands, without}
-use Rattle.fuse_keeper.specs.Taking.{Took, TakesAll, GroupsGrow}
+use Rattle.fuse_keeper.specs.Taking.{GroupsGrow}
 use Rattle.fuse_keeper.specs.Group.{entry_of, entries_of, handed_to, left_pending}
 use Rattle.fuse_keeper.specs.declared.keeper.Done.{Done}
 use Rattle.fuse_session.specs.Processed.{entry_if, message_entry, unique_of}
@@ -27,7 +26,8 @@ use Rattle.fuse_sim.specs.Driving.{commits_in, committed, answer_in, outcome_of,
 use Rattle.fuse_sim.specs.inner.Running.{dies_before, NoneDiesBefore, answers_in, head_answer, outcomes_by, HasAnswers, settles_in, Adds}
 use Rattle.fuse_sim.specs.inner.Running.{Worked, stage}
 use Rattle.fuse_sim.proofs.Gathered.{commits_kept, commits-append}
-use Rattle.fuse_sim.proofs.Settled.{includes_left, includes_right, unsettled_too}
+use Rattle.fuse_keeper.proofs.Firsts.{first_said}
+use Rattle.fuse_session.proofs.Firsts.{same_answers}
 
 entry_at : Event → Entry
 entry_at e = message_entry e.bytes e.moment
@@ -108,78 +108,9 @@ outcomes_say M s g (e ∷ run) later answers others goes are =
     ∙ ap (λ os. outcome_of M s g e ∷ os) (outcomes_say M s g run later (left_by class answers) others (others_go e run goes)
     (left_says M s g class entry (commits_in M.serves run) answers here))
 
-some_answers : (dones : List Done) → map (λ a. Some a) (answers_in dones) ≡ map (λ (d : Done). Some d.answer) dones
-some_answers [] = refl
-some_answers (d ∷ dones) = ap (λ r. Some d.answer ∷ r) (some_answers dones)
-
 outcomes_count : (V : OpcodeSet) (run : List Event) (answers : List Said) → length (outcomes_by V run answers) ≡ length run
 outcomes_count V [] answers = refl
 outcomes_count V (e ∷ run) answers = ap suc (outcomes_count V run (left_by (class_for V e.bytes) answers))
-
--- ---- the first entries of a group
-
-record TakenFirst (M : Model) (before : Content M) (first : List Entry) (dones : List Done) : Type 0 where
-  pub held : Content M
-  pub some : List Done
-  pub others : List Done
-  pub parts : dones ≡ some ++ others
-  pub taken : TakesAll M before first held some
-
-taken_more : (M : Model) (before : Content M) (e : Entry) (first : List Entry) (mid : Content M) (done : Done) (dones : List Done)
-    → Took M before e mid done → TakenFirst M mid first dones → TakenFirst M before (e ∷ first) (done ∷ dones)
-taken_more M before e first mid done dones took more = record {
-  held = more.held;
-  some = done ∷ more.some;
-  others = more.others;
-  parts = ap (λ (ds : List Done). done ∷ ds) more.parts;
-  taken = (mid, took, more.taken);
-}
-
-taken_first : (M : Model) (before : Content M) (first later : List Entry) (after : Content M) (dones : List Done)
-    → TakesAll M before (first ++ later) after dones → TakenFirst M before first dones
-taken_first M before [] later after dones taken =
-    record { held = before; some = []; others = dones; parts = refl; taken = (refl, λ i. refl) }
-taken_first M before (e ∷ first) later after [] taken = absurd taken
-taken_first M before (e ∷ first) later after (done ∷ dones) taken =
-    taken_more M before e first taken.0 done dones taken.1 (taken_first M taken.0 first later after dones taken.2)
-
--- what stands without the records of settled ids
-right_without : (b : Bool) (o : Option Said) (a : Said) → (if b then None else o) ≡ Some a → o ≡ Some a
-right_without true o a is = absurd (cc is)
-right_without false o a is = is
-
-Stands-without : (M : Model) (rows : M.Rows) (records : Records) (s : M.State) (h : History) (t handed : List ℕ) → Stands M rows records s h t
-    → Stands M rows (without handed records) s h (t ++ handed)
-Stands-without M rows records s h t handed so = record {
-  tree = so.tree;
-  distinct = so.distinct;
-  rows_are = so.rows_are;
-  right = λ i a is. so.right i a (right_without (is_in handed i) (records i) a is);
-  kept = λ i fresh.
-      ap (λ b. if b then None else records i) (unsettled_too (t ++ handed) handed i (includes_right t handed) fresh)
-      ∙ so.kept i (unsettled_too (t ++ handed) t i (includes_left t handed) fresh);
-}
-
--- the answers to the first entries of a group are those that are said where these are added
-record FirstSaid (M : Model) (s : M.State) (g : History) (first : List Entry) (dones : List Done) : Type 0 where
-  pub some : List Done
-  pub others : List Done
-  pub parts : dones ≡ some ++ others
-  pub says : map (λ (d : Done). Some d.answer) some ≡ map (λ e. said M s g (entry_id e)) first
-
-first_said : (M : Model) → GroupsGrow M → (k k' : KeeperState M) (handed : List ℕ) (group first later : List Entry) (dones : List Done)
-    → ActsOn k k' handed group dones → group ≡ first ++ later → k'.is_honest → (s : M.State) (h : History) (t : List ℕ) → StandsFor k s h t
-    → All (IsUnsettled (t ++ handed)) first → FirstSaid M s (grown h first) first dones
-unfolding IsRowed
-first_said M grows k k' handed group first later dones acts parts honest s h t so fresh =
-    let done = acts honest so.rows so.records so.held (after M s h, so.stands.tree, so.stands.rows_are) in
-    let before : Content M = record { rows = so.rows; records = without handed so.records } in
-    let held : Content M = record { rows = done.rows; records = done.records } in
-    let taken = subst (λ (g : List Entry). TakesAll M before g held dones) parts done.taken in
-    let some = taken_first M before first later held dones taken in
-    let performed = grows.taken_is_performed before first some.held some.some (record { state = s; history = h; settled = t ++ handed })
-    (Stands-without M so.rows so.records s h t handed so.stands) fresh some.taken in
-    record { some = some.some; others = some.others; parts = some.parts; says = performed.answers }
 
 -- ---- all of it
 
@@ -207,7 +138,7 @@ outcomes_first M grows k k' run handed dones added goes acts are honest earlier 
           ∙ ap (λ (ds : List Done). outcomes_by M.serves (earlier ++ later) (answers_in ds)) first.parts
           ∙ ap (λ (said : List Said). outcomes_by M.serves (earlier ++ later) said) (answers-append first.some first.others)
           ∙ outcomes_say M s (committed M.serves h earlier) earlier later (answers_in first.some) (answers_in first.others) (none_first run earlier later parts goes)
-          (some_answers first.some ∙ first.says),
+          (same_answers first.some ∙ first.says),
     )
 
 pub worked : (M : Model) → GroupsGrow M → (holds holds' : KeeperState M) (run : List Event) (taken : List (Request × Moment))

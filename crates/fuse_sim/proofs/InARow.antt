@@ -15,13 +15,14 @@ use Rattle.fuse_sim.specs.declared.event.Event.{Event}
 use Rattle.fuse_sim.specs.declared.event.Outcome.{Outcome}
 use Rattle.fuse_sim.specs.Driving.{told_in, StandsIn, commits_in, committed, bytes_given, settles, settled_by, NoneReused, OutcomesBegin}
 use Rattle.fuse_sim.specs.AfterEvents.{StandsAfter, AnswersAre, FirstAnswersAre, DeletesHanded, KeepsUnhanded}
-use Rattle.fuse_sim.specs.HandedOn.{empty_ledger, performances, handed_in}
+use Rattle.fuse_sim.specs.HandedOn.{empty_ledger, performances, handed_on_in}
 use Rattle.fuse_sim.specs.LeftRecords.{RecordsLeft}
-use Rattle.fuse_sim.proofs.Settled.{is_in-append, in_either, includes_left, includes_right, includes_both, unsettled_too}
+use Rattle.fuse_keeper.proofs.Settled.{is_in-append, in_either, includes_left, includes_right, includes_both, ids-append}
+use Rattle.fuse_keeper.proofs.Standing.{unsettled_too}
 use Rattle.fuse_sim.proofs.Gathered.{commits-append}
 use Rattle.fuse_sim.proofs.Driven.{committed-append, reused-parts, none_reused, includes_none, handed_settled, settled_all}
-use Rattle.fuse_sim.proofs.Asking.{handed_in-append, handed_performances}
-use Rattle.fuse_sim.proofs.Moves.{begin_with, begin_later, split_in, or_false, not_among, ids-append}
+use Rattle.fuse_sim.proofs.Asking.{handed_on_in-append, handed_performances}
+use Rattle.fuse_sim.proofs.Moves.{begin_with, begin_later, split_in, or_false, not_among}
 use Rattle.fuse_sim.proofs.Endings.{not_in_both}
 
 -- ---- answers
@@ -60,7 +61,7 @@ none_of_fewer V u t (e ∷ es) within none = (
 -- ---- records
 
 -- what the first list handed on comes in the second no more
-handed_no_more : (V : OpcodeSet) (xs ys : List Event) (i : ℕ) → NoneReused V (settled_by V [] xs) ys → is_in (handed_in (performances V xs)) i ≡ true
+handed_no_more : (V : OpcodeSet) (xs ys : List Event) (i : ℕ) → NoneReused V (settled_by V [] xs) ys → is_in (handed_on_in (performances V xs)) i ≡ true
     → is_in (ids_in (commits_in V ys)) i ≡ false
 handed_no_more V xs ys i none there =
     let u = settled_by V [] xs in
@@ -72,12 +73,12 @@ left_in_a_row : (V : OpcodeSet) (xs ys : List Event) (r r' r'' : Records) → Re
 left_in_a_row V xs ys r r' r'' one two =
     let ids : ids_in (commits_in V (xs ++ ys)) ≡ ids_in (commits_in V xs) ++ ids_in (commits_in V ys) = ap ids_in (commits-append V xs ys)
     ∙ ids-append (commits_in V xs) (commits_in V ys) in
-    let handed = handed_in-append (performances V xs) (performances V ys) in
+    let handed = handed_on_in-append (performances V xs) (performances V ys) in
     record {
       gone = λ none i there.
           let u = settled_by V [] xs in
           let parts = reused-parts V [] xs ys none in
-          elim (in_either (handed_in (performances V xs)) (handed_in (performances V ys)) i (sym (ap (λ x. is_in x i) handed) ∙ there)) [
+          elim (in_either (handed_on_in (performances V xs)) (handed_on_in (performances V ys)) i (sym (ap (λ x. is_in x i) handed) ∙ there)) [
             | inl before ↦ two.others i (handed_no_more V xs ys i parts.1 before) ∙ one.gone parts.0 i before
             | inr later ↦ two.gone (none_of_fewer V u [] ys (includes_none u) parts.1) i later
           ];
@@ -108,10 +109,10 @@ records_in_a_row M told old mid new xs ys was one two = λ is rows records held 
 stands_unhanded : (M : Model) → {K : Type 0} (told : K → KeeperState M) (old mid : Option K) (xs : List Event) → StandsAfter told old mid xs
     → KeepsUnhanded told old mid (performances M.serves xs) xs → (told_in told mid).is_honest → (s : M.State) (h : History) (t : List ℕ)
     → StandsIn told old s h t → NoneReused M.serves t xs
-    → StandsIn told mid s (committed M.serves h xs) (t ++ handed_in (performances M.serves xs))
+    → StandsIn told mid s (committed M.serves h xs) (t ++ handed_on_in (performances M.serves xs))
 stands_unhanded M told old mid xs stands kept is s h t so none =
     let left = stands is s h t so none in
-    let handed = handed_in (performances M.serves xs) in
+    let handed = handed_on_in (performances M.serves xs) in
     record {
       rows = left.rows;
       records = left.records;
@@ -132,12 +133,12 @@ pub kept_in_a_row : (M : Model) → {K : Type 0} (told : K → KeeperState M) (o
     → KeepsUnhanded told old new (performances M.serves xs ++ performances M.serves ys) (xs ++ ys)
 kept_in_a_row M told old mid new xs ys was stands one two = λ is s h t so none rows records held i unsettled unhanded.
     let V = M.serves in
-    let handed = handed_in (performances V xs) in
+    let handed = handed_on_in (performances V xs) in
     let parts = reused-parts V t xs ys none in
     let within = subst (λ (x : List ℕ). Includes (settled_by V t xs) (t ++ x)) (sym (handed_performances V xs))
     (settled_all V t t empty_ledger xs (λ j there. there) (includes_none t)) in
-    let apart = or_false (is_in handed i) (is_in (handed_in (performances V ys)) i)
-    (sym (ap (λ x. is_in x i) (handed_in-append (performances V xs) (performances V ys)) ∙ is_in-append handed (handed_in (performances V ys)) i) ∙ unhanded) in
+    let apart = or_false (is_in handed i) (is_in (handed_on_in (performances V ys)) i)
+    (sym (ap (λ x. is_in x i) (handed_on_in-append (performances V xs) (performances V ys)) ∙ is_in-append handed (handed_on_in (performances V ys)) i) ∙ unhanded) in
     two is s (committed V h xs) (t ++ handed) (stands_unhanded M told old mid xs stands one (was is) s h t so parts.0)
     (none_of_fewer V (settled_by V t xs) (t ++ handed) ys within parts.1) rows records held i (not_in_both t handed i unsettled apart.0) apart.1
     ∙ ap (λ g. said M s g i) (sym (committed-append V h xs ys))

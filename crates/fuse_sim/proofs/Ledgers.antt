@@ -16,7 +16,7 @@ use Rattle.fuse_sim.specs.declared.event.Event.{Event}
 use Rattle.fuse_sim.specs.Driving.{commits, commits_by, commits_in, settles, is_taken, dies, Calm}
 use Rattle.fuse_sim.specs.HandedOn.{Ledger, empty_ledger, after_one, after_commit, crashed_if, after_event}
 use Rattle.fuse_sim.specs.inner.HandedBy.{handed_by, handed_at, ledger_after, handed_on}
-use Rattle.fuse_sim.specs.inner.Running.{IsRun, settles_in}
+use Rattle.fuse_sim.specs.inner.Running.{IsGroupRun, settles_in}
 
 -- an event commits nothing and settles nothing, or it commits one message
 one_by : (fate : Fate) (class : Class) (e : Entry) (i : ℕ) → ((commits_by fate (entry_if class e) ≡ []) × (settles_if (is_taken fate) class i ≡ []))
@@ -128,7 +128,7 @@ room_one V died e es (suc room) p x calm one few more =
     (ap (λ cs. handed_at cs l) one) (count_one V e x room one)
     (more room (p ++ settles V e) (fewer V e es x room one few)))
 
-run_room : (V : OpcodeSet) (died : Bool) (es : List Event) (room : ℕ) (p : List ℕ) → IsRun died es → length (commits_in V es) ≤ room
+run_room : (V : OpcodeSet) (died : Bool) (es : List Event) (room : ℕ) (p : List ℕ) → IsGroupRun died es → length (commits_in V es) ≤ room
     → RunLedger V died (record { room = room; pending = p }) es [] (p ++ settles_in V es) room
 run_room V died [] room p so few = run_end V died (record { room = room; pending = p }) [] (p ++ []) room so refl (append-nil p) (λ is. sym is)
 run_room V died (e ∷ es) room p so few = elim so [
@@ -176,7 +176,7 @@ begin_hands V e p = elim (commits_one V e) [
   | inr one ↦ ap (λ cs. handed_at cs (record { room = 0; pending = p })) one.1 ∙ ap (λ (cs : List Entry). handed_to (cs ++ []) p) (sym one.1)
 ]
 
-pub run_begins : (V : OpcodeSet) (died : Bool) (es : List Event) (p : List ℕ) → IsRun died es → length (commits_in V es) ≤ 16
+pub run_begins : (V : OpcodeSet) (died : Bool) (es : List Event) (p : List ℕ) → IsGroupRun died es → length (commits_in V es) ≤ 16
     → RunLedger V died (record { room = 0; pending = p }) es (handed_to (commits_in V es) p) (left_pending (commits_in V es) p ++ settles_in V es) 16
 run_begins V died [] p so few = run_end V died (record { room = 0; pending = p }) [] (p ++ []) 16 so refl (append-nil p) (λ isnt. absurd (omega (arith, isnt)))
 run_begins V died (e ∷ es) p so few = elim so [

@@ -1,16 +1,12 @@
 -- Lives, one after another, and how a run of a server is one.
-use Rattle.std.proofs.Common.{◌≡◌, ◌⊎◌, inl, inr, ℕ, Bool, true, false, ◌==◌, ◌||◌, if◌then◌else◌, List, [], ◌∷◌, ◌++◌, refl, sym, ap, subst, ◌∙◌, append_assoc}
-use Rattle.std.proofs.Common.{arith}
+use Rattle.std.proofs.Common.{◌≡◌, ◌⊎◌, inl, inr, ℕ, Bool, true, false, if◌then◌else◌, List, [], ◌∷◌, ◌++◌, refl, sym, ap, subst, ◌∙◌, append_assoc}
 use Rattle.std.proofs.lemmas.List.{map-append}
 use Rattle.std.proofs.lemmas.List.Concat.{flat_map-append}
 use Rattle.fuse_wire.specs.declared.moment.Moment.{Moment}
 use Rattle.fuse_request.specs.Opcodes.{OpcodeSet}
-use Rattle.fuse_request.specs.declared.class.Class.{Class}
-use Rattle.fuse_request.specs.declared.class.Class.TheVariants.{Silent, Bare, Kept}
-use Rattle.fuse_request.specs.Classes.{class_for}
 use Rattle.fuse_request.specs.Stream.{joined}
 use Rattle.fuse_keeper.specs.Model.{Model}
-use Rattle.fuse_keeper.specs.History.{Entry, entry_id, History, has, Distinct, add, said, grown, HistoriesGrow}
+use Rattle.fuse_keeper.specs.History.{Entry, entry_id, History, has, Distinct, add, grown, HistoriesGrow}
 use Rattle.fuse_keeper.specs.Stands.{Standing, StandsAt}
 use Rattle.fuse_session.specs.Batches.{TimedFirst}
 use Rattle.fuse_session.specs.Passage.{Passage}
@@ -18,39 +14,18 @@ use Rattle.fuse_session.specs.declared.ended.Ended.{Ended}
 use Rattle.fuse_session.specs.Exchange.{Lived, HoldsAt}
 use Rattle.fuse_session.specs.Serving.{Run, nothing_waits, exchange}
 use Rattle.fuse_session.specs.Settling.{replies, settled_in}
-use Rattle.fuse_session.specs.Processed.{Timed, bytes_of, kept_in, entries_at, entry_if, timed_entry, message_id, unique_of, answered, answers, answer_by, out}
-use Rattle.fuse_session.specs.Processed.{moment_if, moments_in}
+use Rattle.fuse_session.specs.Processed.{Timed, bytes_of, kept_in, entries_at, answered, answers_to, out}
+use Rattle.fuse_session.specs.Processed.{moments_in}
 use Rattle.fuse_sim.specs.Lives.{Lifetime, AreLives, after_lives, all_processed, AllSend, RanAsLife, IsLived}
-
-tested : (b : Bool) → (b ≡ true) ⊎ (b ≡ false)
-tested true = inl refl
-tested false = inr refl
+use Rattle.fuse_keeper.proofs.Histories.{tested, Distinct-append, grown-append}
+use Rattle.fuse_session.proofs.Outs.{grown_kept, answered_stays}
+use Rattle.fuse_session.proofs.Gathering.{moments-append}
 
 -- ---- no request stands twice
-
-has-append : (h : History) (e : Entry) (i : ℕ) → has (h ++ e ∷ []) i ≡ (has h i || (entry_id e == i))
-unfolding has
-has-append [] e i = elim (entry_id e == i) as (λ b. (if b then true else false) ≡ b) [ true ↦ refl | false ↦ refl ]
-has-append (x ∷ h) e i =
-    elim (entry_id x == i) as (λ b. (if b then true else has (h ++ e ∷ []) i) ≡ ((if b then true else has h i) || (entry_id e == i)))
-    [ true ↦ refl | false ↦ has-append h e i ]
 
 other : (b c : Bool) → (if b then true else c) ≡ false → (b ≡ false) × (c ≡ false)
 other true c isnt = absurd (cc isnt)
 other false c isnt = (refl, isnt)
-
-turned : (m n : ℕ) → (m == n) ≡ false → (n == m) ≡ false
-turned m n isnt = grind arith
-
-not_there : (a b : Bool) → a ≡ false → b ≡ false → (a || b) ≡ false
-not_there a b p q = rw (p, q)
-
-Distinct-append : (h : History) (e : Entry) → Distinct h → has h (entry_id e) ≡ false → Distinct (h ++ e ∷ [])
-unfolding Distinct has
-Distinct-append [] e each none = (refl, tt)
-Distinct-append (x ∷ h) e each none =
-    let apart = other (entry_id x == entry_id e) (has h (entry_id e)) none in
-    (has-append h e (entry_id x) ∙ not_there _ _ each.0 (turned _ _ apart.0), Distinct-append h e each.1 apart.1)
 
 Distinct-add : (h : History) (e : Entry) → Distinct h → Distinct (add h e)
 unfolding add
@@ -69,18 +44,6 @@ Distinct-none = tt
 
 -- ---- the last history
 
-grown-append : (h : History) (xs ys : List Entry) → grown h (xs ++ ys) ≡ grown (grown h xs) ys
-grown-append h [] ys = refl
-grown-append h (x ∷ xs) ys = grown-append (add h x) xs ys
-
-kept_in-append : (V : OpcodeSet) (xs ys : List Timed) → kept_in V (xs ++ ys) ≡ kept_in V xs ++ kept_in V ys
-kept_in-append V [] ys = refl
-kept_in-append V (x ∷ xs) ys = ap (λ r. entries_at V x ++ r) (kept_in-append V xs ys)
-    ∙ sym (append_assoc (entries_at V x) (kept_in V xs) (kept_in V ys))
-
-grown_kept : (V : OpcodeSet) (h : History) (xs ys : List Timed) → grown h (kept_in V (xs ++ ys)) ≡ grown (grown h (kept_in V xs)) (kept_in V ys)
-grown_kept V h xs ys = ap (grown h) (kept_in-append V xs ys) ∙ grown-append h (kept_in V xs) (kept_in V ys)
-
 later : (V : OpcodeSet) (h : History) (ls : List Lifetime) → after_lives V h ls ≡ grown h (kept_in V (all_processed ls))
 later V h [] = refl
 later V h (l ∷ ls) = later V (grown h (kept_in V l.worked)) ls ∙ sym (grown_kept V h l.worked (all_processed ls))
@@ -93,26 +56,9 @@ once_each V ls = subst Distinct (sym (in_a_row V ls)) (Distinct-grown [] (kept_i
 
 -- ---- later requests change no answer
 
-kept_there : (M : Model) → HistoriesGrow M → (h : History) (t : Timed) (class : Class) → class ≡ Kept
-    → has (grown h (entry_if class (timed_entry t))) (message_id t.bytes) ≡ true
-kept_there M grows h t Silent kept = absurd (cc kept)
-kept_there M grows h t (Bare errno) kept = absurd (cc kept)
-kept_there M grows h t Kept kept = grows.added h (timed_entry t)
-
-answer_stays : (M : Model) → HistoriesGrow M → (s : M.State) (g : History) (es : List Entry) (id unique : ℕ) (class : Class) → (class ≡ Kept → has g id ≡ true)
-    → answer_by class (said M s (grown g es) id) unique ≡ answer_by class (said M s g id) unique
-answer_stays M grows s g es id unique Silent there = refl
-answer_stays M grows s g es id unique (Bare errno) there = refl
-answer_stays M grows s g es id unique Kept there = ap (λ o. answer_by Kept o unique) (grows.stays s g es id (there refl))
-
-answered_stays : (M : Model) → HistoriesGrow M → (s : M.State) (h : History) (t : Timed) (es : List Entry)
-    → answered M s (grown (grown h (entries_at M.serves t)) es) t ≡ answered M s (grown h (entries_at M.serves t)) t
-answered_stays M grows s h t es = answer_stays M grows s (grown h (entries_at M.serves t)) es (message_id t.bytes) (unique_of t.bytes) (class_for M.serves t.bytes)
-    (kept_there M grows h t (class_for M.serves t.bytes))
-
 -- what is answered where two histories agree on what follows each message
 answers_stay : (M : Model) → HistoriesGrow M → (s : M.State) (h : History) (ts : List Timed) (es ds : List Entry)
-    → answers M s (grown (grown h (kept_in M.serves ts)) es) ts ≡ answers M s (grown (grown h (kept_in M.serves ts)) ds) ts
+    → answers_to M s (grown (grown h (kept_in M.serves ts)) es) ts ≡ answers_to M s (grown (grown h (kept_in M.serves ts)) ds) ts
 answers_stay M grows s h [] es ds = refl
 answers_stay M grows s h (t ∷ ts) es ds =
     let g = grown h (entries_at M.serves t) in
@@ -120,10 +66,10 @@ answers_stay M grows s h (t ∷ ts) es ds =
     λ xs. ap (λ x. grown x xs) (grown-append h (entries_at M.serves t) (kept_in M.serves ts)) in
     let first : (xs : List Entry) → answered M s (grown (grown g (kept_in M.serves ts)) xs) t ≡ answered M s g t =
     λ xs. ap (λ x. answered M s x t) (sym (grown-append g (kept_in M.serves ts) xs)) ∙ answered_stays M grows s h t (kept_in M.serves ts ++ xs) in
-    ap (λ x. answered M s x t ∷ answers M s x ts) (place es)
-    ∙ ap (λ r. r ∷ answers M s (grown (grown g (kept_in M.serves ts)) es) ts) (first es ∙ sym (first ds))
+    ap (λ x. answered M s x t ∷ answers_to M s x ts) (place es)
+    ∙ ap (λ r. r ∷ answers_to M s (grown (grown g (kept_in M.serves ts)) es) ts) (first es ∙ sym (first ds))
     ∙ ap (λ r. answered M s (grown (grown g (kept_in M.serves ts)) ds) t ∷ r) (answers_stay M grows s g ts es ds)
-    ∙ ap (λ x. answered M s x t ∷ answers M s x ts) (sym (place ds))
+    ∙ ap (λ x. answered M s x t ∷ answers_to M s x ts) (sym (place ds))
 
 sends_by : (M : Model) → HistoriesGrow M → (s : M.State) (h : History) (ls : List Lifetime) → AreLives M s h ls → AllSend M s (after_lives M.serves h ls) ls
 sends_by M grows s h [] lives = tt
@@ -133,19 +79,13 @@ sends_by M grows s h (l ∷ ls) lives =
     let end : grown (after_lives M.serves g ls) (kept_in M.serves l.worked) ≡ grown g more =
     ap (λ x. grown x (kept_in M.serves l.worked)) (later M.serves g ls) ∙ sym (grown-append g (kept_in M.serves (all_processed ls)) (kept_in M.serves l.worked)) in
     let same : out M s (after_lives M.serves g ls) l.worked ≡ out M s h l.worked =
-    ap (λ x. joined (answers M s x l.worked)) end ∙ ap joined (answers_stay M grows s h l.worked more []) in
+    ap (λ x. joined (answers_to M s x l.worked)) end ∙ ap joined (answers_stay M grows s h l.worked more []) in
     ((lives.0.unsent, same ∙ lives.0.sends), sends_by M grows s g ls lives.1)
 
 pub all_send : (M : Model) → HistoriesGrow M → (s : M.State) (ls : List Lifetime) → AreLives M s [] ls → AllSend M s (after_lives M.serves [] ls) ls
 all_send M grows s ls lives = sends_by M grows s [] ls lives
 
 -- ---- a run of a server is a life
-
-moments-append : (V : OpcodeSet) (xs ys : List Timed) → moments_in V (xs ++ ys) ≡ moments_in V xs ++ moments_in V ys
-moments-append V [] ys = refl
-moments-append V (x ∷ xs) ys =
-    ap (λ (r : List Moment). moment_if (class_for V x.bytes) x.moment ++ r) (moments-append V xs ys)
-    ∙ sym (append_assoc (moment_if (class_for V x.bytes) x.moment) (moments_in V xs) (moments_in V ys))
 
 timed_prefix : (V : OpcodeSet) (given : List Moment) (xs ys : List Timed) → TimedFirst V given (xs ++ ys) → TimedFirst V given xs
 timed_prefix V given xs ys timed = (

@@ -10,9 +10,9 @@ use Rattle.fuse_request.specs.Act.{Asked, opcode_of}
 use Rattle.fuse_request.specs.Canon.{canon, len_of}
 use Rattle.fuse_request.specs.Places.{asked_at, SpelledAt}
 use Rattle.fuse_request.specs.Spelling.{header_parts, parts, Spells}
-use Rattle.fuse_sim.specs.Pending.{again, is_silent, request_id}
+use Rattle.fuse_sim.specs.Pending.{sent_again, is_silent, request_id}
 use Rattle.fuse_sim.specs.KeptMessages.{IsOwed}
-use Rattle.fuse_sim.specs.inner.Marking.{marked}
+use Rattle.fuse_sim.specs.inner.Marking.{marked_as_resend}
 
 length-le : (w n : ℕ) → length (le w n) ≡ w
 unfolding le
@@ -46,7 +46,7 @@ long a b r m n =
       length-append (le 8 n) r,
     )
 
-marked_at : (a b r : List ℕ) (unique : ℕ) → length a ≡ 4 → length b ≡ 4 → unique < 256 ^ 8 → marked (a ++ (b ++ (le 8 unique ++ r))) ≡ a
+marked_at : (a b r : List ℕ) (unique : ℕ) → length a ≡ 4 → length b ≡ 4 → unique < 256 ^ 8 → marked_as_resend (a ++ (b ++ (le 8 unique ++ r))) ≡ a
     ++ (b ++ (le 8 (bit_set unique) ++ r))
 marked_at a b r unique la lb fits =
     let c : List ℕ = le 8 unique in
@@ -69,13 +69,13 @@ set_twice : (unique : ℕ) → bit_set (bit_set unique) ≡ bit_set unique
 set_twice unique = let id : ℕ = id_of unique in
     ap (λ (n : ℕ). n + 0x8000_0000_0000_0000) (let small : id < 0x8000_0000_0000_0000 = mod-lt unique (lit< tt) in id_set id small)
 
-pub same_id : (r : Asked) → request_id (again r) ≡ request_id r
+pub same_id : (r : Asked) → request_id (sent_again r) ≡ request_id r
 same_id r = let small : id_of r.header.unique < 0x8000_0000_0000_0000 = mod-lt r.header.unique (lit< tt) in id_set (id_of r.header.unique) small
 
-pub again_twice : (r : Asked) → again (again r) ≡ again r
+pub again_twice : (r : Asked) → sent_again (sent_again r) ≡ sent_again r
 again_twice r = ap (λ (n : ℕ). record r { header = record r.header { unique = n } }) (set_twice r.header.unique)
 
-marked_canon : (v : Asked) → v.header.unique < 256 ^ 8 → marked (canon v) ≡ canon (again v)
+marked_canon : (v : Asked) → v.header.unique < 256 ^ 8 → marked_as_resend (canon v) ≡ canon (sent_again v)
 marked_canon v fits =
     let more : List ℕ = form (parts v.act) ++ v.ext in
     let a : List ℕ = le 4 (len_of v) in
@@ -84,11 +84,11 @@ marked_canon v fits =
     let grouped : (u : ℕ) → (a ++ (b ++ (le 8 u ++ tail))) ++ more ≡ a ++ (b ++ (le 8 u ++ (tail ++ more))) =
     λ u. append_assoc a (b ++ (le 8 u ++ tail)) more ∙ ap (λ (x : List ℕ). a ++ x) (append_assoc b (le 8 u ++ tail) more)
     ∙ ap (λ (x : List ℕ). a ++ (b ++ x)) (append_assoc (le 8 u) tail more) in
-    ap marked (grouped v.header.unique)
+    ap marked_as_resend (grouped v.header.unique)
     ∙ marked_at a b (tail ++ more) v.header.unique (length-le 4 (len_of v)) (length-le 4 (opcode_of v.act)) fits
     ∙ sym (grouped (bit_set v.header.unique))
 
-marked_spells : (v : Asked) (m : List ℕ) → Spells v m → Spells (again v) (marked m)
+marked_spells : (v : Asked) (m : List ℕ) → Spells v m → Spells (sent_again v) (marked_as_resend m)
 marked_spells v m s =
     let tail : List ℕ = s.body ++ v.ext in
     let h = s.header in let h1 = h.3 in let h2 = h1.3 in
@@ -100,10 +100,10 @@ marked_spells v m s =
     λ u. append_assoc a (b ++ (le 8 u ++ h2.0)) tail ∙ ap (λ (x : List ℕ). a ++ x) (append_assoc b (le 8 u ++ h2.0) tail)
     ∙ ap (λ (x : List ℕ). a ++ (b ++ x)) (append_assoc (le 8 u) h2.0 tail) in
     let m_is : m ≡ a ++ (b ++ (le 8 v.header.unique ++ (h2.0 ++ tail))) = s.whole ∙ ap (λ (x : List ℕ). x ++ tail) head_is ∙ grouped v.header.unique in
-    let n_is : marked m ≡ a ++ (b ++ (le 8 (bit_set v.header.unique) ++ (h2.0 ++ tail))) =
-    ap marked m_is ∙ marked_at a b (h2.0 ++ tail) v.header.unique (length-le 4 (length m)) (length-le 4 (opcode_of v.act)) h2.1 in
-    let same : length (marked m) ≡ length m = ap length n_is ∙ long a b (h2.0 ++ tail) (bit_set v.header.unique) v.header.unique ∙ sym (ap length m_is) in
-    let laid : Lays (header_parts (length m) s.units (again v)) (head (bit_set v.header.unique)) = (
+    let n_is : marked_as_resend m ≡ a ++ (b ++ (le 8 (bit_set v.header.unique) ++ (h2.0 ++ tail))) =
+    ap marked_as_resend m_is ∙ marked_at a b (h2.0 ++ tail) v.header.unique (length-le 4 (length m)) (length-le 4 (opcode_of v.act)) h2.1 in
+    let same : length (marked_as_resend m) ≡ length m = ap length n_is ∙ long a b (h2.0 ++ tail) (bit_set v.header.unique) v.header.unique ∙ sym (ap length m_is) in
+    let laid : Lays (header_parts (length m) s.units (sent_again v)) (head (bit_set v.header.unique)) = (
       b ++ (le 8 (bit_set v.header.unique) ++ h2.0),
       h.1,
       refl,
@@ -115,19 +115,19 @@ marked_spells v m s =
       units = s.units;
       whole = n_is ∙ sym (grouped (bit_set v.header.unique));
       ext = s.ext;
-      header = subst (λ (n : ℕ). Lays (header_parts n s.units (again v)) (head (bit_set v.header.unique))) (sym same) laid;
+      header = subst (λ (n : ℕ). Lays (header_parts n s.units (sent_again v)) (head (bit_set v.header.unique))) (sym same) laid;
       parted = s.parted;
       named = s.named;
     }
 
-pub marked_owed : SpelledAt → (m : List ℕ) → IsOwed m → IsOwed (marked m) × (asked_at (marked m) ≡ again (asked_at m))
+pub marked_owed : SpelledAt → (m : List ℕ) → IsOwed m → IsOwed (marked_as_resend m) × (asked_at (marked_as_resend m) ≡ sent_again (asked_at m))
 marked_owed spelled m owed =
     let v : Asked = asked_at m in
     let s = marked_spells v m owed.spells in
-    let says : asked_at (marked m) ≡ again v = (spelled (again v) (marked m) s).says in
-    let is : marked m ≡ canon (again v) = ap marked owed.canon_is ∙ marked_canon v owed.spells.header.3.3.1 in (
+    let says : asked_at (marked_as_resend m) ≡ sent_again v = (spelled (sent_again v) (marked_as_resend m) s).says in
+    let is : marked_as_resend m ≡ canon (sent_again v) = ap marked_as_resend owed.canon_is ∙ marked_canon v owed.spells.header.3.3.1 in (
       record {
-        spells = subst (λ (r : Asked). Spells r (marked m)) (sym says) s;
+        spells = subst (λ (r : Asked). Spells r (marked_as_resend m)) (sym says) s;
         canon_is = is ∙ ap canon (sym says);
         loud = subst (λ (r : Asked). is_silent r ≡ false) (sym says) owed.loud;
       },

@@ -24,10 +24,12 @@ use Rattle.fuse_sim.specs.Driving.{commits, commits_by, commits_in, committed, o
 use Rattle.fuse_sim.specs.Driving.{NoneReused, IsFit, dies, OutcomesBegin}
 use Rattle.fuse_sim.specs.HandedOn.{Ledger, empty_ledger, after_commit, crashed_if}
 use Rattle.fuse_sim.specs.inner.HandedBy.{handed_at, handed_on, ledger_after}
-use Rattle.fuse_sim.specs.inner.Running.{dies_before, IsRun, StartsNone, StopsAt, Begins, Gathers, NoneDiesBefore, settles_in, RecordsRan}
-use Rattle.fuse_sim.specs.inner.Running.{Ran, MayBegin, Moved, Worked, stage}
-use Rattle.fuse_sim.proofs.Gathered.{commits-append, only_one}
-use Rattle.fuse_sim.proofs.Settled.{is_in-append, tested, includes_both, in_either, stands_kept}
+use Rattle.fuse_sim.specs.inner.Running.{dies_before, IsGroupRun, StartsNone, StopsAt, BeginsGroup, GathersEvents, NoneDiesBefore, settles_in, RecordsRan}
+use Rattle.fuse_sim.specs.inner.Running.{RanEvents, MayBegin, Moved, Worked, stage}
+use Rattle.fuse_sim.proofs.Gathered.{commits-append}
+use Rattle.fuse_session.proofs.Settled.{only_one}
+use Rattle.fuse_keeper.proofs.Settled.{is_in-append, includes_both, in_either, ids-append, stands_kept}
+use Rattle.fuse_keeper.proofs.Histories.{tested}
 use Rattle.fuse_sim.proofs.Ledgers.{RunLedger, run_begins, few_pending}
 use Rattle.fuse_sim.proofs.Driven.{committed-append, outcomes-append, all_unsettled_too, none_reused, reused-parts, pending_settled, handed_settled}
 use Rattle.fuse_sim.proofs.Driven.{settled_all, handed-append}
@@ -47,9 +49,6 @@ or_false false b is = (refl, is)
 none_if : {A : Type 0} (b : Bool) (o : Option A) → o ≡ None → (if b then None else o) ≡ None
 none_if true o is = refl
 none_if false o is = is
-
-pub ids-append : (xs ys : List Entry) → ids_in (xs ++ ys) ≡ ids_in xs ++ ids_in ys
-ids-append xs ys = map-append entry_id xs ys
 
 -- an id that is settled isn't among those that come
 not_same : (t : List ℕ) (x i : ℕ) → is_in t x ≡ false → is_in t i ≡ true → (x == i) ≡ true → ⊥
@@ -152,7 +151,7 @@ split_in (x ∷ xs) ys (y ∷ earlier) later is =
     (split_one x xs ys earlier later (split_in xs ys earlier later rest))
 
 outcomes_more : (M : Model) → HistoriesGrow M → (holds mid holds' : KeeperState M) (l : Ledger) (es es' : List Event) (old new new' : List (Option Outcome))
-    → (holds'.is_honest → mid.is_honest) → (one : Ran holds mid l es old new) → (two : Ran mid holds' (ledger_after M.serves l es) es' new new')
+    → (holds'.is_honest → mid.is_honest) → (one : RanEvents holds mid l es old new) → (two : RanEvents mid holds' (ledger_after M.serves l es) es' new new')
     → holds'.is_honest → (earlier later : List Event) → es ++ es' ≡ earlier ++ later → (s : M.State) (h : History) (t u : List ℕ) → StandsFor holds s h t
     → Includes u t → Includes u l.pending → NoneReused M.serves u earlier → OutcomesBegin M s h earlier (map bytes_given (one.added ++ two.added))
 outcomes_more M grows holds mid holds' l es es' old new new' was one two is earlier later parts s h t u so within pending none =
@@ -173,7 +172,7 @@ outcomes_more M grows holds mid holds' l es es' old new new' was one two is earl
 
 pub ran_more : (M : Model) → HistoriesGrow M → (holds mid holds' : KeeperState M) (l : Ledger) (es es' : List Event) (old new new' : List (Option Outcome))
     → (holds'.is_honest → mid.is_honest)
-    → Ran holds mid l es old new → Ran mid holds' (ledger_after M.serves l es) es' new new' → Ran holds holds' l (es ++ es') old new'
+    → RanEvents holds mid l es old new → RanEvents mid holds' (ledger_after M.serves l es) es' new new' → RanEvents holds holds' l (es ++ es') old new'
 ran_more M grows holds mid holds' l es es' old new new' was one two = record {
   added = one.added ++ two.added;
   items = two.items ∙ ap (λ x. x ++ two.added) one.items ∙ append_assoc old one.added two.added;
@@ -206,7 +205,7 @@ none_begin : (M : Model) (s : M.State) (h : History) (earlier later : List Event
 none_begin M s h [] later is = ([], refl)
 none_begin M s h (e ∷ earlier) later is = absurd (cc is)
 
-pub ran_none : (M : Model) (holds : KeeperState M) (l : Ledger) (old new : List (Option Outcome)) → new ≡ old → Ran holds holds l [] old new
+pub ran_none : (M : Model) (holds : KeeperState M) (l : Ledger) (old new : List (Option Outcome)) → new ≡ old → RanEvents holds holds l [] old new
 ran_none M holds l old new is = record {
   added = [];
   items = is ∙ sym (append-nil old);
@@ -245,7 +244,7 @@ calm_goes DiedAfterCommit is = refl
 goes : Event → Type 0
 goes e = dies_before e.fate ≡ false
 
-pub none_dies : (died : Bool) (run : List Event) → IsRun died run → NoneDiesBefore run
+pub none_dies : (died : Bool) (run : List Event) → IsGroupRun died run → NoneDiesBefore run
 unfolding goes
 none_dies died [] so = All-nil goes
 none_dies died (e ∷ run) so = elim so [
@@ -257,7 +256,7 @@ pub group_ran : (M : Model) (holds mid holds' : KeeperState M) (died : Bool) (ru
     → RunLedger M.serves died (record { room = 0; pending = p }) run (handed_to (commits_in M.serves run) p) (left_pending (commits_in M.serves run) p ++ settles_in M.serves run) 16
     → Worked (stage holds p old) (stage mid p' new) run → (holds'.is_honest → KeepsHeld mid holds') → (holds'.is_honest → mid.is_honest)
     → (holds'.is_honest → IsFirm mid → IsFirm holds')
-    → Ran holds holds' (record { room = 0; pending = p }) run old new
+    → RanEvents holds holds' (record { room = 0; pending = p }) run old new
 group_ran M holds mid holds' died run p p' old new ledger worked keeps was firm =
     let l : Ledger = record { room = 0; pending = p } in
     let cs = commits_in M.serves run in
@@ -307,7 +306,7 @@ lost_begins M s h e (x ∷ y ∷ earlier) later lost is = absurd (cc is)
 
 pub lost_ran : (M : Model) (holds holds' : KeeperState M) (l : Ledger) (e : Event) (old new : List (Option Outcome)) → e.fate ≡ DiedBeforeCommit
     → new ≡ old ++ None ∷ [] → (holds'.is_honest → KeepsHeld holds holds') → (holds'.is_honest → IsFirm holds → IsFirm holds')
-    → Ran holds holds' l (e ∷ []) old new
+    → RanEvents holds holds' l (e ∷ []) old new
 lost_ran M holds holds' l e old new lost pushed keeps firm =
     let none : commits_in M.serves (e ∷ []) ≡ [] = ap (λ (cs : List Entry). cs ++ []) (commits_lost M.serves e lost) in
     let unhanded : handed_on M.serves l (e ∷ []) ≡ [] = ap (λ cs. handed_at cs l ++ []) (commits_lost M.serves e lost) in
@@ -355,7 +354,7 @@ pub few_taken : (V : OpcodeSet) (run : List Event) (taken : List (Request × Mom
 few_taken V run taken n entries few = omega (arith, few, ap length entries, length-map taken entry_of)
 
 pub group_moved : (M : Model) (holds mid holds' : KeeperState M) (group : Group) (run slice others : List Event) (p p_mid p' : List ℕ)
-    (old new : List (Option Outcome)) → Gathers M run group → slice ≡ run → StopsAt group others
+    (old new : List (Option Outcome)) → GathersEvents M run group → slice ≡ run → StopsAt group others
     → Worked (stage holds p old) (stage mid p_mid new) slice → (holds'.is_honest → KeepsHeld mid holds') → (holds'.is_honest → mid.is_honest)
     → (holds'.is_honest → IsFirm mid → IsFirm holds')
     → p' ≡ (if group.died then [] else p_mid)
@@ -393,22 +392,22 @@ few_left V died run old pending pending' n left handed few many = few_if died pe
 
 -- ---- what comes next
 
-begins_not : (es : List Event) → Begins es → StartsNone es → ⊥
+begins_not : (es : List Event) → BeginsGroup es → StartsNone es → ⊥
 begins_not [] begins none = absurd begins
 begins_not (e ∷ es) begins none = elim none [
   | inl lost ↦ absurd (let goes_on = begins.1 in cc (lost, goes_on))
   | inr unfit ↦ unfit begins.0
 ]
 
-pub no_room : (room : ℕ) (others : List Event) → MayBegin room others → Begins others → 0 ≡ room
+pub no_room : (room : ℕ) (others : List Event) → MayBegin room others → BeginsGroup others → 0 ≡ room
 no_room room others may begins = elim may [ inl none ↦ sym none | inr ends ↦ absurd (begins_not others begins ends) ]
 
 pub begins_at : (events : List Event) (at : ℕ) (e : Event) → at < length events → e ≡ get_or events at e → IsFit e → dies_before e.fate ≡ false
-    → Begins (drop at events)
-begins_at events at e lt is fit goes_on = subst Begins (sym (drop-cons events at e lt))
+    → BeginsGroup (drop at events)
+begins_at events at e lt is fit goes_on = subst BeginsGroup (sym (drop-cons events at e lt))
     (subst (λ (x : Event). IsFit x × (dies_before x.fate ≡ false)) is (fit, goes_on))
 
-pub next_moved : (M : Model) (holds holds' : KeeperState M) (p p' : List ℕ) (run others rest : List Event) (old new : List (Option Outcome)) → Begins others
+pub next_moved : (M : Model) (holds holds' : KeeperState M) (p p' : List ℕ) (run others rest : List Event) (old new : List (Option Outcome)) → BeginsGroup others
     → Moved (stage holds p old) (stage holds' p' new) 0 run rest → (room : ℕ) → MayBegin room others
     → Moved (stage holds p old) (stage holds' p' new) room run rest
 next_moved M holds holds' p p' run others rest old new begins moved room may =

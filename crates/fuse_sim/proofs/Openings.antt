@@ -17,8 +17,8 @@ use Rattle.fuse_sim.specs.declared.group.Group.{Group}
 use Rattle.fuse_sim.specs.Driving.{commits_by, commits_in, committed, dies, deaths, settles, settled_by, NoneReused, told_in, StandsIn, became_in, OpenedAt, EventIn, up_to}
 use Rattle.fuse_sim.specs.Driving.{Opened, KeepsMedium, StoodAt, StoodBefore}
 use Rattle.fuse_sim.specs.AfterEvents.{StandsAfter}
-use Rattle.fuse_sim.specs.inner.Running.{dies_before, IsRun, DiesLast, Gathers, Worked, Opens, stage}
-use Rattle.fuse_sim.proofs.Settled.{includes_left, includes_both, stands_later}
+use Rattle.fuse_sim.specs.inner.Running.{dies_before, IsGroupRun, DiesLast, GathersEvents, Worked, Opens, stage}
+use Rattle.fuse_keeper.proofs.Settled.{includes_left, includes_both, stands_later}
 use Rattle.fuse_sim.proofs.Driven.{committed-append, settled-append, settled_still, reused-parts, all_unsettled_too, none_reused}
 use Rattle.fuse_sim.proofs.Gathered.{commits-append}
 use Rattle.fuse_sim.proofs.Moves.{handed_within, is_lost, few_taken, split_in}
@@ -284,7 +284,7 @@ opened_still M told became law old mid new es same was one = record {
 dies_later : (fate : Fate) → fate ≡ DiedAfterCommit → dies fate ≡ true
 dies_later fate is = ap dies is
 
-run_last : (died : Bool) (run : List Event) → IsRun died run → DiesLast died run
+run_last : (died : Bool) (run : List Event) → IsGroupRun died run → DiesLast died run
 run_last died [] is = is
 run_last died (e ∷ run) is = elim is [
   | inl more ↦ inl (more.0, run_last died run more.1)
@@ -292,7 +292,7 @@ run_last died (e ∷ run) is = elim is [
 ]
 
 pub group_opens : (M : Model) → {K : Type 0} (told : K → KeeperState M) (became : K → K → ℕ → Type 0) (old mid new : Option K)
-    (group : Group) (run slice : List Event) (p p' : List ℕ) (outs outs' : List (Option Outcome)) → Gathers M run group → slice ≡ run → Worked (stage (told_in told old) p outs) (stage (told_in told mid) p' outs') slice → became_in became old mid 0
+    (group : Group) (run slice : List Event) (p p' : List ℕ) (outs outs' : List (Option Outcome)) → GathersEvents M run group → slice ≡ run → Worked (stage (told_in told old) p outs) (stage (told_in told mid) p' outs') slice → became_in became old mid 0
     → became_in became mid new (if group.died then 1 else 0)
     → ((told_in told new).is_honest → KeepsHeld (told_in told mid) (told_in told new))
     → ((told_in told new).is_honest → (told_in told mid).is_honest) → ((told_in told mid).is_honest → (told_in told old).is_honest)

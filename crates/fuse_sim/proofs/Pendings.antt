@@ -1,5 +1,5 @@
 -- The requests that are pending: sent, sent again, and taken.
-use Rattle.std.proofs.Common.{◌≡◌, ◌≢◌, ◌⊎◌, inl, inr, ℕ, zero, suc, ◌+◌, ◌<◌, ◌≤◌, ◌==◌, Bool, true, false, not, if◌then◌else◌, List, [], ◌∷◌, ◌++◌, length}
+use Rattle.std.proofs.Common.{◌≡◌, ◌≢◌, inl, inr, ℕ, zero, suc, ◌+◌, ◌<◌, ◌≤◌, ◌==◌, Bool, true, false, not, if◌then◌else◌, List, [], ◌∷◌, ◌++◌, length}
 use Rattle.std.proofs.Common.{take, drop, map, get_or, set, All, Vec, slice_get, zero-add, Option, Some, None, refl, sym, ap, subst, ◌∙◌, append_assoc, arith}
 use Rattle.std.specs.Global.{Global}
 use Rattle.std.specs.List.{AllByRecursion, remove}
@@ -18,15 +18,12 @@ use Rattle.fuse_request.specs.Canon.{canon}
 use Rattle.fuse_request.specs.Places.{asked_at, SpelledAt}
 use Rattle.fuse_request.specs.Spelling.{Spells}
 use Rattle.fuse_keeper.specs.History.{is_in}
-use Rattle.fuse_sim.specs.Pending.{MayBeSent, is_silent, request_id, request_ids, owed, again, again_from, all_again, has_unique, owner, others, messages_in}
+use Rattle.fuse_sim.specs.Pending.{MayBeSent, is_silent, request_id, request_ids, owed, sent_again, again_from, all_again, has_unique, owner, others, messages_in}
 use Rattle.fuse_sim.specs.Pending.{requests_in}
 use Rattle.fuse_sim.specs.KeptMessages.{IsOwed, NoneTwice, ArePending}
 use Rattle.fuse_sim.specs.inner.Marking.{StandsFirst}
 use Rattle.fuse_sim.proofs.Marks.{again_twice, same_id as same_request}
-
-tested : (b : Bool) → (b ≡ true) ⊎ (b ≡ false)
-tested true = inl refl
-tested false = inr refl
+use Rattle.fuse_keeper.proofs.Histories.{tested}
 
 same_id : (n : ℕ) → (n == n) ≡ true
 same_id n = grind arith
@@ -119,27 +116,27 @@ apart m n less = grind arith
 again_past : (n m : ℕ) (places : List ℕ) (rs : List Asked) → m < n → again_from n (places ++ m ∷ []) rs ≡ again_from n places rs
 again_past n m places [] less = refl
 again_past n m places (r ∷ rs) less =
-    rw (is_in-other places m n (apart m n less)) (ap (λ (x : List Asked). (if is_in places n then again r else r) ∷ x)
+    rw (is_in-other places m n (apart m n less)) (ap (λ (x : List Asked). (if is_in places n then sent_again r else r) ∷ x)
     (again_past (suc n) m places rs (omega arith)))
 
-again_by : (b : Bool) (r : Asked) → again (if b then again r else r) ≡ again r
+again_by : (b : Bool) (r : Asked) → sent_again (if b then sent_again r else r) ≡ sent_again r
 again_by true r = again_twice r
 again_by false r = refl
 
 -- one place more
 again_step : (n k : ℕ) (places : List ℕ) (rs : List Asked) (d : Asked) → k < length rs
-    → set (again_from n places rs) k (again (get_or (again_from n places rs) k d)) ≡ again_from n (places ++ (n + k) ∷ []) rs
+    → set (again_from n places rs) k (sent_again (get_or (again_from n places rs) k d)) ≡ again_from n (places ++ (n + k) ∷ []) rs
 again_step n k places [] d less = absurd (omega arith)
 again_step n zero places (r ∷ rs) d less =
     let here : n + 0 ≡ n = omega arith in
     rw (here, is_in-here places n) (
     ap (λ (x : Asked). x ∷ again_from (suc n) places rs) (again_by (is_in places n) r)
-    ∙ ap (λ (x : List Asked). again r ∷ x) (sym (again_past (suc n) n places rs (omega arith)))
+    ∙ ap (λ (x : List Asked). sent_again r ∷ x) (sym (again_past (suc n) n places rs (omega arith)))
     )
 again_step n (suc k) places (r ∷ rs) d less =
     let next : n + suc k ≡ suc n + k = omega arith in
     let other : is_in (places ++ (suc n + k) ∷ []) n ≡ is_in places n = is_in-other places (suc n + k) n (grind arith) in
-    rw (next, other) (ap (λ (x : List Asked). (if is_in places n then again r else r) ∷ x) (again_step (suc n) k places rs d (omega arith)))
+    rw (next, other) (ap (λ (x : List Asked). (if is_in places n then sent_again r else r) ∷ x) (again_step (suc n) k places rs d (omega arith)))
 
 again_none : (n : ℕ) (rs : List Asked) → again_from n [] rs ≡ rs
 again_none n [] = refl
@@ -149,7 +146,7 @@ length-again : (n : ℕ) (places : List ℕ) (rs : List Asked) → length (again
 length-again n places [] = refl
 length-again n places (r ∷ rs) = omega (arith, length-again (suc n) places rs)
 
-id_again : (b : Bool) (r : Asked) → request_id (if b then again r else r) ≡ request_id r
+id_again : (b : Bool) (r : Asked) → request_id (if b then sent_again r else r) ≡ request_id r
 id_again true r = same_request r
 id_again false r = refl
 
@@ -185,12 +182,12 @@ found_at pending i d there =
 -- one message more was marked
 pub marked_more : (old pending : List (Vec ℕ Global)) (places : List ℕ) (i : ℕ) (d m : Vec ℕ Global) → i < length pending
     → requests_in pending ≡ all_again places (requests_in old)
-    → asked_at m.items ≡ again (asked_at (get_or pending i d).items) → requests_in (set pending i m) ≡ all_again (places ++ i ∷ []) (requests_in old)
+    → asked_at m.items ≡ sent_again (asked_at (get_or pending i d).items) → requests_in (set pending i m) ≡ all_again (places ++ i ∷ []) (requests_in old)
 marked_more old pending places i d m there so is =
     let rs : List Asked = requests_in old in
     let long : i < length rs = omega (arith, length-requests pending, length-again 0 places rs, ap length so) in
-    let here : asked_at m.items ≡ again (get_or (all_again places rs) i (asked_at [])) =
-    is ∙ ap again (sym (request_at pending i d there)) ∙ ap (λ (x : List Asked). again (get_or x i (asked_at []))) so in
+    let here : asked_at m.items ≡ sent_again (get_or (all_again places rs) i (asked_at [])) =
+    is ∙ ap sent_again (sym (request_at pending i d there)) ∙ ap (λ (x : List Asked). sent_again (get_or x i (asked_at []))) so in
     ap (map asked_at) (map-set (λ (x : Vec ℕ Global). x.items) pending i m) ∙ map-set asked_at (messages_in pending) i m.items
     ∙ ap (λ (x : List Asked). set x i (asked_at m.items)) so ∙ ap (set (all_again places rs) i) here
     ∙ again_step 0 i places rs (asked_at []) long ∙ ap (λ (n : ℕ). all_again (places ++ n ∷ []) rs) (zero-add i)
@@ -209,16 +206,16 @@ all_marked old new places p each so = record { each = each; once = subst NoneTwi
 
 -- what sends a request again
 abbrev sends_again : List (Vec ℕ Global) → ℕ → Option (List ℕ)
-sends_again pending place = option_map (λ r. canon (again r)) (slice_get (requests_in pending) place)
+sends_again pending place = option_map (λ r. canon (sent_again r)) (slice_get (requests_in pending) place)
 
 -- one message more was copied and marked
 pub copied_more : (pending messages : List (Vec ℕ Global)) (places : List ℕ) (place : ℕ) (d m : Vec ℕ Global) → place < length pending → IsOwed m.items
-    → asked_at m.items ≡ again (asked_at (get_or pending place d).items)
+    → asked_at m.items ≡ sent_again (asked_at (get_or pending place d).items)
     → map (λ x. Some x) (messages_in messages) ≡ map (sends_again pending) places
     → map (λ x. Some x) (messages_in (messages ++ m ∷ [])) ≡ map (sends_again pending) (places ++ place ∷ [])
 copied_more pending messages places place d m there owed says so =
     let one : ◌≡◌ {A = Option (List ℕ)} (Some m.items) (sends_again pending place) =
-    ap (λ (x : List ℕ). Some x) (owed.canon_is ∙ ap canon says) ∙ sym (ap (option_map (λ r. canon (again r))) (found_at pending place d there)) in
+    ap (λ (x : List ℕ). Some x) (owed.canon_is ∙ ap canon says) ∙ sym (ap (option_map (λ r. canon (sent_again r))) (found_at pending place d there)) in
     ap (map (λ (x : List ℕ). Some x)) (map-append (λ (x : Vec ℕ Global). x.items) messages (m ∷ []))
     ∙ map-append (λ (x : List ℕ). Some x) (messages_in messages) (m.items ∷ [])
     ∙ ap (λ (x : List (Option (List ℕ))). x ++ Some m.items ∷ []) so ∙ ap (λ (x : Option (List ℕ)). map (sends_again pending) places ++ x ∷ []) one

@@ -16,7 +16,8 @@ use Rattle.fuse_sim.specs.Driving.{commits, commits_in, settles, is_taken, dies,
 use Rattle.fuse_sim.specs.HandedOn.{Ledger, empty_ledger, after_one, after_commit, crashed_if, after_event}
 use Rattle.fuse_sim.specs.inner.HandedBy.{handed_by, handed_at, ledger_after, handed_on}
 use Rattle.fuse_sim.specs.LeftRecords.{Follow, SettledBefore}
-use Rattle.fuse_sim.proofs.Settled.{tested, includes_left, includes_right, in_either}
+use Rattle.fuse_keeper.proofs.Histories.{tested}
+use Rattle.fuse_keeper.proofs.Settled.{includes_left, includes_right, in_either}
 use Rattle.fuse_sim.proofs.Ledgers.{commits_one, none_step, one_step}
 use Rattle.fuse_sim.proofs.Driven.{handed-append}
 

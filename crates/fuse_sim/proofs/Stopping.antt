@@ -16,7 +16,7 @@ use Rattle.fuse_sim.specs.declared.group.Group.{Group}
 use Rattle.fuse_sim.specs.declared.event.DriveFault.TheVariants.{NotAMessage, ZeroUnique, Store, Memory}
 use Rattle.fuse_sim.specs.Driving.{told_in, IsFit, event_of, StandsIn, became_in, CausedBy, is_store, IsStoreFault, LeftBy, dies, deaths, Calm}
 use Rattle.fuse_sim.specs.Twice.{Seen}
-use Rattle.fuse_sim.specs.inner.Running.{dies_before, IsRun, Begins, Gathers, StopsAt, Refuses, Stops}
+use Rattle.fuse_sim.specs.inner.Running.{dies_before, IsGroupRun, BeginsGroup, GathersEvents, StopsAt, RefusesAfterDeath, StopsAtEvent}
 use Rattle.fuse_sim.proofs.Openings.{became_itself, deaths_first, deaths-append, medium_itself, medium_some}
 
 -- ---- places
@@ -30,11 +30,11 @@ get_dropped events zero e rest is = ap (λ l. slice_get l 0) is
 get_dropped [] (suc at) e rest is = absurd (cc is)
 get_dropped (x ∷ events) (suc at) e rest is = get_dropped events at e rest is
 
-first_of : (events rest : List Event) (at : ℕ) → drop at events ≡ rest → Begins rest → IsSomeAnd (slice_get events at) IsFit
+first_of : (events rest : List Event) (at : ℕ) → drop at events ≡ rest → BeginsGroup rest → IsSomeAnd (slice_get events at) IsFit
 first_of events [] at is begins = absurd begins
 first_of events (e ∷ rest) at is begins = subst (λ o. IsSomeAnd o IsFit) (sym (get_dropped events at e rest is)) begins.0
 
-pub begins_fit : (events : List Event) (at : ℕ) → Begins (drop at events) → IsSomeAnd (slice_get events at) IsFit
+pub begins_fit : (events : List Event) (at : ℕ) → BeginsGroup (drop at events) → IsSomeAnd (slice_get events at) IsFit
 begins_fit events at begins = first_of events (drop at events) at refl begins
 
 -- ---- the keeper
@@ -53,7 +53,7 @@ not_none P (Some k) is none = absurd (cc none)
 pub stops_here : (M : Model) → {K : Type 0} (seen : Seen M K) (k : Option K)
     (events : List Event) (at : ℕ) (fault : DriveFault)
     → event_of fault ≡ at → is_store fault ≡ false → IsSomeAnd (slice_get events at) (CausedBy fault) → IsSomeAnd k (λ x. (seen.told x).has_failed ≡ false)
-    → IsCount seen.became → Stops seen k k events at fault
+    → IsCount seen.became → StopsAtEvent seen k k events at fault
 stops_here M seen k events at fault place kind caused going law = record {
   named = subst (λ n. IsSomeAnd (slice_get events n) (CausedBy fault)) (sym place) caused;
   earlier = λ each. subst (λ n. All IsFit (take n events)) (sym place) each;
@@ -75,7 +75,7 @@ pub stops_store : (M : Model) → {K : Type 0} (seen : Seen M K) (k k' : Option 
     → ((told_in seen.told k').is_clean → KeepsHeld (told_in seen.told k) (told_in seen.told k')) → ((told_in seen.told k').is_honest → (told_in seen.told k).is_honest)
     → ((told_in seen.told k').is_clean → (s : M.State) (h : History) (t : List ℕ) → StandsIn seen.told k s h t → (told_in seen.told k).may_answer fault)
     → became_in seen.became k k' 0 → ((told_in seen.told k).in_memory → (told_in seen.told k').in_memory)
-    → Stops seen k k' events at (Store at fault)
+    → StopsAtEvent seen k k' events at (Store at fault)
 stops_store M seen k k' events at fault fit has keeps was answered same medium = record {
   named = fit;
   earlier = λ each. each;
@@ -98,7 +98,7 @@ caused_by_store (Memory n) e is fit = absurd (cc is)
 refused_at : {K : Type 0} (became : K → K → ℕ → Type 0) (refuses : K → StoreFault → Type 0) (k q : Option K) (fault : DriveFault) (events : List Event)
     (at n : ℕ) (e : Event)
     → event_of fault ≡ n → slice_get events n ≡ Some e → dies e.fate ≡ true → became_in became k q 0 → deaths (take n events) ≡ deaths (take at events)
-    → IsSomeAnd q (λ x. IsStoreFault (refuses x) fault) → Refuses became refuses k events at fault
+    → IsSomeAnd q (λ x. IsStoreFault (refuses x) fault) → RefusesAfterDeath became refuses k events at fault
 refused_at became refuses k q fault events at n e place there died same calm refused = record {
   died = subst (λ o. IsSomeAnd o (λ (x : Event). dies x.fate ≡ true)) (sym (ap (slice_get events) place ∙ there)) died;
   keeper = q;
@@ -112,7 +112,7 @@ pub stops_restart : (M : Model) → {K : Type 0} (seen : Seen M K) (k q k' : Opt
     (events : List Event) (at n : ℕ) (fault : DriveFault) (e : Event)
     → k' ≡ None → IsSomeAnd q (λ x. IsStoreFault (seen.may_refuse x) fault) → is_store fault ≡ true → event_of fault ≡ n → slice_get events n ≡ Some e → IsFit e
     → dies e.fate ≡ true → (All IsFit (take at events) → All IsFit (take n events))
-    → became_in seen.became k q 0 → deaths (take n events) ≡ deaths (take at events) → Stops seen k k' events at fault
+    → became_in seen.became k q 0 → deaths (take n events) ≡ deaths (take at events) → StopsAtEvent seen k k' events at fault
 stops_restart M seen k q k' events at n fault e none refused kind place there fit died earlier same calm = record {
   named = subst (λ m. IsSomeAnd (slice_get events m) (CausedBy fault)) (sym place)
       (subst (λ o. IsSomeAnd o (CausedBy fault)) (sym there) (caused_by_store fault e kind fit));
@@ -146,7 +146,7 @@ last_more e run calm last = record {
   calm = deaths_first e last.earlier false calm ∙ last.calm;
 }
 
-last_dies : (died : Bool) (run : List Event) → died ≡ true → IsRun died run → LastDies run
+last_dies : (died : Bool) (run : List Event) → died ≡ true → IsGroupRun died run → LastDies run
 last_dies died [] is so = absurd (cc (is, so))
 last_dies died (e ∷ run) is so = elim so [
   | inl more ↦ last_more e run more.0 (last_dies died run is more.1)
@@ -182,7 +182,7 @@ dies_in events prefix earlier others e at n parts first place fit died calm =
     }
 
 -- the group that begins at a place ends with an event at which the server dies
-pub dies_at : (events : List Event) (at count : ℕ) (died : Bool) → at + count ≤ length events → IsRun died (take count (drop at events))
+pub dies_at : (events : List Event) (at count : ℕ) (died : Bool) → at + count ≤ length events → IsGroupRun died (take count (drop at events))
     → All IsFit (take count (drop at events)) → died ≡ true → DiesAt events at (at + count - 1)
 dies_at events at count died within so fit is =
     let run = take count (drop at events) in
@@ -205,10 +205,10 @@ run_slice events at count = let same : at + count - at ≡ count = omega arith i
 
 -- what was read off the rest of the events
 pub group_read : (M : Model) (events : List Event) (at count : ℕ) (group : Group) → count ≡ length group.classes.items
-    → Gathers M (take (length group.classes.items) (take (length events - at) (drop at events))) group → Gathers M (take count (drop at events)) group
+    → GathersEvents M (take (length group.classes.items) (take (length events - at) (drop at events))) group → GathersEvents M (take count (drop at events)) group
 group_read M events at count group same g =
-    subst (λ n. Gathers M (take n (drop at events)) group) (sym same)
-    (subst (λ x. Gathers M (take (length group.classes.items) x) group) (whole_rest events at) g)
+    subst (λ n. GathersEvents M (take n (drop at events)) group) (sym same)
+    (subst (λ x. GathersEvents M (take (length group.classes.items) x) group) (whole_rest events at) g)
 
 pub group_stops : (events : List Event) (at count : ℕ) (group : Group) → count ≡ length group.classes.items
     → StopsAt group (drop (length group.classes.items) (take (length events - at) (drop at events))) → StopsAt group (drop (at + count) events)
@@ -217,12 +217,12 @@ group_stops events at count group same stops =
     (subst (λ n. StopsAt group (drop n (drop at events))) (sym same)
     (subst (λ x. StopsAt group (drop (length group.classes.items) x)) (whole_rest events at) stops))
 
-begins_some : (events : List Event) → Begins events → 0 < length events
+begins_some : (events : List Event) → BeginsGroup events → 0 < length events
 begins_some [] begins = absurd begins
 begins_some (e ∷ events) begins = omega arith
 
 -- the group lies within the events
-pub within_rest : (events : List Event) (at count : ℕ) → Begins (drop at events) → count ≤ length (take (length events - at) (drop at events))
+pub within_rest : (events : List Event) (at count : ℕ) → BeginsGroup (drop at events) → count ≤ length (take (length events - at) (drop at events))
     → at + count ≤ length events
 within_rest events at count begins within = omega (arith, within, ap length (whole_rest events at), length-drop at events, begins_some (drop at events) begins)
 

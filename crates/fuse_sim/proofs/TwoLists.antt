@@ -10,11 +10,12 @@ use Rattle.fuse_sim.specs.declared.event.DriveFault.{DriveFault}
 use Rattle.fuse_sim.specs.Driving.{told_in, StandsIn, committed, settled_by, NoneReused, IsFit, Names, before, is_store, LeftBy, Opened, OfRestart, AnsweredBy}
 use Rattle.fuse_sim.specs.Driving.{StoodBefore, became_in, performed_in, deaths}
 use Rattle.fuse_sim.specs.HandedOn.{performances, AsksUpTo, AsksThen, AskedSome}
-use Rattle.fuse_sim.specs.AfterEvents.{StandsAfter}
+use Rattle.fuse_sim.specs.AfterEvents.{StandsAfter, DeletesHanded}
 use Rattle.fuse_sim.specs.Twice.{Seen, StoppedAt}
 use Rattle.fuse_sim.proofs.Driven.{reused-parts}
 use Rattle.fuse_sim.proofs.Openings.{became_then, deaths-append, stands_twice, opened_twice, stood_twice}
 use Rattle.fuse_sim.proofs.AskedGroups.{performed_then}
+use Rattle.fuse_sim.proofs.InARow.{records_in_a_row}
 use Rattle.fuse_sim.proofs.Endings.{clean_too}
 
 -- what `drive` says of a fault
@@ -22,6 +23,7 @@ pub record FaultOf {M : Model} {K : Type 0} (k : Seen M K) (old new : Option K) 
   pub named : Names fault list
   pub stands : (s : M.State) (h : History) (t : List ℕ) → StandsIn k.told old s h t → NoneReused M.serves t (before fault list)
       → LeftBy (told_in k.told new) (is_store fault) (StandsIn k.told new s (committed M.serves h (before fault list)) (settled_by M.serves t (before fault list)))
+  pub records : LeftBy (told_in k.told new) (is_store fault) (DeletesHanded k.told old new (performances M.serves (before fault list)) (before fault list))
   pub opened : (new ≡ None → ⊥) → Opened k.told k.became old new (before fault list)
   pub stood : (new ≡ None → ⊥) → StoodBefore k.told k.became old new (before fault list)
   pub asked : (new ≡ None → ⊥) → AskedSome k.performed old new (AsksUpTo M.serves list fault)
@@ -34,6 +36,7 @@ pub record FaultOf {M : Model} {K : Type 0} (k : Seen M K) (old new : Option K) 
 pub record WholeOf {M : Model} {K : Type 0} (k : Seen M K) (old new : Option K) (list : List Event) : Type 0 where
   pub fit : All IsFit list
   pub stands : StandsAfter k.told old new list
+  pub records : DeletesHanded k.told old new (performances M.serves list) list
   pub opened : Opened k.told k.became old new list
   pub stood : StoodBefore k.told k.became old new list
   pub asked : performed_in k.performed old new (performances M.serves list)
@@ -50,6 +53,7 @@ pub stopped_first : (M : Model) → {K : Type 0} (k : Seen M K) (old new : Optio
 stopped_first M k old new events more fault one = inl (record {
   named = one.named;
   stands = one.stands;
+  records = one.records;
   opened = one.opened;
   stood = one.stood;
   asked = λ there. then_none M k.performed old new events fault (one.asked there);
@@ -71,6 +75,13 @@ left_twice M told old mid new xs ys true too was one two s h t so none = λ clea
     stands_twice M told old mid new xs ys (one (was (too clean))) (λ s h t so none. two s h t so none clean) s h t so none
 left_twice M told old mid new xs ys false too was one two s h t so none = λ honest.
     stands_twice M told old mid new xs ys (one (was honest)) (λ s h t so none. two s h t so none honest) s h t so none
+
+records_twice : (M : Model) → {K : Type 0} (told : K → KeeperState M) (old mid new : Option K) (xs ys : List Event) (b : Bool)
+    → ((told_in told new).is_honest → (told_in told mid).is_honest)
+    → DeletesHanded told old mid (performances M.serves xs) xs → LeftBy (told_in told new) b (DeletesHanded told mid new (performances M.serves ys) ys)
+    → LeftBy (told_in told new) b (DeletesHanded told old new (performances M.serves xs ++ performances M.serves ys) (xs ++ ys))
+records_twice M told old mid new xs ys true was one two = λ clean. records_in_a_row M told old mid new xs ys was one (two clean)
+records_twice M told old mid new xs ys false was one two = λ honest. records_in_a_row M told old mid new xs ys was one (two honest)
 
 asked_twice : (M : Model) → {K : Type 0} (performed : K → K → List Performance → Type 0) → IsPerformanceLog performed → (old mid new : Option K)
     (first list : List Event) (fault : DriveFault) → performed_in performed old mid (performances M.serves first)
@@ -113,6 +124,7 @@ stopped_second M k law log old mid new events more fault too was one two =
       record {
         named = two.named;
         stands = left_twice M k.told old mid new events ys (is_store fault) honest was one.stands two.stands;
+        records = records_twice M k.told old mid new events ys (is_store fault) was one.records two.records;
         opened = λ there. opened_twice M k.told k.became law old mid new events ys was one.stands one.opened (two.opened there);
         stood = λ there. stood_twice M k.told k.became law old mid new events ys was one.stands one.opened.often (two.opened there).often one.stood
             (two.stood there);

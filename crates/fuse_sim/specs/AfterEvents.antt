@@ -8,7 +8,7 @@ use Rattle.fuse_keeper.specs.Performance.{Performance}
 use Rattle.fuse_sim.specs.declared.event.Event.{Event}
 use Rattle.fuse_sim.specs.declared.event.Outcome.{Outcome}
 use Rattle.fuse_sim.specs.Driving.{told_in, StandsIn, committed, settled_by, NoneReused, outcome_of, bytes_given, OutcomesBegin}
-use Rattle.fuse_sim.specs.HandedOn.{handed_in}
+use Rattle.fuse_sim.specs.HandedOn.{handed_on_in}
 use Rattle.fuse_sim.specs.LeftRecords.{RecordsLeft, HoldsRecords}
 
 -- this is so where the store gave back the bytes that were written, whatever history the keeper stood for and whatever was settled
@@ -40,5 +40,5 @@ DeletesHanded {M} told old new asked events =
 -- each id that is neither settled before nor handed on has the record that the history says
 abbrev pub KeepsUnhanded : {M : Model} {K : Type 0} → (K → KeeperState M) → Option K → Option K → List Performance → List Event → Type 0
 KeepsUnhanded {M} told old new asked events = OfStood told old new (λ start h settled. NoneReused M.serves settled events
-    → (rows : M.Rows) (records : Records) → (told_in told new).holds rows records → (i : ℕ) → is_in settled i ≡ false → is_in (handed_in asked) i ≡ false
+    → (rows : M.Rows) (records : Records) → (told_in told new).holds rows records → (i : ℕ) → is_in settled i ≡ false → is_in (handed_on_in asked) i ≡ false
     → records i ≡ said M start (committed M.serves h events) i)

@@ -11,7 +11,7 @@ use Rattle.fuse_session.specs.Deeds.{Deeds}
 use Rattle.fuse_session.specs.declared.ended.Ended.{Ended}
 use Rattle.fuse_session.specs.Exchange.{Exchange}
 use Rattle.fuse_session.specs.Passage.{Passage}
-use Rattle.fuse_session.specs.Processed.{Timed, bytes_of, kept_in, answers}
+use Rattle.fuse_session.specs.Processed.{Timed, bytes_of, kept_in, answers_to}
 use Rattle.fuse_session.specs.Serving.{nothing_waits, Run, exchange}
 use Rattle.fuse_session.specs.Settling.{replies, settled_in, NoneComesAgain, SentUpTo}
 use Rattle.fuse_session.specs.Slices.{RestsOfSome}
@@ -66,7 +66,7 @@ pub record LivedAs {Image : Type 0} (M : Model) (s : M.State) (h : History) (r :
   pub parts : r.exchange.timed ≡ life.worked ++ unprocessed
   pub moments : TimedFirst M.serves r.deeds.moments life.worked
   pub sent : life.sent ≡ joined (replies r.exchange.marks) ++ r.part
-  pub up_to : SentUpTo (answers M s (grown h (kept_in M.serves life.worked)) life.worked) r.exchange.marks r.answer
+  pub up_to : SentUpTo (answers_to M s (grown h (kept_in M.serves life.worked)) life.worked) r.exchange.marks r.answer
   pub slices : RestsOfSome r.exchange.marks r.answer r.part (handed_in r.deeds.events)
   pub settled : life.settled ≡ settled_in M.serves r.exchange.confirms (bytes_of life.worked) r.exchange.marks
 
@@ -113,9 +113,9 @@ all_settled V t [] = t
 all_settled V t (r ∷ runs) = all_settled V (t ++ run_settled V r) runs
 
 -- the files that are left in the end
-abbrev pub left_by : {Image : Type 0} → Image → List (FileRun Image) → Image
-left_by first [] = first
-left_by first (r ∷ runs) = left_by r.left runs
+abbrev pub files_left_by : {Image : Type 0} → Image → List (FileRun Image) → Image
+files_left_by first [] = first
+files_left_by first (r ∷ runs) = files_left_by r.left runs
 
 -- the runs were these lives, one for one, each from the history that the one before left
 abbrev pub LivedInTurn : {Image : Type 0} → (M : Model) → M.State → History → List (FileRun Image) → List Lifetime → Type 0
@@ -133,7 +133,7 @@ pub record FilesLived {M : Model} {Image : Type 0} (Stand : Image → Standing M
   pub in_a_row : after_lives M.serves [] lives ≡ grown [] (kept_in M.serves (all_processed lives))
   pub once : Distinct (after_lives M.serves [] lives)
   pub send : AllSend M s (after_lives M.serves [] lives) lives
-  pub left : Stand (left_by r.left runs) (record {
+  pub left : Stand (files_left_by r.left runs) (record {
     state = s;
     history = after_lives M.serves [] lives;
     settled = all_settled M.serves [] (r ∷ runs);

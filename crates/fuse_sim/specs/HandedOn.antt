@@ -59,9 +59,9 @@ abbrev pub performances : OpcodeSet → List Event → List Performance
 performances V events = performed_after V empty_ledger [] events
 
 -- all ids that are handed on with them
-abbrev pub handed_in : List Performance → List ℕ
-handed_in [] = []
-handed_in (p ∷ ps) = p.settled ++ handed_in ps
+abbrev pub handed_on_in : List Performance → List ℕ
+handed_on_in [] = []
+handed_on_in (p ∷ ps) = p.settled ++ handed_on_in ps
 
 -- what was asked for up to a fault: what the events before it ask for and, where the store answered it, one group more, with
 -- which the next events begin

@@ -15,7 +15,7 @@ use Rattle.fuse_session.specs.Serving.{nothing_waits, Run, exchange}
 use Rattle.fuse_session.specs.Settling.{replies, settled_in, SentUpTo}
 use Rattle.fuse_session.specs.Slices.{RestsOfSome}
 use Rattle.fuse_session.specs.Transcript.{handed_in}
-use Rattle.fuse_session.specs.Processed.{Timed, bytes_of, kept_in, answers, out, Works}
+use Rattle.fuse_session.specs.Processed.{Timed, bytes_of, kept_in, answers_to, out, Works}
 
 -- the bytes that came, those that were sent, the messages that were processed, and the ids that their answers settled
 pub record Lifetime : Type 0 where
@@ -65,7 +65,7 @@ pub record RanAsLife {M : Model} {p : Passage M} {ended : Ended} (run : Run p no
   pub parts : run.broken.work.timed ≡ life.worked ++ unprocessed
   pub moments : TimedFirst M.serves run.broken.work.deeds.moments life.worked
   pub sent : life.sent ≡ joined (replies run.broken.work.marks) ++ run.broken.part
-  pub up_to : SentUpTo (answers M at.state (grown at.history (kept_in M.serves life.worked)) life.worked) run.broken.work.marks run.broken.answer
+  pub up_to : SentUpTo (answers_to M at.state (grown at.history (kept_in M.serves life.worked)) life.worked) run.broken.work.marks run.broken.answer
   pub slices : RestsOfSome run.broken.work.marks run.broken.answer run.broken.part (handed_in run.broken.work.deeds.events)
   pub settled_are : life.settled ≡ settled_in M.serves p.port.confirms (bytes_of life.worked) run.broken.work.marks
   pub stands : Stood (record { state = at.state; history = grown at.history (kept_in M.serves life.worked); settled = at.settled ++ life.settled })

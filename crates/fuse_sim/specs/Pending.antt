@@ -32,13 +32,13 @@ abbrev pub owed : Asked → List Asked
 owed r = if is_silent r then [] else r ∷ []
 
 -- the request as it is sent again, with bit 63 of its unique set
-abbrev pub again : Asked → Asked
-again r = record r { header = record r.header { unique = id_of r.header.unique + fuse_unique_resend } }
+abbrev pub sent_again : Asked → Asked
+sent_again r = record r { header = record r.header { unique = id_of r.header.unique + fuse_unique_resend } }
 
 -- the requests from place n on, those at these places as they are sent again
 abbrev pub again_from : ℕ → List ℕ → List Asked → List Asked
 again_from n places [] = []
-again_from n places (r ∷ rs) = (if is_in places n then again r else r) ∷ again_from (suc n) places rs
+again_from n places (r ∷ rs) = (if is_in places n then sent_again r else r) ∷ again_from (suc n) places rs
 
 abbrev pub all_again : List ℕ → List Asked → List Asked
 all_again places rs = again_from 0 places rs

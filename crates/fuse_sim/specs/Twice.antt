@@ -9,7 +9,8 @@ use Rattle.fuse_sim.specs.declared.event.Event.{Event}
 use Rattle.fuse_sim.specs.declared.event.DriveFault.{DriveFault}
 use Rattle.fuse_sim.specs.Driving.{told_in, StandsIn, committed, settled_by, NoneReused, IsFit, Names, before, is_store, LeftBy, Opened, OfRestart, AnsweredBy}
 use Rattle.fuse_sim.specs.Driving.{StoodBefore, MayRefuse}
-use Rattle.fuse_sim.specs.HandedOn.{AsksThen, AskedSome}
+use Rattle.fuse_sim.specs.AfterEvents.{DeletesHanded}
+use Rattle.fuse_sim.specs.HandedOn.{performances, AsksThen, AskedSome}
 
 -- what contracts see of a type of keepers
 pub record Seen (M : Model) (K : Type 0) : Type 1 where
@@ -24,11 +25,13 @@ seen_of told became performed refuses = record { told = told; became = became; p
 
 -- a fault came at a list, after all of the events `first`: it names the event of the list, and what is left and was done before
 -- it is as after a fault of `drive`
-pub record StoppedIn {M : Model} {K : Type 0} (k : Seen M K) (old new : Option K) (first list : List Event) (fault : DriveFault) : Type 0 where
+pub record StoppedInSecond {M : Model} {K : Type 0} (k : Seen M K) (old new : Option K) (first list : List Event) (fault : DriveFault) : Type 0 where
   pub named : Names fault list
   pub stands : (s : M.State) (h : History) (t : List ℕ) → StandsIn k.told old s h t → NoneReused M.serves t (first ++ before fault list)
       → LeftBy (told_in k.told new) (is_store fault)
       (StandsIn k.told new s (committed M.serves h (first ++ before fault list)) (settled_by M.serves t (first ++ before fault list)))
+  pub records : LeftBy (told_in k.told new) (is_store fault)
+      (DeletesHanded k.told old new (performances M.serves first ++ performances M.serves (before fault list)) (first ++ before fault list))
   pub opened : ¬ (new ≡ None) → Opened k.told k.became old new (first ++ before fault list)
   pub stood : ¬ (new ≡ None) → StoodBefore k.told k.became old new (first ++ before fault list)
   pub asked : ¬ (new ≡ None) → AskedSome k.performed old new (AsksThen M.serves first list fault)
@@ -39,4 +42,4 @@ pub record StoppedIn {M : Model} {K : Type 0} (k : Seen M K) (old new : Option K
 
 -- it came at the first list, or at the second one after all of the first
 abbrev pub StoppedAt : {M : Model} {K : Type 0} → Seen M K → Option K → Option K → List Event → List Event → DriveFault → Type 0
-StoppedAt k old new events more fault = StoppedIn k old new [] events fault ⊎ (All IsFit events × StoppedIn k old new events more fault)
+StoppedAt k old new events more fault = StoppedInSecond k old new [] events fault ⊎ (All IsFit events × StoppedInSecond k old new events more fault)

@@ -16,8 +16,9 @@ ghost use Rattle.fuse_sim.specs.AfterEvents.{StandsAfter, AnswersAre, FirstAnswe
 ghost use Rattle.fuse_sim.specs.AfterEvents.{DeletesHanded, KeepsUnhanded};
 ghost use Rattle.fuse_sim.specs.HandedOn.{performances, AsksUpTo, AskedSome};
 ghost use Rattle.fuse_sim.specs.Twice.{seen_of, StoppedAt};
-ghost use Rattle.fuse_sim.specs.inner.Running.{stage, Gathers, Begins, Worked, Moved, MayBegin, Opens, Stops};
-ghost use Rattle.fuse_sim.specs.inner.Running.{AsksRun, AsksFrom, StopsAsking};
+ghost use Rattle.fuse_sim.specs.inner.Running.{stage, GathersEvents, BeginsGroup, Worked, Moved};
+ghost use Rattle.fuse_sim.specs.inner.Running.{MayBegin, Opens, StopsAtEvent};
+ghost use Rattle.fuse_sim.specs.inner.Running.{AsksGroup, AsksFrom, StopsAsking};
 
 use crate::event::{DriveFault, Event, Outcome};
 use crate::group::{Group, answer_group, gather, is_before_commit, test_event};
@@ -112,7 +113,7 @@ fn work_group<K: Restart>(
     pending: &mut Vec<Id>,
     outcomes: &mut Vec<Option<Outcome>>,
 ) -> Result<(), StoreFault>
-    requires gathers { Gathers K.model run.now group.now }
+    requires gathers { GathersEvents K.model run.now group.now }
     requires few { length pending.old.items ≤ max_settled }
     requires going { IsSomeAnd keeper.old (λ k. (K.told k).has_failed ≡ false) }
     requires room { length outcomes.old.items + length run.now ≤ vec_capacity outcomes.old }
@@ -125,7 +126,7 @@ fn work_group<K: Restart>(
     ensures called { Called (told_in K.told keeper.old) (told_in K.told keeper.new) result }
     ensures same { became_in K.became keeper.old keeper.new 0 }
     ensures failed { IsSomeAnd keeper.new (λ k. (K.told k).has_failed ≡ is_err result) }
-    ensures asked { AsksRun K.model.serves K.performed keeper.old keeper.new
+    ensures asked { AsksGroup K.model.serves K.performed keeper.old keeper.new
         (ids_of pending.old.items) run.now }
     ensures some { OnErr result (0 < length group.now.taken.items) }
 {
@@ -152,7 +153,7 @@ fn run_group<K: Restart>(
     pending: &mut Vec<Id>,
     outcomes: &mut Vec<Option<Outcome>>,
 ) -> Result<usize, DriveFault>
-    requires begins { Begins (drop at events.now) }
+    requires begins { BeginsGroup (drop at events.now) }
     requires few { length pending.old.items ≤ max_settled }
     requires going { IsSomeAnd keeper.old (λ k. (K.told k).has_failed ≡ false) }
     ensures moves { IfOk result (λ n. 0 < n) }
@@ -166,11 +167,11 @@ fn run_group<K: Restart>(
     ensures few { OnOk result (length pending.new.items ≤ max_settled) }
     ensures going { OnOk result (IsSomeAnd keeper.new (λ k. (K.told k).has_failed ≡ false)) }
     ensures honest { (told_in K.told keeper.new).is_honest → (told_in K.told keeper.old).is_honest }
-    ensures err { IfErr result (Stops (seen_of K.told K.became K.performed K.refuses)
+    ensures err { IfErr result (StopsAtEvent (seen_of K.told K.became K.performed K.refuses)
         keeper.old keeper.new events.now at) }
     ensures asks { IfOk result (λ n. AsksFrom K.model.serves (ids_of pending.old.items)
         (take n (drop at events.now)) (drop at events.now)) }
-    ensures asked { IfOk result (λ n. AsksRun K.model.serves K.performed keeper.old keeper.new
+    ensures asked { IfOk result (λ n. AsksGroup K.model.serves K.performed keeper.old keeper.new
         (ids_of pending.old.items) (take n (drop at events.now))) }
     ensures err_asked { IfErr result (StopsAsking (seen_of K.told K.became K.performed K.refuses)
         keeper.old keeper.new (ids_of pending.old.items) (drop at events.now)) }
@@ -213,11 +214,11 @@ fn run_next<K: Restart>(
     ensures few { OnOk result (length pending.new.items ≤ max_settled) }
     ensures going { OnOk result (IsSomeAnd keeper.new (λ k. (K.told k).has_failed ≡ false)) }
     ensures honest { (told_in K.told keeper.new).is_honest → (told_in K.told keeper.old).is_honest }
-    ensures err { IfErr result (Stops (seen_of K.told K.became K.performed K.refuses)
+    ensures err { IfErr result (StopsAtEvent (seen_of K.told K.became K.performed K.refuses)
         keeper.old keeper.new events.now at) }
     ensures asks { IfOk result (λ n. AsksFrom K.model.serves (ids_of pending.old.items)
         (take n (drop at events.now)) (drop at events.now)) }
-    ensures asked { IfOk result (λ n. AsksRun K.model.serves K.performed keeper.old keeper.new
+    ensures asked { IfOk result (λ n. AsksGroup K.model.serves K.performed keeper.old keeper.new
         (ids_of pending.old.items) (take n (drop at events.now))) }
     ensures err_asked { IfErr result (StopsAsking (seen_of K.told K.became K.performed K.refuses)
         keeper.old keeper.new (ids_of pending.old.items) (drop at events.now)) }

@@ -8,11 +8,12 @@ ghost use Rattle.fuse_request.specs.Stream.{IsMessage};
 ghost use Rattle.fuse_request.specs.Classes.{class_for};
 ghost use Rattle.fuse_keeper.specs.Group.{entries_of, IsKept, ids_of};
 ghost use Rattle.fuse_session.specs.Processed.{entry_if, message_entry};
-ghost use Rattle.fuse_session.specs.inner.Group.{listed, left_by};
+ghost use Rattle.fuse_session.specs.inner.Group.{as_list, left_by};
 ghost use Rattle.fuse_sim.specs.Driving.{IsFit, CausedBy, event_of, is_store, dies};
 ghost use Rattle.fuse_sim.specs.Driving.{bytes_given, settles, is_taken};
-ghost use Rattle.fuse_sim.specs.inner.Running.{dies_before, Gathers, EndsWith, StopsAt, Joins};
-ghost use Rattle.fuse_sim.specs.inner.Running.{classes_in, settles_in};
+ghost use Rattle.fuse_sim.specs.inner.Running.{dies_before, GathersEvents, EndsWith, StopsAt};
+ghost use Rattle.fuse_sim.specs.inner.Running.{Joins};
+ghost use Rattle.fuse_sim.specs.inner.Running.{classes_of_events, settles_in};
 ghost use Rattle.fuse_sim.specs.inner.Running.{answers_in, head_outcome, outcomes_by, HasAnswers, Adds};
 
 use crate::event::{DriveFault, Event, Fate, Outcome};
@@ -83,9 +84,9 @@ fn stands_apart(event: &Event) -> bool
 fn read_one<'a, K: Keeper>(event: &'a Event, class: Class) -> Option<(Request<'a>, Moment)>
     requires message { IsMessage event.now.bytes }
     requires class { class ≡ class_for K.model.serves event.now.bytes }
-    ensures entry { entries_of (listed result) ≡ entry_if (class_for K.model.serves event.now.bytes)
+    ensures entry { entries_of (as_list result) ≡ entry_if (class_for K.model.serves event.now.bytes)
         (message_entry event.now.bytes event.now.moment) }
-    ensures kept { All (IsKept K.model) (entries_of (listed result)) }
+    ensures kept { All (IsKept K.model) (entries_of (as_list result)) }
 {
     match class {
         Class::Kept => match decode(event.bytes.as_slice()) {
@@ -128,7 +129,7 @@ pub(crate) fn gather<'a, K: Keeper>(
 ) -> Result<Group<'a>, AllocError>
     ensures within { IfOk result (λ r. length r.classes.items ≤ length events.now) }
     ensures gathers { IfOk result
-        (λ r. Gathers K.model (take (length r.classes.items) events.now) r) }
+        (λ r. GathersEvents K.model (take (length r.classes.items) events.now) r) }
     ensures stops { IfOk result (λ r. StopsAt r (drop (length r.classes.items) events.now)) }
 {
     let mut group = Group {
@@ -222,7 +223,7 @@ pub(crate) fn answer_group<K: Keeper>(
     outcomes: &mut Vec<Option<Outcome>>,
 )
     requires fit { All IsFit run.now }
-    requires classes { classes.now ≡ classes_in K.model.serves run.now }
+    requires classes { classes.now ≡ classes_of_events K.model.serves run.now }
     requires enough { HasAnswers K.model.serves run.now (answers_in dones.items) }
     requires room { length outcomes.old.items + length run.now ≤ vec_capacity outcomes.old }
     requires places { length pending.old.items + length dones.items ≤ vec_capacity pending.old }

@@ -11,10 +11,11 @@ ghost use Rattle.fuse_request.specs.declared.header.TheConstants.{MAX_MESSAGE as
 ghost use Rattle.fuse_answer.specs.declared.records.TheConstants.OutHeader.{SIZE as header_size};
 ghost use Rattle.fuse_request.specs.Places.{asked_at};
 ghost use Rattle.fuse_keeper.specs.History.{is_in};
-ghost use Rattle.fuse_sim.specs.Pending.{MayBeSent, owed, again, all_again, borne, owner, TakenOf};
+ghost use Rattle.fuse_sim.specs.Pending.{MayBeSent, owed, sent_again, all_again, borne, owner};
+ghost use Rattle.fuse_sim.specs.Pending.{TakenOf};
 ghost use Rattle.fuse_sim.specs.Pending.{request_ids, messages_in, requests_in};
 ghost use Rattle.fuse_sim.specs.KeptMessages.{IsOwed};
-ghost use Rattle.fuse_sim.specs.inner.Marking.{StandsFirst, marked};
+ghost use Rattle.fuse_sim.specs.inner.Marking.{StandsFirst, marked_as_resend};
 
 use byteorder::{ByteOrder, LittleEndian};
 use fuse_answer::{BadAnswer, OutHeader, read_answer};
@@ -75,7 +76,7 @@ fn keep(alloc: Global, pending: &mut Vec<Vec<u8>>, message: &[u8]) -> Result<(),
 #[tactic(auto, unfolding(fuse_wire::specs::Bytes::le))]
 fn set_bit(message: &mut [u8])
     requires { 16 ≤ length message.old }
-    ensures { message.new ≡ marked message.old }
+    ensures { message.new ≡ marked_as_resend message.old }
 {
     let unique = Id::of(u64_at(message, 8)).0 + UNIQUE_RESEND;
     LittleEndian::write_u64(&mut message[8..], unique);
@@ -85,7 +86,7 @@ fn set_bit(message: &mut [u8])
 fn mark(message: &mut Vec<u8>)
     requires { IsOwed message.old.items }
     ensures owed { IsOwed message.new.items }
-    ensures says { asked_at message.new.items ≡ again (asked_at message.old.items) }
+    ensures says { asked_at message.new.items ≡ sent_again (asked_at message.old.items) }
 {
     spelled_at();
     set_bit(message.as_mut_slice());
@@ -100,7 +101,7 @@ fn copies_again(
     requires owed { All IsOwed (messages_in pending.now) }
     requires there { All (λ place. place < length pending.now) places.now }
     ensures { IfOk result (λ messages. map (λ m. Some m) (messages_in messages.items)
-        ≡ map (λ place. option_map (λ r. canon (again r))
+        ≡ map (λ place. option_map (λ r. canon (sent_again r))
         (slice_get (requests_in pending.now) place)) places.now) }
 {
     let mut messages = Vec::with_capacity(alloc, places.len())?;
@@ -216,7 +217,7 @@ impl Kernel {
     pub fn resend(&mut self, order: &[usize]) -> Result<Vec<Vec<u8>>, Memory>
         requires { All (λ place. place < length self.old) order.now }
         ensures messages { IfOk result (λ messages. map (λ m. Some m) (messages_in messages.items)
-            ≡ map (λ place. option_map (λ r. canon (again r)) (slice_get self.old place))
+            ≡ map (λ place. option_map (λ r. canon (sent_again r)) (slice_get self.old place))
             order.now) }
         ensures pending { OnOk result (self.new ≡ all_again order.now self.old) }
         ensures err { OnErr result (self.new ≡ self.old) }

@@ -1,10 +1,11 @@
 -- A mount that begins, in the words of a keeper.
 use Rattle.std.proofs.Common.{◌≡◌, ℕ, Bool, List, [], Option, None, Ok, Result, refl, sym, ap, subst, ◌∙◌}
 use Rattle.sqlite.specs.State.{State}
-use Rattle.fuse_tree.specs.State.{State as TreeState}
-use Rattle.fuse_tree.specs.Clearing.{cleared}
-use Rattle.fuse_tree.specs.Rows.{Rows, rowed}
-use Rattle.fuse_tree.specs.Plan.{RowsTellState}
+use Rattle.fuse_tree.specs.State.{State as TreeState, profile_of, Tree}
+use Rattle.fuse_tree.specs.Clearing.{cleared_tree}
+use Rattle.fuse_rows.specs.Rows.{Rows}
+use Rattle.fuse_tree.specs.Rowed.{rowed}
+use Rattle.fuse_tree.specs.Laws.{RowsTellState}
 use Rattle.fuse_keeper.specs.History.{History, after, said, Distinct}
 use Rattle.fuse_keeper.specs.Stands.{Records, Stands}
 use Rattle.fuse_keeper.specs.KeeperState.{BeginsMount, DropsLots, LeavesMount, StandsFor}
@@ -36,31 +37,37 @@ starts p s good = record {
 
 -- what is left of what was held: the tree of a new mount, without a record
 pub record Clears (g : Holding → Holding) : Type 0 where
-  pub tree : (y : Holding) → (g y).tree ≡ cleared y.tree
+  pub tree : (y : Holding) → (g y).tree ≡ cleared_tree y.tree
   pub kept : (y : Holding) → (g y).kept ≡ []
   pub lots : (y : Holding) → (g y).lots ≡ []
 
 pub clears_all : Clears cleared_for
 clears_all = record { tree = λ y. refl; kept = λ y. refl; lots = λ y. refl }
 
-module _ (p : Profile) (rows_tell : RowsTellState) (clear : (s : TreeState) → (tree_of p).IsGood s → (tree_of p).IsGood (cleared s)) (g : Holding → Holding) (clears : Clears g) where
+module _ (p : Profile) (rows_tell : RowsTellState) (clear : (s : TreeState) → (tree_of p).IsGood s → (tree_of p).IsGood (cleared_tree s)) (g : Holding → Holding) (clears : Clears g) where
+  -- it keeps the profile
+  keeps_profile : (y : Holding) → Tree y.tree → profile_of y.tree ≡ p → profile_of (g y).tree ≡ p
+  keeps_profile y tree own = ap profile_of (clears.tree y) ∙ (clear y.tree (record { tree = tree; profile = own })).profile
+
   -- it stands for the mount that begins
   begun : (y : Holding) (rows : Rows) (records : Records) (s : TreeState) (h : History) (t : List ℕ) → IsOf y rows records
-      → Stands (tree_of p) rows records s h t → HoldingStands p (g y) (cleared (after (tree_of p) s h)) [] []
+      → Stands (tree_of p) rows records s h t → HoldingStands p (g y) (cleared_tree (after (tree_of p) s h)) [] []
   begun y rows records s h t is so =
       let same : y.tree ≡ after (tree_of p) s h = rows_tell y.tree (after (tree_of p) s h) (sym is.rows_are ∙ so.rows_are) in
-      let new : (g y).tree ≡ cleared (after (tree_of p) s h) = clears.tree y ∙ ap cleared same in
-      subst (λ ks. Stands (tree_of p) (rowed (g y).tree) (records_of ks) (cleared (after (tree_of p) s h)) [] []) (sym (clears.kept y))
+      let new : (g y).tree ≡ cleared_tree (after (tree_of p) s h) = clears.tree y ∙ ap cleared_tree same in
+      subst (λ ks. Stands (tree_of p) (rowed (g y).tree) (records_of ks) (cleared_tree (after (tree_of p) s h)) [] []) (sym (clears.kept y))
       (subst (λ u. Stands (tree_of p) (rowed (g y).tree) (records_of []) u [] []) new (starts p (g y).tree (subst (tree_of p).IsGood (sym new) (clear (after (tree_of p) s h) so.tree))))
 
   -- a store of which a mount began, where it stood for this
   pub begun_after : OneHolding → (b : State) (y : Holding) → RestsAs (HeldForKnown None (g y)) b → (s : TreeState) (h : History) (t : List ℕ)
       → Stands (tree_of p) (rowed y.tree) (records_of y.kept) s h t → (lot : Option ℕ) (failed : Bool)
-      → StandsFor (table_told p ⊥ None b lot failed) (cleared (after (tree_of p) s h)) [] []
+      → StandsFor (table_told p ⊥ None b lot failed) (cleared_tree (after (tree_of p) s h)) [] []
   begun_after one b y at s h t so lot failed = record {
     rows = rowed (g y).tree;
     records = records_of (g y).kept;
-    held = holds_at one None b (g y) (rowed (g y).tree) (records_of (g y).kept) at (its_own (g y));
+    held =
+        let good = subst (tree_of p).IsGood (sym (rows_tell y.tree (after (tree_of p) s h) so.rows_are)) so.tree in
+        holds_at one None b (g y) (rowed (g y).tree) (records_of (g y).kept) (keeps_profile y good.tree good.profile) at (its_own (g y));
     stands = begun y (rowed y.tree) (records_of y.kept) s h t (its_own y) so;
   }
 
@@ -73,7 +80,8 @@ module _ (p : Profile) (rows_tell : RowsTellState) (clear : (s : TreeState) → 
         record {
           rows = rowed (g y).tree;
           records = records_of (g y).kept;
-          held = holds_at one None b (g y) (rowed (g y).tree) (records_of (g y).kept) after (its_own (g y));
+          held = holds_at one None b (g y) (rowed (g y).tree) (records_of (g y).kept) (keeps_profile y so.held.rests.holds.tree so.held.profile) after
+              (its_own (g y));
           stands = begun y so.rows so.records s h t so.held.is_of so.stands;
         }
 
@@ -87,5 +95,6 @@ module _ (p : Profile) (rows_tell : RowsTellState) (clear : (s : TreeState) → 
       → ServesAs (HeldForKnown m) (λ y. HeldForKnown None (g y)) a b r → (lot now : Option ℕ) (was is : Bool) → LeavesMount (table_told p ⊥ m a lot was) (table_told p ⊥ None b now is)
   leaves_mount one m a b settled r serves lot now was is s h t so firm =
       let y = so.held.holding in
-      leaves_either one m None g a b settled serves.survives y (known_rests so.held) p now is s (cleared (after (tree_of p) s h)) h [] t []
+      leaves_either one m None g a b settled serves.survives y (known_rests so.held) p so.held.profile
+      (keeps_profile y so.held.rests.holds.tree so.held.profile) now is s (cleared_tree (after (tree_of p) s h)) h [] t []
       (stands_on p y so.rows so.records s h t so.held.is_of so.stands) (begun y so.rows so.records s h t so.held.is_of so.stands)

@@ -6,16 +6,17 @@ use Rattle.std.specs.Ordering.{is_eq, is_gt, nat_cmp}
 use Rattle.std.proofs.lemmas.Bool.{cases_Bool}
 use Rattle.std.proofs.lemmas.Bool.Decides.{nat_tests}
 use Rattle.std.proofs.lemmas.List.Sums.{sum_by-cons}
-use Rattle.fuse_tree.specs.Bounds.{block_bytes}
-use Rattle.fuse_tree.specs.declared.rows.NodeRow.{NodeRow}
-use Rattle.fuse_tree.specs.declared.rows.Full.{Full}
+use Rattle.fuse_rows.specs.Bounds.{block_bytes}
+use Rattle.fuse_rows.specs.declared.rows.NodeRow.{NodeRow}
+use Rattle.fuse_rows.specs.declared.rows.Full.{Full}
 use Rattle.fuse_tree.specs.State.{State, Node, IsNode, Apart, terms_of, blocks_for}
-use Rattle.fuse_tree.specs.Rows.{full_of, row_is_named, content_of}
+use Rattle.fuse_rows.specs.Rows.{row_is_named, content_of}
+use Rattle.fuse_tree.specs.Rowed.{full_of}
 use Rattle.fuse_tree.specs.Clearing.{is_named_row, blocks_freed}
 use Rattle.fuse_store_tables.specs.Blocks.{Block, block_at, is_at}
 use Rattle.fuse_store_tables.specs.Content.{is_unnamed}
 use Rattle.fuse_store_tables.specs.Clearing.{named, has_unnamed, unnamed_blocks, blocks_in}
-use Rattle.fuse_store_tree.specs.Store.{byte_at, bytes_of, AreWithin}
+use Rattle.fuse_store_tree.specs.Store.{byte_at, bytes_of_block, AreWithin}
 
 -- ---- tests
 
@@ -196,8 +197,8 @@ block_left gone node k (b ∷ bs) = elim (cases_Bool (is_at node k b)) [
 none_at : (i : ℕ) → byte_at [] i ≡ 0
 none_at i = refl
 
-pub bytes_left : (t : Bool) (o : Option Block) (f : Option Full) (i j : ℕ) → byte_at (bytes_of o) i ≡ byte_at (content_of f) j
-    → byte_at (bytes_of (cond t None o)) i ≡ byte_at (content_of (cond t None f)) j
+pub bytes_left : (t : Bool) (o : Option Block) (f : Option Full) (i j : ℕ) → byte_at (bytes_of_block o) i ≡ byte_at (content_of f) j
+    → byte_at (bytes_of_block (cond t None o)) i ≡ byte_at (content_of (cond t None f)) j
 bytes_left true o f i j same = none_at i ∙ sym (none_at j)
 bytes_left false o f i j same = same
 

@@ -3,18 +3,19 @@ use Rattle.std.proofs.Common.{◌≡◌, ◌≤◌, ◌<◌, ◌^◌, ℕ, Optio
 use Rattle.std.specs.List.{AllByRecursion}
 use Rattle.fuse_init.specs.declared.profile.Profile.TheVariants.{Plain}
 use Rattle.fuse_init.specs.Profile.{terms}
-use Rattle.fuse_tree.specs.State.{State, Tree, profile_for}
-use Rattle.fuse_tree.specs.Rows.{rowed}
+use Rattle.fuse_rows.specs.Rows.{profile_for}
+use Rattle.fuse_tree.specs.State.{State, Tree}
+use Rattle.fuse_tree.specs.Rowed.{rowed}
 use Rattle.fuse_store_tables.specs.Content.{Content, Answer, value_at}
-use Rattle.fuse_store_tables.specs.Opening.{IsMetaFrom, IsOld, under, marked, migrated}
+use Rattle.fuse_store_tables.specs.Opening.{IsMetaFrom, IsOld, under, as_version_2, migrated}
 use Rattle.fuse_store_tree.specs.Fits.{KeepsRecord}
 use Rattle.fuse_store_tree.specs.Store.{FitsSettings}
 use Rattle.fuse_store_tree.specs.inner.Reading.{Describes}
 use Rattle.fuse_store_tree.specs.Holding.{TreesAreInOrder, store_of}
-use Rattle.fuse_store.specs.Opening.{DescribesFirst, first_counters, First, opened_for}
+use Rattle.fuse_store.specs.Opening.{DescribesFirst, first_meta_rows, First, opened_for}
 use Rattle.fuse_store.proofs.Fitting.{counters_with, nodes_length, settings_low, all_less, above_for}
 
-meta_old : (s : State) → Tree s → length s.nodes ≤ 65536 → FitsSettings (rowed s).settings → IsMetaFrom Plain 1 10 (first_counters (rowed s).counters (rowed s).settings)
+meta_old : (s : State) → Tree s → length s.nodes ≤ 65536 → FitsSettings (rowed s).settings → IsMetaFrom Plain 1 10 (first_meta_rows (rowed s).counters (rowed s).settings)
 unfolding rowed
 meta_old s tree few fits =
     let low = settings_low s fits in
@@ -69,7 +70,7 @@ pub describes_migrated : (tree : State) (answers : List Answer) (c : Content) �
     → Describes (store_of (opened_for (First tree answers))) (migrated c)
 unfolding rowed
 describes_migrated tree answers c plain told = record {
-  counters = ap (λ cs. (marked (record c { counters = cs })).counters) told.counters
+  counters = ap (λ cs. (as_version_2 (record c { counters = cs })).counters) told.counters
       ∙ ap (λ o. counters_with o tree 1) (sym plain);
   nodes = told.nodes;
   entries = told.entries;

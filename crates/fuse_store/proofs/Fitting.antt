@@ -7,12 +7,13 @@ use Rattle.sqlite.specs.Effect.{Database}
 use Rattle.fuse_init.specs.declared.profile.Profile.TheVariants.{Plain, Everyday}
 use Rattle.fuse_init.specs.Profile.{Terms, terms}
 use Rattle.fuse_init.specs.declared.settings.Settings.{Settings}
-use Rattle.fuse_tree.specs.State.{State, Node, Tree, IsNode, IsEntry, IsHandle, FitsCapacity, profile_for, profile_of, terms_of, used_of}
-use Rattle.fuse_tree.specs.Rows.{rowed, full_of}
+use Rattle.fuse_rows.specs.Rows.{profile_for}
+use Rattle.fuse_tree.specs.State.{State, Node, Tree, IsNode, IsEntry, IsHandle, FitsCapacity, profile_of, terms_of, used_of}
+use Rattle.fuse_tree.specs.Rowed.{rowed, full_of}
 use Rattle.fuse_store_tables.specs.Content.{Content, Counter, Kept, value_at, node_key, fh_of, cookie_of}
-use Rattle.fuse_store_tables.specs.Opening.{IsMetaFrom, MetaOf, profile_in, AllBelow, AreAbove, LotsAreBelow, IsFit, IsSecond}
+use Rattle.fuse_store_tables.specs.Opening.{IsMetaFrom, MetaOf, profile_in, AllBelow, AreAbove, LotsAreBelow, IsFitContent, IsSecond}
 use Rattle.fuse_store_tree.specs.Fits.{KeepsRecord}
-use Rattle.fuse_store_tree.specs.Store.{FitsSettings, counters_of, in_order, is_there, minor_of, readahead_of, flags_of}
+use Rattle.fuse_store_tree.specs.Store.{FitsSettings, meta_rows_of, in_order, is_there, minor_of, readahead_of, flags_of}
 use Rattle.fuse_store_tree.specs.inner.Reading.{Describes}
 use Rattle.fuse_store_tree.specs.Holding.{Holding, HeldFor, AreBelow, TreesAreInOrder, store_of}
 
@@ -78,7 +79,7 @@ settings_low s fits = record {
 
 -- its counters, where the state has this capacity
 abbrev pub counters_with : Option ℕ → State → ℕ → List Counter
-counters_with o s next = counters_of (record (rowed s).counters { room = option_map (λ c. record { capacity = c; used = used_of s }) o }) (rowed s).settings next
+counters_with o s next = meta_rows_of (record (rowed s).counters { room = option_map (λ c. record { capacity = c; used = used_of s }) o }) (rowed s).settings next
 
 meta_plain : (s : State) → Tree s → length s.nodes ≤ 65536 → FitsSettings (rowed s).settings → (next : ℕ) → next ≤ 2 ^ 62
     → IsMetaFrom Plain 1 11 (counters_with None s next)
@@ -227,7 +228,7 @@ meta_for y c tree next told =
     (meta_of y.tree tree told.settings c y.next_lot next y.tree.capacity refl))
 
 pub fit_for : TreesAreInOrder → (y : Holding) (c : Content) → Tree y.tree → AreBelow y.next_lot y.lots → y.next_lot ≤ 2 ^ 62 → Describes (store_of y) c
-    → IsFit c
+    → IsFitContent c
 fit_for ordered y c tree below next told = record {
   version = ap (λ cs. value_at 1 (record c { counters = cs })) told.counters;
   meta = meta_for y c tree next told;

@@ -3,17 +3,18 @@ use Rattle.std.proofs.Common.{◌≡◌, ◌++◌, ℕ, Bool, List, [], ◌∷�
 use Rattle.std.proofs.Common.{refl, sym, ap, subst, ◌∙◌}
 use Rattle.std.specs.Prelude.{false}
 use Rattle.sqlite.specs.State.{State}
-use Rattle.fuse_tree.specs.Rows.{rowed}
-use Rattle.fuse_keeper.specs.Model.{IsRowed}
+use Rattle.fuse_tree.specs.Rowed.{rowed}
+use Rattle.fuse_tree.specs.State.{Tree, profile_of}
+use Rattle.fuse_keeper.specs.Model.{IsOfGoodState}
 use Rattle.fuse_keeper.specs.declared.keeper.Done.{Done}
 use Rattle.fuse_keeper.specs.declared.fault.StoreFault.{StoreFault}
 use Rattle.fuse_keeper.specs.History.{Entry, is_in, grown}
-use Rattle.fuse_keeper.specs.Stands.{Records, Content, AreThese, PerformedBy, without}
+use Rattle.fuse_keeper.specs.Stands.{Records, KeeperContent, AreThese, PerformedBy, without}
 use Rattle.fuse_keeper.specs.Taking.{TakesAll}
 use Rattle.fuse_keeper.specs.KeeperState.{Performs, ActsOn, KeepsOthers, KeepsLots, LeavesGroup, LeavesActed, AreHeldOrTaken}
 use Rattle.fuse_keeper.specs.Lots.{Lots, SameLots, RecordsUnder, IsFree}
 use Rattle.fuse_init.specs.declared.profile.Profile.{Profile}
-use Rattle.fuse_tree.specs.Plan.{RowsTellState}
+use Rattle.fuse_tree.specs.Laws.{RowsTellState}
 use Rattle.fuse_store_tables.specs.Moves.{ServesAs}
 use Rattle.fuse_store_tree.specs.Store.{records_of}
 use Rattle.fuse_store_tree.specs.Holding.{Holding, ReportsAfter, lots_of}
@@ -21,13 +22,18 @@ use Rattle.fuse_store_tree.specs.Group.{performed, all_dones, lot_for}
 use Rattle.fuse_store_tree.specs.declared.meta.Meta.{Meta}
 use Rattle.fuse_store_tree.specs.Knowing.{HeldForKnown, ReportsKnown}
 use Rattle.fuse_store_tree.specs.Lots.{lots_in, LotsAreSame}
-use Rattle.fuse_store_tree.specs.Performing.{OneHolding, content_of, HoldingStands, CallsPerform}
+use Rattle.fuse_store_tree.specs.Performing.{OneHolding, keeper_content_of, HoldingStands, CallsPerform}
 use Rattle.fuse_tree.specs.TheTree.{tree_of}
 use Rattle.fuse_store.specs.TableState.{IsOf, HoldsIn, table_told}
 use Rattle.fuse_store.proofs.Serving.{Settled, stands_on, moved, holds_at, known_rests, leaves_both, leaves_either}
 
 pub its_own : (y : Holding) → IsOf y (rowed y.tree) (records_of y.kept)
 its_own y = record { rows_are = refl; records_are = λ i. refl }
+
+-- a group keeps the profile
+keeps_profile : (p : Profile) → CallsPerform p → (lot : Option ℕ) (ids : List ℕ) (es : List Entry) (y : Holding) → Tree y.tree → profile_of y.tree ≡ p
+    → profile_of (performed lot ids es y).tree ≡ p
+keeps_profile p law lot ids es y tree own = (law.good lot ids es y (record { tree = tree; profile = own })).profile
 
 module _ (p : Profile) (one : OneHolding) (law : CallsPerform p) (m n : Option Meta) (lot : Option ℕ) (ids : List ℕ) (es : List Entry) (a b : State)
     {X : Type 0} (x : X) (serves : ServesAs {E = StoreFault} (HeldForKnown m) (λ y. HeldForKnown n (performed lot ids es y)) a b (Ok x)) where
@@ -38,11 +44,12 @@ module _ (p : Profile) (one : OneHolding) (law : CallsPerform p) (m n : Option M
       let z = performed lot ids es y in
       let all = law.group lot ids es y s h t so.held.rests.holds.tree within each (stands_on p y so.rows so.records s h t so.held.is_of so.stands) in
       let same : dones ≡ all_dones lot ids es y = told clean y (known_rests so.held) in
-      subst (λ ds. PerformedBy (tree_of p) (HoldsIn n b) (record { state = s; history = h; settled = t }) es ds) (sym same) (record {
+      subst (λ ds. PerformedBy (tree_of p) (HoldsIn p n b) (record { state = s; history = h; settled = t }) es ds) (sym same) (record {
         stands = record {
           rows = all.stands.rows;
           records = all.stands.records;
-          held = holds_at one n b z all.stands.rows all.stands.records (serves.done clean y (known_rests so.held))
+          held = holds_at one n b z all.stands.rows all.stands.records
+              (keeps_profile p law lot ids es y so.held.rests.holds.tree so.held.profile) (serves.done clean y (known_rests so.held))
               (record { rows_are = all.stands.held.0; records_are = all.stands.held.1 });
           stands = all.stands.stands;
         };
@@ -52,7 +59,7 @@ module _ (p : Profile) (one : OneHolding) (law : CallsPerform p) (m n : Option M
 
   pub others_so : {memory : Type 0} → RowsTellState → (now : Option ℕ) (was is : Bool)
       → KeepsOthers (table_told p memory m a lot was) (table_told p memory n b now is) ids es
-  unfolding IsRowed
+  unfolding IsOfGoodState
   others_so tell now was is clean rows records at is_rowed =
       let y = at.holding in
       let same = tell is_rowed.0 y.tree (sym is_rowed.2 ∙ at.is_of.rows_are) in
@@ -61,7 +68,8 @@ module _ (p : Profile) (one : OneHolding) (law : CallsPerform p) (m n : Option M
       record {
         rows = rowed z.tree;
         records = records_of z.kept;
-        held = holds_at one n b z (rowed z.tree) (records_of z.kept) after (its_own z);
+        held = holds_at one n b z (rowed z.tree) (records_of z.kept) (keeps_profile p law lot ids es y at.rests.holds.tree at.profile) after
+            (its_own z);
         rowed = (z.tree, law.good lot ids es y (subst (tree_of p).IsGood same is_rowed.1), refl);
         others = λ i off. law.others lot ids es y i off ∙ ap (λ o. if is_in ids i then None else o) (sym (at.is_of.records_are i));
       }
@@ -75,8 +83,9 @@ module _ (p : Profile) (one : OneHolding) (law : CallsPerform p) (m n : Option M
       record {
         rows = rowed z.tree;
         records = records_of z.kept;
-        held = holds_at one n b z (rowed z.tree) (records_of z.kept) (serves.done clean y (known_rests at)) (its_own z);
-        taken = subst (λ ds. TakesAll (tree_of p) (record { rows = rows; records = without ids records }) es (content_of p z) ds) (sym same)
+        held = holds_at one n b z (rowed z.tree) (records_of z.kept) (keeps_profile p law lot ids es y at.rests.holds.tree at.profile)
+            (serves.done clean y (known_rests at)) (its_own z);
+        taken = subst (λ ds. TakesAll (tree_of p) (record { rows = rows; records = without ids records }) es (keeper_content_of p z) ds) (sym same)
             (law.acts lot ids es y rows records at.rests.holds.tree (at.is_of.rows_are, at.is_of.records_are));
       }
 
@@ -92,10 +101,11 @@ leaves_group p one law m n lot ids es a b r settled serves now was is s h t so w
     let behind : HoldingStands p z s (grown h es) t =
     moved p all.stands.rows (rowed z.tree) all.stands.records (records_of z.kept) s (grown h es) t (sym all.stands.held.0) (λ i. sym (all.stands.held.1 i))
     all.stands.stands in
-    leaves_either one m n (performed lot ids es) a b settled serves.survives y (known_rests so.held) p now is s s h (grown h es) t t before behind
+    leaves_either one m n (performed lot ids es) a b settled serves.survives y (known_rests so.held) p so.held.profile
+    (keeps_profile p law lot ids es y so.held.rests.holds.tree so.held.profile) now is s s h (grown h es) t t before behind
 
 -- what is held after entries that are taken may be named anew
-led_same : (p : Profile) (before : Content (tree_of p)) (es : List Entry) (old new : Content (tree_of p)) (dones : List Done)
+led_same : (p : Profile) (before : KeeperContent (tree_of p)) (es : List Entry) (old new : KeeperContent (tree_of p)) (dones : List Done)
     → AreThese (tree_of p) old.rows old.records new.rows new.records → TakesAll (tree_of p) before es old dones → TakesAll (tree_of p) before es new dones
 led_same p before [] old new [] same all = (same.0 ∙ all.0, λ i. same.1 i ∙ all.1 i)
 led_same p before [] old new (d ∷ dones) same all = absurd all
@@ -110,13 +120,14 @@ leaves_acted p one law m n lot ids es a b r settled serves now was is firm rows 
     let y = at.holding in
     let z = performed lot ids es y in
     let dones = all_dones lot ids es y in
-    let before : Content (tree_of p) = record { rows = rows; records = without ids records } in
-    let taken : TakesAll (tree_of p) before es (content_of p z) dones =
+    let before : KeeperContent (tree_of p) = record { rows = rows; records = without ids records } in
+    let taken : TakesAll (tree_of p) before es (keeper_content_of p z) dones =
     law.acts lot ids es y rows records at.rests.holds.tree (at.is_of.rows_are, at.is_of.records_are) in
-    leaves_both one m n (performed lot ids es) a b settled serves.survives y (known_rests at) p now is
+    leaves_both one m n (performed lot ids es) a b settled serves.survives y (known_rests at) p at.profile
+    (keeps_profile p law lot ids es y at.rests.holds.tree at.profile) now is
     (AreHeldOrTaken (tree_of p) (record { rows = rows; records = records }) ids es)
     (λ x q is_of. inl (is_of.rows_are ∙ sym at.is_of.rows_are, λ i. is_of.records_are i ∙ sym (at.is_of.records_are i)))
-    (λ x q is_of. inr (dones, led_same p before es (content_of p z) (record { rows = x; records = q }) dones (is_of.rows_are, is_of.records_are) taken))
+    (λ x q is_of. inr (dones, led_same p before es (keeper_content_of p z) (record { rows = x; records = q }) dones (is_of.rows_are, is_of.records_are) taken))
 
 -- ---- lots
 

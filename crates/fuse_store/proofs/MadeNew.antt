@@ -8,17 +8,18 @@ use Rattle.sqlite.specs.declared.error.Error.{Error}
 use Rattle.sqlite.proofs.StateLemmas.{survives_weaker}
 use Rattle.fuse_keeper.specs.declared.fault.StoreFault.{StoreFault}
 use Rattle.fuse_keeper.specs.Faults.{fault_of}
-use Rattle.fuse_tree.specs.declared.origin.Origin.{Origin}
+use Rattle.fuse_rows.specs.declared.origin.Origin.{Origin}
 use Rattle.fuse_init.specs.declared.profile.Profile.{Profile}
 use Rattle.fuse_init.specs.declared.profile.Profile.TheVariants.{Plain, Everyday}
-use Rattle.fuse_tree.specs.Bounds.{block_bytes}
-use Rattle.fuse_tree.specs.declared.rows.Full.{Full}
+use Rattle.fuse_rows.specs.Bounds.{block_bytes}
+use Rattle.fuse_rows.specs.declared.rows.Full.{Full}
 use Rattle.fuse_tree.specs.State.{root_node, new_store as new_tree, capacity_for, profile_of}
-use Rattle.fuse_tree.specs.Rows.{rowed, full_of, content_of}
-use Rattle.fuse_tree.specs.Plan.{NewStoreIsTree}
+use Rattle.fuse_rows.specs.Rows.{content_of}
+use Rattle.fuse_tree.specs.Rowed.{rowed, full_of}
+use Rattle.fuse_tree.specs.Laws.{NewStoreIsTree}
 use Rattle.fuse_store_tables.specs.Layout.{no_schema}
 use Rattle.fuse_store_tables.specs.Content.{HasWidths}
-use Rattle.fuse_store_tables.specs.Making.{IsBare, IsNew, new_store, root}
+use Rattle.fuse_store_tables.specs.Making.{IsBare, IsNew, new_content, root}
 use Rattle.fuse_store_tables.specs.Moves.{RestsAs, ServesAs, LeavesAlone}
 use Rattle.fuse_store_tables.specs.Refusing.{HasMetaTable, IsNameTaken}
 use Rattle.fuse_store_tree.specs.Store.{byte_at}
@@ -32,7 +33,7 @@ no_bytes f i j none true = rw none refl
 no_bytes f i j none false = refl
 
 new_told : (p : Profile) (capacity : ℕ) (from : Origin) → HasWidths (root from)
-    → Describes (store_of (new_holding p capacity from)) (new_store (capacity_for p capacity) from)
+    → Describes (store_of (new_holding p capacity from)) (new_content (capacity_for p capacity) from)
 unfolding rowed
 new_told Plain capacity from low = record {
   counters = refl;
@@ -83,7 +84,7 @@ made_new is_tree p capacity from fits low z d at = record {
     tree = is_tree p capacity from fits;
     below = tt;
     next = omega arith;
-    held = (new_store (capacity_for p capacity) from, k.holds, new_told p capacity from low);
+    held = (new_content (capacity_for p capacity) from, k.holds, new_told p capacity from low);
   };
 }
 

@@ -3,18 +3,19 @@ use Rattle.std.proofs.Common.{◌≡◌, ◌≤◌, ◌/◌, ◌%◌, ℕ, [], m
 use Rattle.std.proofs.Common.{refl, sym, ap, subst, arith, ◌∙◌}
 use Rattle.std.proofs.lemmas.List.{length-map}
 use Rattle.sqlite.specs.Effect.{Database}
-use Rattle.fuse_tree.specs.Bounds.{block_bytes}
+use Rattle.fuse_rows.specs.Bounds.{block_bytes}
 use Rattle.fuse_init.specs.declared.profile.Profile.{Profile}
 use Rattle.fuse_init.specs.declared.profile.Profile.TheVariants.{Plain, Everyday}
 use Rattle.fuse_init.specs.Profile.{terms}
-use Rattle.fuse_tree.specs.declared.rows.Room.{Room}
+use Rattle.fuse_rows.specs.declared.rows.Room.{Room}
 use Rattle.fuse_tree.specs.State.{State, Tree, terms_of, profile_of}
-use Rattle.fuse_tree.specs.Rows.{Rows, rowed, full_of, full_at, content_of}
+use Rattle.fuse_rows.specs.Rows.{Rows, full_at, content_of}
+use Rattle.fuse_tree.specs.Rowed.{rowed, full_of}
 use Rattle.fuse_tree.specs.Clearing as trees
 use Rattle.fuse_store_tables.specs.Content.{Content, Counter, Holds, node_key, is_unnamed, set_counter}
 use Rattle.fuse_store_tables.specs.Clearing.{cleared, lowered, unnamed_blocks, named, has_unnamed, counted_to, without_settings}
 use Rattle.fuse_store_tree.specs.Fits.{KeepsNode, IsWhole}
-use Rattle.fuse_store_tree.specs.Store.{counters_of, in_order, byte_at, bytes_of, rows_ends, AreWithin}
+use Rattle.fuse_store_tree.specs.Store.{meta_rows_of, in_order, byte_at, bytes_of_block, rows_ends, AreWithin}
 use Rattle.fuse_store_tree.specs.inner.Reading.{Describes}
 use Rattle.fuse_store_tree.specs.Holding.{Holding, HeldFor, TreesAreInOrder, store_of}
 use Rattle.fuse_store.specs.Mounting.{cleared_for}
@@ -42,7 +43,7 @@ module _ (clearing : trees.Clearing) (ordered : TreesAreInOrder) (y : Holding) (
       ≡ map (λ f. f.row) (filter trees.is_named_row (rowed y.tree).nodes)
   left_in_order =
       let law = clearing y.tree tree in
-      subst (λ (r : Rows). in_order node_key (map (λ f. f.row) r.nodes) ≡ map (λ f. f.row) r.nodes) law.1 (ordered (trees.cleared y.tree) law.0).nodes
+      subst (λ (r : Rows). in_order node_key (map (λ f. f.row) r.nodes) ≡ map (λ f. f.row) r.nodes) law.1 (ordered (trees.cleared_tree y.tree) law.0).nodes
 
   count_is : counted_to (named c.nodes) ≡ length (filter trees.is_named_row (rowed y.tree).nodes)
   unfolding rowed
@@ -62,27 +63,27 @@ module _ (clearing : trees.Clearing) (ordered : TreesAreInOrder) (y : Holding) (
 
   -- the counters where so many nodes are left, and so many blocks are freed
   abbrev counters_left : ℕ → ℕ → Option Room → List Counter
-  counters_left n k room = counters_of (record (rowed y.tree).counters { nodes = n; handles = 0; room = option_map (trees.room_less k) room }) None y.next_lot
+  counters_left n k room = meta_rows_of (record (rowed y.tree).counters { nodes = n; handles = 0; room = option_map (trees.room_less k) room }) None y.next_lot
 
   by_room : (room : Option Room)
       → (set_counter 5 (counted_to (named c.nodes)) (without_settings (set_counter 6 0 (lowered
-      (record c { counters = counters_of (record (rowed y.tree).counters { room = room }) (rowed y.tree).settings y.next_lot }))))).counters
+      (record c { counters = meta_rows_of (record (rowed y.tree).counters { room = room }) (rowed y.tree).settings y.next_lot }))))).counters
       ≡ counters_left (counted_to (named c.nodes)) (unnamed_blocks c.nodes) room
   by_room None = refl
   by_room (Some r) = refl
 
-  counters_are : (cleared c).counters ≡ counters_of (trees.cleared_rows (rowed y.tree)).counters None y.next_lot
+  counters_are : (cleared c).counters ≡ meta_rows_of (trees.cleared_rows (rowed y.tree)).counters None y.next_lot
   counters_are =
       ap (λ cs. (set_counter 5 (counted_to (named c.nodes)) (without_settings (set_counter 6 0 (lowered (record c { counters = cs }))))).counters) told.counters
       ∙ by_room (rowed y.tree).counters.room
       ∙ ap (λ n. counters_left n (unnamed_blocks c.nodes) (rowed y.tree).counters.room) count_is
       ∙ ap (λ k. counters_left (length (filter trees.is_named_row (rowed y.tree).nodes)) k (rowed y.tree).counters.room) freed_is
 
-  bytes_are : (node i : ℕ) → byte_at (bytes_of (Rattle.fuse_store_tables.specs.Blocks.block_at node (i / block_bytes) (cleared c).blocks)) (i % block_bytes)
+  bytes_are : (node i : ℕ) → byte_at (bytes_of_block (Rattle.fuse_store_tables.specs.Blocks.block_at node (i / block_bytes) (cleared c).blocks)) (i % block_bytes)
       ≡ byte_at (content_of (full_at (trees.cleared_rows (rowed y.tree)) node)) i
   unfolding rowed
   bytes_are node i =
-      ap (λ o. byte_at (bytes_of o) (i % block_bytes)) (block_left (has_unnamed c.nodes) node (i / block_bytes) c.blocks)
+      ap (λ o. byte_at (bytes_of_block o) (i % block_bytes)) (block_left (has_unnamed c.nodes) node (i / block_bytes) c.blocks)
       ∙ bytes_left (has_unnamed c.nodes node) _ (full_at (rowed y.tree) node) (i % block_bytes) i (told.bytes node i)
       ∙ sym (ap (λ f. byte_at (content_of f) i) (found_left y.tree node y.tree.next_node y.tree.nodes tree.shape.nodes tree.shape.nodes_rise
       ∙ ap (λ ns. cond (has_unnamed ns node) None (full_at (rowed y.tree) node)) (sym nodes_are)))

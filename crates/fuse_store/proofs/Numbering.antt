@@ -11,7 +11,7 @@ use Rattle.sqlite_trees.specs.Tree.{IsTable, rowid}
 use Rattle.sqlite.specs.declared.types.Value.TheVariants.{Int}
 use Rattle.sqlite_value.specs.Order.{value_cmp}
 use Rattle.sqlite_value.proofs.OrderLemmas.{value_cmp-Int}
-use Rattle.fuse_tree.specs.Rows.{Rows}
+use Rattle.fuse_rows.specs.Rows.{Rows}
 use Rattle.fuse_keeper.specs.History.{is_in}
 use Rattle.fuse_keeper.specs.Stands.{Records, CountsRecords}
 use Rattle.fuse_store_tables.specs.Content.{Kept, kept_key, kept_row, at_by, has_by}

@@ -6,7 +6,8 @@ use Rattle.std.specs.Prelude.{◌||◌}
 use Rattle.sqlite.specs.Tree.{Trees}
 use Rattle.sqlite.specs.State.{State, HasCleanDisk}
 use Rattle.fuse_init.specs.declared.profile.Profile.{Profile}
-use Rattle.fuse_tree.specs.Rows.{Rows, rowed}
+use Rattle.fuse_rows.specs.Rows.{Rows}
+use Rattle.fuse_tree.specs.Rowed.{rowed}
 use Rattle.fuse_keeper.specs.Stands.{Records}
 use Rattle.fuse_keeper.specs.KeeperState.{Called, Looked, AnswersNoMore}
 use Rattle.fuse_keeper.specs.declared.fault.StoreFault.{StoreFault}
@@ -154,7 +155,7 @@ went_wrong p one told m n f a b e still serves lot may failed = record {
 
 -- ---- a look
 
-module _ (one : OneHolding) (m : Option Meta) (a b : State) (settled : Settled a) (stays : IsTrue a.is_open
+module _ (p : Profile) (one : OneHolding) (m : Option Meta) (a b : State) (settled : Settled a) (stays : IsTrue a.is_open
     → a.may_leave a.committed.trees) {X : Type 0} (r : Result X StoreFault)
     (serves : ServesAs (HeldForKnown m) (HeldForKnown m) a b r) where
   mid : HasCleanDisk b → HasCleanDisk a
@@ -167,11 +168,11 @@ module _ (one : OneHolding) (m : Option Meta) (a b : State) (settled : Settled a
     | inr new ↦ new
   ]
 
-  pub whole_still : (rows : Rows) (records : Records) → HoldsIn m a rows records → HasCleanDisk b → (db : Trees) → b.may_leave db → LeavesSome db
-  whole_still rows records at clean db may = record { holding = at.holding; left = left_same at.holding (known_rests at) clean db may }
+  pub whole_still : (rows : Rows) (records : Records) → HoldsIn p m a rows records → HasCleanDisk b → (db : Trees) → b.may_leave db → LeavesSome p db
+  whole_still rows records at clean db may = record { holding = at.holding; left = left_same at.holding (known_rests at) clean db may; profile = at.profile }
 
   -- it might have left that before
-  pub left_before : (x : Rows) (q : Records) (rows : Rows) (records : Records) → HoldsIn m a rows records → MayLeave b x q → MayLeave a x q
+  pub left_before : (x : Rows) (q : Records) (rows : Rows) (records : Records) → HoldsIn p m a rows records → MayLeave p b x q → MayLeave p a x q
   left_before x q rows records at left =
       let y = at.holding in
       let same = one_left one left.these.some.holding y left.trees left.these.some.left (left_same y (known_rests at) left.clean left.trees left.may) in
@@ -180,16 +181,20 @@ module _ (one : OneHolding) (m : Option Meta) (a b : State) (settled : Settled a
         trees = a.committed.trees;
         may = stays at.rests.is_open;
         these = record {
-          some = record { holding = y; left = (a.now, at.rests.holds, sym (ap (λ d. d.trees) at.rests.committed)) };
+          some = record {
+            holding = y;
+            left = (a.now, at.rests.holds, sym (ap (λ d. d.trees) at.rests.committed));
+            profile = at.profile;
+          };
           is_of = subst (λ z. IsOf z x q) same left.these.is_of;
         };
       }
 
-  pub still_held : (f : X) → r ≡ Ok f → HasCleanDisk b → (rows : Rows) (records : Records) → HoldsIn m a rows records → HoldsIn m b rows records
+  pub still_held : (f : X) → r ≡ Ok f → HasCleanDisk b → (rows : Rows) (records : Records) → HoldsIn p m a rows records → HoldsIn p m b rows records
   still_held f is clean rows records at =
       let well : ServesAs {E = StoreFault} (HeldForKnown m) (HeldForKnown m) a b (Ok f) =
       subst (λ q. ServesAs (HeldForKnown m) (HeldForKnown m) a b q) is serves in
-      holds_at one m b at.holding rows records (well.done clean at.holding (known_rests at)) at.is_of
+      holds_at one m b at.holding rows records at.profile (well.done clean at.holding (known_rests at)) at.is_of
 
 module _ (p : Profile) (one : OneHolding) (told : LotsAreSame) (m : Option Meta) (a b : State) (settled : Settled a) (stays : IsTrue a.is_open → a.may_leave a.committed.trees) where
   pub looked_well : {memory : Type 0} {X : Type 0} → (x : X) → ServesAs {E = StoreFault} HeldFor HeldFor a b (Ok x) → StaysOpen {E = StoreFault} a b (Ok x)
@@ -199,13 +204,13 @@ module _ (p : Profile) (one : OneHolding) (told : LotsAreSame) (m : Option Meta)
       record {
         called = went_well p m m (λ z. z) a b x x known connection lot lot failed;
         may = λ clean f is. still_may m m lot a b (λ is_open. connection.was clean is_open) (λ is_open y at. known.done clean y at) f is;
-        same = λ clean rows records at. still_held one m a b settled stays (Ok x) known x refl clean rows records at;
+        same = λ clean rows records at. still_held p one m a b settled stays (Ok x) known x refl clean rows records at;
         lots = λ clean rows records at.
             let y = at.holding in
             same_both (lots_of lot y) (lots_in lot a.now) (lots_in lot b.now) (told lot y a.now at.rests.holds) (told lot y b.now
             (serves.done clean y at.rests).holds);
-        whole = λ rows records at was. whole_still one m a b settled stays (Ok x) known rows records at;
-        crash = λ x' q rows records at left. left_before one m a b settled stays (Ok x) known x' q rows records at left;
+        whole = λ rows records at was. whole_still p one m a b settled stays (Ok x) known rows records at;
+        crash = λ x' q rows records at left. left_before p one m a b settled stays (Ok x) known x' q rows records at left;
       }
 
   pub looked_wrong : {memory : Type 0} {X : Type 0} → (e : StoreFault) → ServesAs {X = X} HeldFor HeldFor a b (Err e) → StaysOpen {X = X} a b (Err e)
@@ -218,6 +223,6 @@ module _ (p : Profile) (one : OneHolding) (told : LotsAreSame) (m : Option Meta)
         may = failed_may p m m (λ z. z) a b e (λ y k. k) known connection lot failed true;
         same = tt;
         lots = tt;
-        whole = λ rows records at was. whole_still one m a b settled stays (Err e) known rows records at;
-        crash = λ x' q rows records at left. left_before one m a b settled stays (Err e) known x' q rows records at left;
+        whole = λ rows records at was. whole_still p one m a b settled stays (Err e) known rows records at;
+        crash = λ x' q rows records at left. left_before p one m a b settled stays (Err e) known x' q rows records at left;
       }

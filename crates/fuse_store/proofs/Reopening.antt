@@ -1,21 +1,25 @@
 -- What an open finds, and what it makes of it.
-use Rattle.std.proofs.Common.{◌≡◌, inl, inr, true, false, not, Bool, Ok, Err, Result, OnOk, IfOk, IsTrue, Some, Option, ℕ, codes, refl, sym, ap, subst, arith, ◌∙◌}
+use Rattle.std.proofs.Common.{◌≡◌, inl, inr, true, false, not, Bool, Ok, Err, Result, OnOk, IfOk, IfErr, IsTrue, Some, Option, ℕ, codes, refl, sym, ap, subst, arith, ◌∙◌}
 use Rattle.std.specs.Option.{is_some}
 use Rattle.std.specs.Ordering.{is_eq, nat_cmp}
 use Rattle.std.specs.Prelude.{if◌then◌else◌}
 use Rattle.sqlite.specs.Schema.{Schema}
 use Rattle.fuse_init.specs.declared.profile.Profile.{Profile}
-use Rattle.fuse_tree.specs.State.{profile_of, profile_for}
+use Rattle.fuse_rows.specs.Rows.{profile_for}
+use Rattle.fuse_tree.specs.State.{profile_of}
 use Rattle.sqlite.specs.Effect.{Database}
-use Rattle.sqlite.specs.State.{State, HasCleanDisk}
+use Rattle.sqlite.specs.State.{State, HasCleanDisk, Survives}
+use Rattle.sqlite.proofs.StateLemmas.{survives_weaker}
 use Rattle.sqlite_schema.specs.Names.{table_named}
 use Rattle.sqlite_tied.specs.Compute.{everything}
 use Rattle.fuse_store_tables.specs.Content.{Content, value_at}
-use Rattle.fuse_store_tables.specs.Moves.{RestsAs, LeavesAlone}
-use Rattle.fuse_store_tables.specs.Opening.{IsLaid, HasMeta, profile_in, IsStored, IsSecond, IsUnindexed, IsOpened, migrated, opened}
+use Rattle.fuse_store_tables.specs.Moves.{RestsAs, LeavesAlone, RollsBack, CommitsOnce}
+use Rattle.fuse_store_tables.specs.Opening.{IsLaid, HasMeta, profile_in, IsStored, IsSecond, IsUnindexed, IsOpened, IsWantedStore, IsWanted, migrated, opened}
 use Rattle.fuse_store_tree.specs.Holding.{Holding, TreesAreInOrder}
 use Rattle.fuse_store_tree.specs.inner.Laws.{still_survives}
-use Rattle.fuse_store.specs.Opening.{Stored, First, Second, Unindexed, StoredFor, OpenedFor, UnindexedFor, WasFor, opened_for}
+use Rattle.fuse_store.specs.Opening.{Stored, First, Second, Unindexed, StoredFor, OpenedFor, UnindexedFor, WasFor, WantedFor, IsWantedOf, IsUndone, opened_for}
+use Rattle.fuse_keeper.specs.declared.fault.StoreFault.{StoreFault}
+use Rattle.fuse_store_tables.specs.Faults.{IsOutside}
 use Rattle.fuse_store.proofs.Fitting.{fit_for, second_for, profile_is}
 use Rattle.fuse_store.proofs.FirstVersion.{old_for, describes_migrated}
 use Rattle.fuse_store.proofs.MadeNew.{no_transaction}
@@ -81,6 +85,26 @@ laid_for (First tree answers) d at = (
 laid_for (Second y) d at = (at.held.0, inl (inr at.held.1), profile_is y at.held.0 at.held.2)
 laid_for (Unindexed y) d at = (at.held.0, inr at.held.1, profile_is y at.held.0 at.held.2)
 
+read_profile : (ordered : TreesAreInOrder) (z : Stored) (d : Database) (at : StoredFor z d)
+    → profile_in (stored_read ordered z d at).content ≡ profile_of (opened_for z).tree
+unfolding stored_read laid_for
+read_profile ordered (First tree answers) d at = (laid_for (First tree answers) d at).2
+read_profile ordered (Second y) d at = (laid_for (Second y) d at).2
+read_profile ordered (Unindexed y) d at = (laid_for (Unindexed y) d at).2
+
+-- the same of a store that is wanted
+pub wanted_read : (wanted : Option Profile) → TreesAreInOrder → (z : Stored) (d : Database) → WantedFor wanted z d
+    → Reread (IsWantedStore wanted) IsOpened (WantedFor wanted) OpenedFor z d
+wanted_read wanted ordered z d at =
+    let r = stored_read ordered z d at.0 in
+    record { content = r.content; holds = (r.holds, subst (IsWanted wanted) (sym (read_profile ordered z d at.0)) at.1); made = r.made }
+
+pub sure_wanted : {X : Type 0} (wanted : Option Profile) (a : State) (r : Result X StoreFault)
+    → IfErr r (λ f. (z : Stored) → WasFor z a × IsWantedOf wanted z → IsOutside f)
+    → IfErr r (λ f. (z : Stored) → WasFor z a → IsWantedOf wanted z → IsOutside f)
+sure_wanted wanted a (Ok x) sure = tt
+sure_wanted wanted a (Err f) sure = λ z was is. sure z (was, is)
+
 pub profile_so : {E : Type 0} (a b : State) (r : Result Profile E) → ((z : Stored) → WasFor z a → RestsAs (StoredFor z) a)
     → (HasCleanDisk b → IfOk r (λ p. (c : Content) → RestsAs (IsLaid c) a → p ≡ profile_in c)) → HasCleanDisk b
     → IfOk r (λ p. (z : Stored) → WasFor z a → p ≡ profile_of (opened_for z).tree)
@@ -117,6 +141,21 @@ left_here s outside settled = record {
   autocommit = λ clean. outside;
   same = λ clean is_open. (is_open, refl, settled is_open);
 }
+
+-- what was committed is seen
+pub back_here : (s : State) → (IsTrue s.is_open → s.now ≡ s.committed) → RollsBack s s
+back_here s settled clean is_open = (settled is_open, refl)
+
+pub once_here : {X E : Type 0} (s : State) (e : E) → CommitsOnce {X = X} s s (Err e)
+once_here s e = record { trees = s.now.trees; survives = still_survives s _; made = tt }
+
+-- an opening that failed
+pub is_undone : {X E : Type 0} (a b : State) (e : E) → (a.in_transaction ≡ false → RollsBack a b) → CommitsOnce {X = X} a b (Err e) → IsUndone a b
+is_undone a b e back once = record { seen = back; trees = once.trees; once = once.survives }
+
+-- one that succeeded
+pub once_seen : {X E : Type 0} (a b : State) (x : X) → CommitsOnce {E = E} a b (Ok x) → Survives a b (λ db. db ≡ b.now.trees)
+once_seen a b x once = survives_weaker a b _ _ (λ clean db is. is ∙ once.made clean) once.survives
 
 pub not_busy : (m : Bool) → (m ≡ true → ⊥) → m ≡ false
 not_busy false busy = refl

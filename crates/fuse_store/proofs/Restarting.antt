@@ -2,7 +2,8 @@
 use Rattle.std.proofs.Common.{◌≡◌, ℕ, Bool, false, Option, None, sym, ap, ◌∙◌, IsTrue}
 use Rattle.sqlite.specs.State.{State, HasCleanDisk}
 use Rattle.fuse_init.specs.declared.profile.Profile.{Profile}
-use Rattle.fuse_tree.specs.Rows.{Rows, rowed}
+use Rattle.fuse_rows.specs.Rows.{Rows}
+use Rattle.fuse_tree.specs.Rowed.{rowed}
 use Rattle.fuse_keeper.specs.Stands.{Records}
 use Rattle.fuse_keeper.specs.KeeperState.{Reopened}
 use Rattle.fuse_keeper.specs.Lots.{SameLots}
@@ -21,30 +22,31 @@ use Rattle.fuse_store.proofs.Serving.{Settled, firm}
 was_for : (s : State) (y : Holding) → RestsAs (HeldFor y) s → WasFor (Second y) s
 was_for s y at = (at.is_open, at.autocommit, (s.now, at.holds, ap (λ d. d.trees) (sym at.committed)))
 
-retold : (m : Option Meta) (s : State) (y : Holding) (rows : Rows) (records : Records) → HoldsIn m s (rowed y.tree) (records_of y.kept) → IsOf y rows records
-    → HoldsIn m s rows records
-retold m s y rows records at is = record {
+retold : (p : Profile) (m : Option Meta) (s : State) (y : Holding) (rows : Rows) (records : Records) → HoldsIn p m s (rowed y.tree) (records_of y.kept) → IsOf y rows records
+    → HoldsIn p m s rows records
+retold p m s y rows records at is = record {
   holding = at.holding;
   rests = at.rests;
   alone = at.alone;
   is_of = record { rows_are = is.rows_are ∙ at.is_of.rows_are; records_are = λ i. is.records_are i ∙ at.is_of.records_are i };
   knows = at.knows;
+  profile = at.profile;
 }
 
 -- an opening that succeeded, which leaves it with this lot
-pub record Opened (n : Option Meta) (a b : State) (taken : Option ℕ) : Type 0 where
-  pub holds : HasCleanDisk b → (z : Stored) → WasFor z a → HoldsIn n b (rowed (opened_for z).tree) (records_of (opened_for z).kept)
+pub record Opened (p : Profile) (n : Option Meta) (a b : State) (taken : Option ℕ) : Type 0 where
+  pub holds : HasCleanDisk b → (z : Stored) → WasFor z a → HoldsIn p n b (rowed (opened_for z).tree) (records_of (opened_for z).kept)
   pub was : HasCleanDisk b → IsTrue a.is_open × (a.in_transaction ≡ false)
   pub honest : HasCleanDisk b → HasCleanDisk a
   pub lots : HasCleanDisk b → (z : Stored) → WasFor z a → SameLots (lots_of None (opened_for z)) (lots_in taken b.now)
 
 module _ (p : Profile) (one : OneHolding) (told : LotsAreSame) (m n : Option Meta) (a b : State) (settled : Settled b) (stays : IsTrue a.is_open
     → a.may_leave a.committed.trees) (lot taken : Option ℕ)
-    (failed now : Bool) (o : Opened n a b taken) (is_going : now ≡ false) where
-  some_left : HasCleanDisk b → (table_told p ⊥ m a lot failed).leaves_whole → LeavesSome a.committed.trees
+    (failed now : Bool) (o : Opened p n a b taken) (is_going : now ≡ false) where
+  some_left : HasCleanDisk b → (table_told p ⊥ m a lot failed).leaves_whole → LeavesSome p a.committed.trees
   some_left clean whole = whole (o.honest clean) a.committed.trees (stays (o.was clean).0)
 
-  opens : (clean : HasCleanDisk b) (whole : (table_told p ⊥ m a lot failed).leaves_whole) → HoldsIn n b (rowed (some_left clean whole).holding.tree)
+  opens : (clean : HasCleanDisk b) (whole : (table_told p ⊥ m a lot failed).leaves_whole) → HoldsIn p n b (rowed (some_left clean whole).holding.tree)
       (records_of (some_left clean whole).holding.kept)
   opens clean whole =
       let some = some_left clean whole in
@@ -52,7 +54,7 @@ module _ (p : Profile) (one : OneHolding) (told : LotsAreSame) (m n : Option Met
 
   pub reopened : {memory : Type 0} → Reopened (table_told p memory m a lot failed) (table_told p memory n b taken now)
   reopened = record {
-    same = λ clean rows records at. retold n b at.holding rows records (o.holds clean (Second at.holding) (was_for a at.holding at.rests)) at.is_of;
+    same = λ clean rows records at. retold p n b at.holding rows records (o.holds clean (Second at.holding) (was_for a at.holding at.rests)) at.is_of;
     held = λ clean whole. (rowed (some_left clean whole).holding.tree, records_of (some_left clean whole).holding.kept, opens clean whole);
     left = λ clean whole rows records at.
         let same = one_held n b _ _ _ _ at (opens clean whole) in

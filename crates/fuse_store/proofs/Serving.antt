@@ -3,8 +3,9 @@ use Rattle.std.proofs.Common.{◌≡◌, ◌⊎◌, ℕ, Bool, List, Option, Non
 use Rattle.sqlite.specs.Tree.{Trees}
 use Rattle.sqlite.specs.Effect.{Database}
 use Rattle.sqlite.specs.State.{State, HasCleanDisk, Survives}
-use Rattle.fuse_tree.specs.State.{State as TreeState}
-use Rattle.fuse_tree.specs.Rows.{Rows, rowed}
+use Rattle.fuse_tree.specs.State.{State as TreeState, profile_of}
+use Rattle.fuse_rows.specs.Rows.{Rows}
+use Rattle.fuse_tree.specs.Rowed.{rowed}
 use Rattle.fuse_keeper.specs.History.{History}
 use Rattle.fuse_keeper.specs.Stands.{Records, Stands, StandsForEither}
 use Rattle.fuse_keeper.specs.KeeperState.{IsFirm, Leaves}
@@ -39,7 +40,7 @@ pub rests_for : (m : Option Meta) (y : Holding) (s : State) → RestsAs (HeldFor
 rests_for m y s at = record { is_open = at.is_open; autocommit = at.autocommit; holds = at.holds.0; committed = at.committed }
 
 -- what is held, with what is known
-pub known_rests : {m : Option Meta} {s : State} {rows : Rows} {records : Records} → (at : HoldsIn m s rows records) → RestsAs (HeldForKnown m at.holding) s
+pub known_rests : {p : Profile} {m : Option Meta} {s : State} {rows : Rows} {records : Records} → (at : HoldsIn p m s rows records) → RestsAs (HeldForKnown m at.holding) s
 known_rests at = record {
   is_open = at.rests.is_open;
   autocommit = at.rests.autocommit;
@@ -47,10 +48,16 @@ known_rests at = record {
   committed = at.rests.committed;
 }
 
-pub holds_at : OneHolding → (m : Option Meta) (s : State) (y : Holding) (rows : Rows) (records : Records) → RestsAs (HeldForKnown m y) s → IsOf y rows records
-    → HoldsIn m s rows records
-holds_at one m s y rows records rests is =
-    record { holding = y; rests = rests_for m y s rests; alone = λ z held. one z y s.now held rests.holds.0; is_of = is; knows = rests.holds.1 }
+pub holds_at : {p : Profile} → OneHolding → (m : Option Meta) (s : State) (y : Holding) (rows : Rows) (records : Records) → profile_of y.tree ≡ p
+    → RestsAs (HeldForKnown m y) s → IsOf y rows records → HoldsIn p m s rows records
+holds_at one m s y rows records own rests is = record {
+  holding = y;
+  rests = rests_for m y s rests;
+  alone = λ z held. one z y s.now held rests.holds.0;
+  is_of = is;
+  knows = rests.holds.1;
+  profile = own;
+}
 
 -- where nothing is known, nothing is asked of it
 pub rests_unknown : (y : Holding) (s : State) → RestsAs (HeldFor y) s → RestsAs (HeldForKnown None y) s
@@ -107,7 +114,7 @@ left_now s y db settled rests may = (s.now, rests.holds, sym (settled db rests.i
 
 pub firm : (p : Profile) → OneHolding → (m : Option Meta) (s : State) (lot : Option ℕ) (failed : Bool) → Settled s → IsFirm (table_told p ⊥ m s lot failed)
 firm p one m s lot failed settled rows records at = (
-  λ clean db may. record { holding = at.holding; left = left_now s at.holding db settled at.rests may },
+  λ clean db may. record { holding = at.holding; left = left_now s at.holding db settled at.rests may; profile = at.profile },
   λ x r left.
       let z = left.these.some.holding in
       let same : z ≡ at.holding = one_left one z at.holding left.trees left.these.some.left
@@ -127,17 +134,17 @@ module _ (one : OneHolding) (m n : Option Meta) (f : Holding → Holding) (a b :
     | inr made ↦ inr (let (d, held, is) = made y rests in (d, held.0, is))
   ]
 
-  whole : HasCleanDisk b → (db : Trees) → b.may_leave db → LeavesSome db
-  whole clean db may = elim (left_either clean db may) [
-    | inl old ↦ record { holding = y; left = old }
-    | inr new ↦ record { holding = f y; left = new }
+  whole : (p : Profile) → profile_of y.tree ≡ p → profile_of (f y).tree ≡ p → HasCleanDisk b → (db : Trees) → b.may_leave db → LeavesSome p db
+  whole p own made_own clean db may = elim (left_either clean db may) [
+    | inl old ↦ record { holding = y; left = old; profile = own }
+    | inr new ↦ record { holding = f y; left = new; profile = made_own }
   ]
 
   -- what is so of both is so of whatever it leaves
-  pub leaves_both : (p : Profile) (lot : Option ℕ) (failed : Bool) (P : Rows → Records → Type 0) → ((x : Rows) (r : Records) → IsOf y x r → P x r)
+  pub leaves_both : (p : Profile) → profile_of y.tree ≡ p → profile_of (f y).tree ≡ p → (lot : Option ℕ) (failed : Bool) (P : Rows → Records → Type 0) → ((x : Rows) (r : Records) → IsOf y x r → P x r)
       → ((x : Rows) (r : Records) → IsOf (f y) x r → P x r) → Leaves (table_told p ⊥ n b lot failed) P
-  leaves_both p lot failed P before after = (
-    whole,
+  leaves_both p own made_own lot failed P before after = (
+    whole p own made_own,
     λ x r left.
         let z = left.these.some.holding in
         elim (left_either left.clean left.trees left.may) [
@@ -146,23 +153,23 @@ module _ (one : OneHolding) (m n : Option Meta) (f : Holding → Holding) (a b :
         ],
   )
 
-  pub leaves_either : (p : Profile) (lot : Option ℕ) (failed : Bool) (s s' : TreeState) (h h' : History) (t t' : List ℕ) → HoldingStands p y s h t
+  pub leaves_either : (p : Profile) → profile_of y.tree ≡ p → profile_of (f y).tree ≡ p → (lot : Option ℕ) (failed : Bool) (s s' : TreeState) (h h' : History) (t t' : List ℕ) → HoldingStands p y s h t
       → HoldingStands p (f y) s' h' t'
       → Leaves (table_told p ⊥ n b lot failed) (StandsForEither (tree_of p) (record { state = s; history = h; settled = t })
       (record { state = s'; history = h'; settled = t' }))
-  leaves_either p lot failed s s' h h' t t' before after =
-      leaves_both p lot failed (StandsForEither (tree_of p) (record { state = s; history = h; settled = t }) (record { state = s'; history = h'; settled = t' }))
+  leaves_either p own made_own lot failed s s' h h' t t' before after =
+      leaves_both p own made_own lot failed (StandsForEither (tree_of p) (record { state = s; history = h; settled = t }) (record { state = s'; history = h'; settled = t' }))
       (λ x r is. inl (stands_of p y x r s h t is before)) (λ x r is. inr (stands_of p (f y) x r s' h' t' is after))
 
 -- ---- what is held after a call
 
-pub kept_held : {X E : Type 0} → OneHolding → (m n : Option Meta) (f : Holding → Holding) (a b : State) (e : E) (rows : Rows) (records : Records)
+pub kept_held : {p : Profile} {X E : Type 0} → OneHolding → (m n : Option Meta) (f : Holding → Holding) (a b : State) (e : E) (rows : Rows) (records : Records)
     → ((y : Holding) → Knows m (rowed y.tree) → Knows n (rowed y.tree)) → ServesAs {X = X} (HeldForKnown m) (λ y. HeldForKnown n (f y)) a b (Err e)
-    → HasCleanDisk b → IsTrue b.is_open → HoldsIn m a rows records → HoldsIn n b rows records
+    → HasCleanDisk b → IsTrue b.is_open → HoldsIn p m a rows records → HoldsIn p n b rows records
 kept_held one m n f a b e rows records knows p clean is_open at =
     let y = at.holding in
     let now = p.kept clean is_open y (known_rests at) in
-    holds_at one n b y rows records (record {
+    holds_at one n b y rows records at.profile (record {
       is_open = now.is_open;
       autocommit = now.autocommit;
       holds = (now.holds.0, knows y at.knows);

@@ -1,10 +1,10 @@
 -- Any database after a start (defined by this project).
-use Rattle.std.specs.Prelude.{◌≡◌, ℕ, List, [], IsTrue, false}
+use Rattle.std.specs.Prelude.{◌≡◌, ℕ, List, [], IsTrue, false, None}
 use Rattle.sqlite.specs.Tree.{Trees}
 use Rattle.sqlite.specs.Effect.{Database}
-use Rattle.sqlite.specs.State.{State, HasCleanDisk}
+use Rattle.sqlite.specs.State.{State, HasCleanDisk, Survives}
 use Rattle.fuse_init.specs.declared.profile.Profile.{Profile}
-use Rattle.fuse_tree.specs.Rows.{rowed}
+use Rattle.fuse_tree.specs.Rowed.{rowed}
 use Rattle.fuse_keeper.specs.History.{History, after}
 use Rattle.fuse_keeper.specs.Stands.{Stands}
 use Rattle.fuse_keeper.specs.KeeperState.{KeeperState, StandsFor}
@@ -42,12 +42,14 @@ BegunFor z = HeldFor (begun_for z)
 
 -- the opening and the begin of a mount are one transaction
 abbrev pub FreshRefused : State → State → StoreFault → Type 0
-FreshRefused = FailsToOpen begun_for IsTabled
+FreshRefused = FailsToOpen begun_for IsTabled None
 
 -- all rows are kept but those that the begin of a mount deletes
 pub record KeepsNamed (old new : State) : Type 0 where
   pub begun : HasCleanDisk new → (c : Content) → RestsAs (IsStored c) old → RestsAs (IsBegun c) new
   pub ended : HasCleanDisk new → new.in_transaction ≡ false
+  -- a crash leaves what was there before, or what is seen now
+  pub once : Survives old new (λ db. db ≡ new.now.trees)
 
 -- these trees are those of a new store, where the database was blank, and those of the store after the begin of a mount, where it had one
 pub record LeavesFresh (new : NewStore) (s : State) (db : Trees) : Type 0 where

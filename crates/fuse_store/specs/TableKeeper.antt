@@ -1,5 +1,5 @@
 -- The state of a keeper over tables, by its connection (defined by this project).
-use Rattle.std.specs.Prelude.{◌↔◌, IsTrue, Result}
+use Rattle.std.specs.Prelude.{◌↔◌, IsTrue, Result, Some}
 use Rattle.sqlite_trees.specs.declared.store.Store.{Ghosts}
 use Rattle.sqlite.specs.State.{HasCleanDisk}
 use Rattle.sqlite.specs.Held.{Held, state}
@@ -8,9 +8,9 @@ use Rattle.fuse_keeper.specs.Model.{Model}
 use Rattle.fuse_keeper.specs.KeeperState.{KeeperState}
 use Rattle.fuse_store.specs.declared.table_keeper.TableKeeper.{TableKeeper}
 use Rattle.fuse_keeper.specs.declared.fault.StoreFault.{StoreFault}
-use Rattle.fuse_store_tables.specs.Moves.{IsSafe}
-use Rattle.fuse_store_tree.specs.Knowing.{IsSafeKnown}
-use Rattle.fuse_store_tree.specs.Holding.{HeldFor}
+use Rattle.fuse_store_tables.specs.Moves.{IsSafe, ServesAs}
+use Rattle.fuse_store_tree.specs.Knowing.{HeldForKnown, IsSafeKnown}
+use Rattle.fuse_store_tree.specs.Holding.{Holding, HeldFor}
 use Rattle.fuse_tree.specs.TheTree.{tree_of}
 use Rattle.fuse_store.specs.Opening.{OpenRefused}
 use Rattle.fuse_store.specs.TableState.{table_told}
@@ -40,5 +40,10 @@ pub record SharesMedium {S : Type 0} {M : Model} (g : Ghosts S) (conn : Held S) 
   pub memory : k.in_memory ↔ LiesInMemory g
 
 -- it is not opened again, and this connection is left
-abbrev pub Refuses : {P S : Type 0} → (g : Ghosts S) → TableKeeper P S g → StoreFault → Held S → Type 0
-Refuses g k f left = OpenRefused (state g k.look.conn) (state g left) f
+abbrev pub Refuses : {P S : Type 0} → (p : Profile) → (g : Ghosts S) → TableKeeper P S g → StoreFault → Held S → Type 0
+Refuses p g k f left = OpenRefused (Some p) (state g k.look.conn) (state g left) f
+
+-- a call is a whole transaction, which makes this of what the database holds, where what is known of `meta` is right
+abbrev pub TurnsHeld : {P S X E : Type 0} → (g : Ghosts S) → (old new : TableKeeper P S g) → (Holding → Holding) → Result X E → Type 0
+TurnsHeld g old new made r =
+    ServesAs (HeldForKnown old.look.known) (λ y. HeldForKnown new.look.known (made y)) (state g old.look.conn) (state g new.look.conn) r

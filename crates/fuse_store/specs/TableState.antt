@@ -3,7 +3,9 @@ use Rattle.std.specs.Prelude.{◌≡◌, ◌≤◌, ◌^◌, ℕ, ⊤, Bool, IsT
 use Rattle.sqlite.specs.Tree.{Trees}
 use Rattle.sqlite.specs.State.{State, HasCleanDisk}
 use Rattle.fuse_init.specs.declared.profile.Profile.{Profile}
-use Rattle.fuse_tree.specs.Rows.{Rows, rowed}
+use Rattle.fuse_rows.specs.Rows.{Rows}
+use Rattle.fuse_tree.specs.Rowed.{rowed}
+use Rattle.fuse_tree.specs.State.{profile_of}
 use Rattle.fuse_keeper.specs.Stands.{Records}
 use Rattle.fuse_keeper.specs.KeeperState.{KeeperState}
 use Rattle.fuse_keeper.specs.declared.fault.StoreFault.{StoreFault}
@@ -22,30 +24,33 @@ pub record IsOf (y : Holding) (rows : Rows) (records : Records) : Type 0 where
   pub rows_are : rows ≡ rowed y.tree
   pub records_are : (i : ℕ) → records i ≡ records_of y.kept i
 
--- outside a transaction, the tables hold these rows and these records, and nothing else; what is known of `meta` is right of them
-pub record HoldsIn (known : Option Meta) (s : State) (rows : Rows) (records : Records) : Type 0 where
+-- outside a transaction, the tables hold these rows and these records, and nothing else; what is known of `meta` is right of them,
+-- and they are of this profile
+pub record HoldsIn (p : Profile) (known : Option Meta) (s : State) (rows : Rows) (records : Records) : Type 0 where
   pub holding : Holding
   pub rests : RestsAs (HeldFor holding) s
   pub alone : (z : Holding) → HeldFor z s.now → z ≡ holding
   pub is_of : IsOf holding rows records
   pub knows : Knows known (rowed holding.tree)
+  pub profile : profile_of holding.tree ≡ p
 
--- the trees of a database that holds something
-pub record LeavesSome (db : Trees) : Type 0 where
+-- the trees of a database that holds something of this profile
+pub record LeavesSome (p : Profile) (db : Trees) : Type 0 where
   pub holding : Holding
   pub left : LeftAs (HeldFor holding) db
+  pub profile : profile_of holding.tree ≡ p
 
 -- the trees of a database that holds these
-pub record LeavesThese (db : Trees) (rows : Rows) (records : Records) : Type 0 where
-  pub some : LeavesSome db
+pub record LeavesThese (p : Profile) (db : Trees) (rows : Rows) (records : Records) : Type 0 where
+  pub some : LeavesSome p db
   pub is_of : IsOf some.holding rows records
 
 -- a crash now may leave these, where the disk returned what was written
-pub record MayLeave (s : State) (rows : Rows) (records : Records) : Type 0 where
+pub record MayLeave (p : Profile) (s : State) (rows : Rows) (records : Records) : Type 0 where
   pub clean : HasCleanDisk s
   pub trees : Trees
   pub may : s.may_leave trees
-  pub these : LeavesThese trees rows records
+  pub these : LeavesThese p trees rows records
 
 -- no lot was taken since the opening, and in what the tables hold no number is left for one
 pub record IsOutOfLots (known : Option Meta) (lot : Option ℕ) (s : State) : Type 0 where
@@ -63,13 +68,13 @@ MayAnswer known lot s _ = ⊥
 -- the store lies where its connection's does, and is honest and clean as that is
 abbrev pub table_told : (p : Profile) → Type 0 → Option Meta → State → Option ℕ → Bool → KeeperState (tree_of p)
 table_told p memory known s lot failed = record {
-  holds = HoldsIn known s;
+  holds = HoldsIn p known s;
   is_honest = HasCleanDisk s;
   is_clean = HasCleanDisk s × IsTrue s.is_open;
   in_memory = memory;
   has_failed = failed;
-  leaves_whole = HasCleanDisk s → (db : Trees) → s.may_leave db → LeavesSome db;
-  may_leave = MayLeave s;
+  leaves_whole = HasCleanDisk s → (db : Trees) → s.may_leave db → LeavesSome p db;
+  may_leave = MayLeave p s;
   may_answer = MayAnswer known lot s;
   lots = lots_in lot s.now;
 }

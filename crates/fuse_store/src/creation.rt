@@ -14,16 +14,10 @@ ghost use Rattle.fuse_store.specs.Creating.{new_holding, IsBlank, LeavesNew, IsT
 
 use fuse_init::Profile;
 use fuse_keeper::StoreFault;
-use fuse_store_tables::{make_store, try_store};
-use fuse_tree::{Origin, new_store_is_tree};
+use fuse_rows::Origin;
+use fuse_store_tables::{is_empty, make_store, try_store};
+use fuse_tree::new_store_is_tree;
 use sqlite::{Alter, Connection, Error};
-use sqlite_schema::schema::Schema;
-
-pub(crate) fn is_empty(schema: &Schema) -> bool
-    ensures { IsTrue result ↔ schema.now ≡ no_schema }
-{
-    schema.tables.is_empty() && schema.indexes.is_empty() && schema.views.is_empty()
-}
 
 // The blocks that a store of this profile has room for, where it has a bound.
 fn room_for(profile: Profile, capacity: u64) -> Option<u64>

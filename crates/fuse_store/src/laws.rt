@@ -4,7 +4,7 @@ ghost use Rattle.fuse_tree.specs.TheTree.{tree_of};
 
 use fuse_init::Profiled;
 use fuse_keeper::FileSystem;
-use fuse_tree::PlainTree;
+use fuse_lists::PlainTree;
 
 /// The tree is a sound model.
 pub(crate) fn tree_is_sound<P: Profiled>()

@@ -8,8 +8,8 @@ ghost use Rattle.fuse_tree.specs.State.{profile_of};
 ghost use Rattle.fuse_store_tables.specs.Content.{Content, LeftAs};
 ghost use Rattle.fuse_store_tables.specs.Faults.{IsOutside, IsPlain};
 ghost use Rattle.fuse_store_tables.specs.Moves.{RestsAs, ServesAs, StaysOpen, IsSafe};
-ghost use Rattle.fuse_store_tables.specs.Moves.{LeavesAlone, RollsBack};
-ghost use Rattle.fuse_store_tables.specs.Clearing.{IsBegun};
+ghost use Rattle.fuse_store_tables.specs.Moves.{Serves, LeavesAlone, RollsBack, CommitsOnce};
+ghost use Rattle.fuse_store_tables.specs.Clearing.{IsBegun, cleared};
 ghost use Rattle.fuse_store_tables.specs.Opening.{IsStored, IsLaid, HasMeta};
 ghost use Rattle.fuse_store_tables.specs.Saying.{Says, IsTabled, IsRefusal};
 ghost use Rattle.fuse_store_tree.specs.Holding.{HeldFor};
@@ -39,6 +39,9 @@ pub(crate) fn begin_mount<S: Alter>(conn: &mut Connection<S>) -> Result<(), Stor
     ensures refused { IfErr result (λ f. IsRefusal f
         → LeavesAlone (state S.Store conn.old) (state S.Store conn.new)) }
     ensures undone { OnErr result (RollsBack (state S.Store conn.old) (state S.Store conn.new)) }
+    // Of rows that no tree has, those of the last mount are deleted too. It commits once at most.
+    ensures rows { Serves cleared (state S.Store conn.old) (state S.Store conn.new) result }
+    ensures once { CommitsOnce (state S.Store conn.old) (state S.Store conn.new) result }
 {
     clearing();
     rows_in_order();
@@ -87,6 +90,11 @@ pub(crate) fn set_up_begun<S: Alter>(conn: &mut Connection<S>) -> Result<Profile
     ensures ended { HasCleanDisk (state S.Store conn.new)
         → (state S.Store conn.old).in_transaction ≡ false
         → (state S.Store conn.new).in_transaction ≡ false }
+    // Where the call fails, what was committed before is seen, whatever the database; and it commits
+    // once at most.
+    ensures undone { (state S.Store conn.old).in_transaction ≡ false
+        → OnErr result (RollsBack (state S.Store conn.old) (state S.Store conn.new)) }
+    ensures once { CommitsOnce (state S.Store conn.old) (state S.Store conn.new) result }
     ensures busy { (state S.Store conn.old).in_transaction ≡ true
         → IsErrAnd result (λ f. conn.new ≡ conn.old) }
 {

@@ -2,7 +2,7 @@
 ghost use Rattle.std.specs.Prelude.{◌≡◌, ◌<◌, ◌^◌};
 
 use fuse_init::Profile;
-use fuse_tree::{Origin, Owner};
+use fuse_rows::{Origin, Owner};
 use fuse_wire::Moment;
 
 /// The profile of a store, the blocks that it has room for where the profile sets a bound, and the

@@ -8,10 +8,11 @@ ghost use Rattle.fuse_tree.specs.State.{profile_of};
 ghost use Rattle.fuse_store_tables.specs.Content.{Content, LeftAs};
 ghost use Rattle.fuse_store_tables.specs.Faults.{IsOutside};
 ghost use Rattle.fuse_store_tables.specs.Moves.{RestsAs, ServesAs, IsSafe, LeavesAlone};
-ghost use Rattle.fuse_store_tables.specs.Opening.{IsStored, IsOpened, IsLaid, HasMeta};
+ghost use Rattle.fuse_store_tables.specs.Moves.{RollsBack, CommitsOnce};
+ghost use Rattle.fuse_store_tables.specs.Opening.{IsStored, IsOpened, IsLaid, HasMeta, IsWanted};
 ghost use Rattle.fuse_store_tables.specs.Saying.{Says, IsTabled, IsRefusal, IsToMigrate};
 ghost use Rattle.fuse_store.specs.Opening.{Stored, StoredFor, OpenedFor, WasFor};
-ghost use Rattle.fuse_store.specs.Opening.{opened_for};
+ghost use Rattle.fuse_store.specs.Opening.{opened_for, IsWantedOf, WantedFor};
 
 use fuse_init::Profile;
 use fuse_keeper::StoreFault;
@@ -20,12 +21,17 @@ use fuse_store_tree::rows_in_order;
 use sqlite::{Alter, Connection, Error};
 
 /// Opens a store: tests it, migrates a store of version 1 to version 2, and makes the index of
-/// version 2 where it is missing. The profile is the store's. The commit is its last call of the
-/// database.
-pub(crate) fn set_up_for<S: Alter>(conn: &mut Connection<S>) -> Result<Profile, StoreFault>
+/// version 2 where it is missing. The profile is the store's. Where one is wanted, a store of another
+/// is `Damaged`, and is left as it was. The commit is its last call of the database.
+pub(crate) fn set_up_for<S: Alter>(
+    conn: &mut Connection<S>,
+    wanted: Option<Profile>,
+) -> Result<Profile, StoreFault>
     ensures serves { ServesAs StoredFor OpenedFor (state S.Store conn.old) (state S.Store conn.new)
         result }
-    ensures fault { IsSafe StoredFor (state S.Store conn.old) (state S.Store conn.new) result }
+    ensures fault { IsSafe (WantedFor wanted) (state S.Store conn.old) (state S.Store conn.new)
+        result }
+    ensures wanted { IfOk result (IsWanted wanted) }
     ensures was { HasCleanDisk (state S.Store conn.new) → OnOk result
         (IsTrue (state S.Store conn.old).is_open
         × ((state S.Store conn.old).in_transaction ≡ false)) }
@@ -52,7 +58,7 @@ pub(crate) fn set_up_for<S: Alter>(conn: &mut Connection<S>) -> Result<Profile, 
         → IsTrue (state S.Store conn.new).is_open → (z : Stored)
         → WasFor z (state S.Store conn.old) → RestsAs (StoredFor z) (state S.Store conn.new)) }
     ensures sure { HasCleanDisk (state S.Store conn.new) → IfErr result (λ f. (z : Stored)
-        → WasFor z (state S.Store conn.old) → IsOutside f) }
+        → WasFor z (state S.Store conn.old) → IsWantedOf wanted z → IsOutside f) }
     // All rows are kept, those too that no tree has.
     ensures rows { ServesAs IsStored IsOpened (state S.Store conn.old) (state S.Store conn.new)
         result }
@@ -66,6 +72,11 @@ pub(crate) fn set_up_for<S: Alter>(conn: &mut Connection<S>) -> Result<Profile, 
     ensures ended { HasCleanDisk (state S.Store conn.new)
         → (state S.Store conn.old).in_transaction ≡ false
         → (state S.Store conn.new).in_transaction ≡ false }
+    // Where the call fails, what was committed before is seen, whatever the database; and it commits
+    // once at most.
+    ensures undone { (state S.Store conn.old).in_transaction ≡ false
+        → OnErr result (RollsBack (state S.Store conn.old) (state S.Store conn.new)) }
+    ensures once { CommitsOnce (state S.Store conn.old) (state S.Store conn.new) result }
     ensures busy { (state S.Store conn.old).in_transaction ≡ true
         → IsErrAnd result (λ f. conn.new ≡ conn.old) }
 {
@@ -76,5 +87,5 @@ pub(crate) fn set_up_for<S: Alter>(conn: &mut Connection<S>) -> Result<Profile, 
     if conn.schema().table_named(b"meta").is_none() {
         return Err(StoreFault::NotAStore);
     }
-    set_up(conn)
+    set_up(conn, wanted)
 }

@@ -4,7 +4,7 @@ ghost use Rattle.std.specs.Prelude.{IsErrAnd};
 ghost use Rattle.sqlite.specs.State.{HasCleanDisk, Survives};
 ghost use Rattle.sqlite.specs.Held.{state};
 ghost use Rattle.sqlite_schema.specs.Names.{table_named};
-ghost use Rattle.fuse_tree.specs.Rows.{rowed};
+ghost use Rattle.fuse_tree.specs.Rowed.{rowed};
 ghost use Rattle.fuse_keeper.specs.declared.fault.StoreFault.TheVariants.{NotAStore};
 ghost use Rattle.fuse_keeper.specs.KeeperState.{IsFirm, StandsFor};
 ghost use Rattle.fuse_keeper.specs.Lots.{SameLots};
@@ -19,17 +19,17 @@ ghost use Rattle.fuse_store_tree.specs.Store.{records_of};
 ghost use Rattle.fuse_store_tree.specs.Holding.{lots_of};
 ghost use Rattle.fuse_tree.specs.State.{profile_of};
 ghost use Rattle.fuse_store.specs.Creating.{IsBlank};
-ghost use Rattle.fuse_store.specs.Opening.{Stored, StoredFor, WasFor, KeepsRows, opened_for};
+ghost use Rattle.fuse_store.specs.Opening.{IsUndone, Stored, StoredFor, WasFor, KeepsRows, opened_for};
 ghost use Rattle.fuse_store.specs.Starting.{LeavesStarted, BeginsAfter, KeepsNamed};
 ghost use Rattle.fuse_store.specs.Starting.{LeavesFresh, begun_for, holding_for};
 ghost use Rattle.fuse_store.specs.Storing.{opening_fault};
 ghost use Rattle.fuse_store.specs.TableKeeper.{SharesMedium};
 ghost use Rattle.fuse_store.specs.StoreKeeper.{own_profile, own_conn, store_told};
 
-use crate::creation::is_empty;
 use crate::new_store::NewStore;
 use crate::store_keeper::StoreKeeper;
 use fuse_keeper::StoreFault;
+use fuse_store_tables::is_empty;
 use sqlite::{Alter, Connection, Error, ErrorCode};
 use std::alloc::Global;
 
@@ -107,6 +107,10 @@ pub fn open_or_create<S: Alter>(
     ensures ended { IfErr result (λ r. HasCleanDisk (state S.Store r.1)
         → (state S.Store conn).in_transaction ≡ false
         → (state S.Store r.1).in_transaction ≡ false) }
+    // Whatever the database is, what was committed before is seen, and a crash leaves that or one
+    // database as a whole.
+    ensures undone { IfErr result (λ r. (IsBlank (state S.Store conn) → ⊥)
+        → IsUndone (state S.Store conn) (state S.Store r.1)) }
     ensures busy { (state S.Store conn).in_transaction ≡ true
         → IsErrAnd result (λ r. r.1 ≡ conn) }
     // All rows of a store are kept, those too that no tree has.
@@ -188,6 +192,10 @@ pub fn open_fresh<S: Alter>(
     ensures ended { IfErr result (λ r. HasCleanDisk (state S.Store r.1)
         → (state S.Store conn).in_transaction ≡ false
         → (state S.Store r.1).in_transaction ≡ false) }
+    // Whatever the database is, what was committed before is seen, and a crash leaves that or one
+    // database as a whole.
+    ensures undone { IfErr result (λ r. (IsBlank (state S.Store conn) → ⊥)
+        → IsUndone (state S.Store conn) (state S.Store r.1)) }
     ensures busy { (state S.Store conn).in_transaction ≡ true
         → IsErrAnd result (λ r. r.1 ≡ conn) }
     // All rows of a store are kept but those that the begin of a mount deletes.

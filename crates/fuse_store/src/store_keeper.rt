@@ -3,7 +3,7 @@ ghost use Rattle.std.specs.Prelude.{◌≡◌, [], None, true, false, codes, IsT
 ghost use Rattle.sqlite.specs.State.{HasCleanDisk, Survives};
 ghost use Rattle.sqlite.specs.Held.{state};
 ghost use Rattle.sqlite_schema.specs.Names.{table_named};
-ghost use Rattle.fuse_tree.specs.Rows.{rowed};
+ghost use Rattle.fuse_tree.specs.Rowed.{rowed};
 ghost use Rattle.fuse_keeper.specs.declared.fault.StoreFault.TheVariants.{NotAStore};
 ghost use Rattle.fuse_keeper.specs.KeeperState.{IsFirm, StandsFor};
 ghost use Rattle.fuse_keeper.specs.Lots.{SameLots};
@@ -126,8 +126,8 @@ impl<S: Alter> StoreKeeper<S> {
         ensures going { IfOk result (λ k. (store_told k).has_failed ≡ false) }
         ensures firm { IfOk result (λ k. (store_told k).is_honest
             → IsFirm (store_told k)) }
-        ensures refused { IfErr result (λ r. OpenRefused (state S.Store conn) (state S.Store r.1)
-            r.0) }
+        ensures refused { IfErr result (λ r. OpenRefused None (state S.Store conn)
+            (state S.Store r.1) r.0) }
         ensures absent { (state S.Store conn).in_transaction ≡ false
             → table_named (state S.Store conn).now.schema (codes "meta") ≡ None
             → IsErrAnd result (λ r. r.0 ≡ NotAStore) }
@@ -145,7 +145,7 @@ impl<S: Alter> StoreKeeper<S> {
     {
         one_holding();
         lots_are_read();
-        match set_up_for(&mut conn) {
+        match set_up_for(&mut conn, None) {
             Ok(Profile::Plain) => Ok(StoreKeeper::Plain(TableKeeper {
                 look: TableLook {
                     alloc,

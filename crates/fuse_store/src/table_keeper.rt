@@ -2,7 +2,7 @@
 ghost use Rattle.std.specs.Prelude.{◌≡◌, ◌<◌, ◌^◌, None};
 ghost use Rattle.std.specs.Option.{ForSome};
 ghost use Rattle.sqlite.specs.Held.{state};
-ghost use Rattle.fuse_store_tree.specs.Looking.{look_fault};
+ghost use Rattle.fuse_store_tree.specs.Looking.{as_look_fault};
 
 use crate::creation::make_for;
 use crate::laws::tree_is_sound;
@@ -10,13 +10,14 @@ use crate::mount::{begin_mount, set_up_begun};
 use crate::setup::set_up_for;
 use fuse_answer::Answer;
 use fuse_init::{Profiled, Settings};
-use fuse_keeper::{Done, Keeper, Restart, StoreCounts, StoreFault};
+use fuse_keeper::{Done, Keeper, StoreCounts, StoreFault};
 use fuse_request::Request;
+use fuse_rows::{Origin, Room};
 use fuse_store_tree::{
     TableLook, answer_at_rest, calls_perform, counts_at_rest, lots_are_read, one_holding, perform,
     room_at_rest, settings_at_rest, size_at_rest,
 };
-use fuse_tree::{Origin, Room, rows_tell_state, serves_further};
+use fuse_tree::{rows_tell_state, serves_further};
 use fuse_wire::{Id, Moment};
 use sqlite::{Alter, Connection};
 use std::alloc::Global;
@@ -31,15 +32,15 @@ pub struct TableKeeper<P, S: Alter> {
     pub(crate) failed: bool,
     pub(crate) of: PhantomData<P>,
     ghost low: { ForSome lot (λ n. n < 2 ^ 62) },
-    ghost ready: { look_fault look.fault ≡ None },
+    ghost ready: { as_look_fault look.fault ≡ None },
 }
 
 impl<P: Profiled, S: Alter> TableKeeper<P, S> {
-    ghost use Rattle.std.specs.Prelude.{[], true, false, codes, IsTrue, IfOk, IfErr, IsErrAnd};
+    ghost use Rattle.std.specs.Prelude.{[], Some, true, false, codes, IsTrue, IfOk, IfErr, IsErrAnd};
     ghost use Rattle.std.specs.List.{sum_by};
     ghost use Rattle.sqlite.specs.State.{HasCleanDisk, Survives};
     ghost use Rattle.sqlite_schema.specs.Names.{table_named};
-    ghost use Rattle.fuse_tree.specs.Rows.{rowed};
+    ghost use Rattle.fuse_tree.specs.Rowed.{rowed};
     ghost use Rattle.fuse_keeper.specs.declared.fault.StoreFault.TheVariants.{NotAStore};
     ghost use Rattle.fuse_keeper.specs.KeeperState.{IsFirm, StandsFor, Looked, Reports};
     ghost use Rattle.fuse_keeper.specs.Lots.{SameLots};
@@ -52,10 +53,10 @@ impl<P: Profiled, S: Alter> TableKeeper<P, S> {
     ghost use Rattle.fuse_store_tables.specs.Refusing.{HasMetaTable};
     ghost use Rattle.fuse_store_tables.specs.Saying.{IsTabled};
     ghost use Rattle.fuse_store_tree.specs.Store.{records_of};
-    ghost use Rattle.fuse_store_tree.specs.Holding.{lots_of};
-    ghost use Rattle.fuse_tree.specs.State.{new_store};
+    ghost use Rattle.fuse_store_tree.specs.Holding.{HeldFor, lots_of};
+    ghost use Rattle.fuse_tree.specs.State.{new_store, profile_of};
     ghost use Rattle.fuse_store.specs.Creating.{IsBlank, IsTakenFault, LeavesNew, new_holding};
-    ghost use Rattle.fuse_store.specs.Opening.{Stored, WasFor};
+    ghost use Rattle.fuse_store.specs.Opening.{Stored, WasFor, OpenedFor};
     ghost use Rattle.fuse_store.specs.Opening.{OpenRefused, KeepsRows, opened_for};
     ghost use Rattle.fuse_store.specs.TableKeeper.{keeper_told, conn_of, SharesMedium};
     ghost use Rattle.fuse_store.specs.TableKeeper.{FaultsOutside};
@@ -80,6 +81,10 @@ impl<P: Profiled, S: Alter> TableKeeper<P, S> {
         ensures lots { IfOk result (λ k. (keeper_told P.PROFILE S.Store k).is_honest
             → IsTrue (state S.Store conn).is_open
             → SameLots (lots_of None (new_holding P.PROFILE capacity from)) (keeper_told P.PROFILE S.Store k).lots) }
+        // The next lot has the number 1.
+        ensures held { IfOk result (λ k. (keeper_told P.PROFILE S.Store k).is_honest
+            → IsTrue (state S.Store conn).is_open → RestsAs (HeldFor (new_holding P.PROFILE capacity from))
+            (state S.Store (conn_of S.Store k))) }
         ensures blank { IfOk result (λ k. IsBlank (state S.Store conn)) }
         ensures was { IfOk result (λ k. (keeper_told P.PROFILE S.Store k).is_honest
             → IsTrue (state S.Store conn).is_open) }
@@ -129,7 +134,7 @@ impl<P: Profiled, S: Alter> TableKeeper<P, S> {
     /// The store of a database. In one transaction a store of version 1 is migrated to version 2,
     /// and a missing index is made. A fault gives the connection back: `NotAStore` where `meta` or
     /// its row of the version is missing, then `Version`, then `Damaged`, as where a table is
-    /// missing or a view.
+    /// missing or a view, or where the store is of another profile. Then nothing is migrated.
     pub fn open(
         alloc: Global,
         mut conn: Connection<S>,
@@ -137,6 +142,13 @@ impl<P: Profiled, S: Alter> TableKeeper<P, S> {
         ensures holds { IfOk result (λ k. (keeper_told P.PROFILE S.Store k).is_honest → (z : Stored)
             → WasFor z (state S.Store conn) → (keeper_told P.PROFILE S.Store k).holds
             (rowed (opened_for z).tree) (records_of (opened_for z).kept)) }
+        // The next lot has the number that it had; in a store of version 1, which has none, 1.
+        ensures held { IfOk result (λ k. (keeper_told P.PROFILE S.Store k).is_honest → (z : Stored)
+            → WasFor z (state S.Store conn)
+            → RestsAs (OpenedFor z) (state S.Store (conn_of S.Store k))) }
+        // The store is of this profile.
+        ensures profile { IfOk result (λ k. (keeper_told P.PROFILE S.Store k).is_honest → (z : Stored)
+            → WasFor z (state S.Store conn) → profile_of (opened_for z).tree ≡ P.PROFILE) }
         ensures lots { IfOk result (λ k. (keeper_told P.PROFILE S.Store k).is_honest → (z : Stored)
             → WasFor z (state S.Store conn)
             → SameLots (lots_of None (opened_for z)) (keeper_told P.PROFILE S.Store k).lots) }
@@ -149,8 +161,8 @@ impl<P: Profiled, S: Alter> TableKeeper<P, S> {
         ensures going { IfOk result (λ k. (keeper_told P.PROFILE S.Store k).has_failed ≡ false) }
         ensures firm { IfOk result (λ k. (keeper_told P.PROFILE S.Store k).is_honest
             → IsFirm (keeper_told P.PROFILE S.Store k)) }
-        ensures refused { IfErr result (λ r. OpenRefused (state S.Store conn) (state S.Store r.1)
-            r.0) }
+        ensures refused { IfErr result (λ r. OpenRefused (Some P.PROFILE) (state S.Store conn)
+            (state S.Store r.1) r.0) }
         ensures absent { (state S.Store conn).in_transaction ≡ false
             → table_named (state S.Store conn).now.schema (codes "meta") ≡ None
             → IsErrAnd result (λ r. r.0 ≡ NotAStore) }
@@ -168,7 +180,7 @@ impl<P: Profiled, S: Alter> TableKeeper<P, S> {
     {
         one_holding();
         lots_are_read();
-        match set_up_for(&mut conn) {
+        match set_up_for(&mut conn, Some(P::PROFILE)) {
             Ok(_) => Ok(TableKeeper {
                 look: TableLook {
                     alloc,
@@ -246,7 +258,7 @@ impl<P: Profiled, S: Alter + Drop> Keeper for TableKeeper<P, S> {
     ghost use Rattle.fuse_tree.specs.TheTree.{tree_of};
     ghost use Rattle.std.specs.Prelude.{◌⊎◌, length, true, false, is_err, IfOk, IfErr, OnOk, OnErr};
     ghost use Rattle.sqlite.specs.State.{HasCleanDisk};
-    ghost use Rattle.fuse_tree.specs.Rows.{Rows};
+    ghost use Rattle.fuse_rows.specs.Rows.{Rows};
     ghost use Rattle.fuse_keeper.specs.KeeperState.{AnswersNoMore, Called, Looked};
     ghost use Rattle.fuse_keeper.specs.KeeperState.{ActsOn, IsFirm, Performs, Reports};
     ghost use Rattle.fuse_keeper.specs.KeeperState.{KeepsLots, KeepsOthers, LeavesGroup, LeavesActed};
@@ -254,11 +266,15 @@ impl<P: Profiled, S: Alter + Drop> Keeper for TableKeeper<P, S> {
     ghost use Rattle.fuse_keeper.specs.Group.{entries_of, ids_of};
     ghost use Rattle.fuse_keeper.specs.Stands.{Records, CountsRecords};
     ghost use Rattle.fuse_store_tables.specs.Faults.{IsPlain};
+    ghost use Rattle.fuse_store_tables.specs.Clearing.{cleared};
     ghost use Rattle.fuse_store_tables.specs.Moves.{LeavesAlone, OnlyReads, RollsBack};
-    ghost use Rattle.fuse_store_tree.specs.Committing.{CommitsOnce};
+    ghost use Rattle.fuse_store_tables.specs.Moves.{Serves, ServesAs, CommitsOnce};
+    ghost use Rattle.fuse_store_tree.specs.Group.{performed};
+    ghost use Rattle.fuse_store_tree.specs.Holding.{HeldFor};
+    ghost use Rattle.fuse_store.specs.Mounting.{cleared_for};
     ghost use Rattle.fuse_store_tables.specs.Saying.{IsRefusal};
     ghost use Rattle.fuse_store.specs.TableKeeper.{keeper_told, conn_of};
-    ghost use Rattle.fuse_store.specs.TableKeeper.{FaultsOutside, FaultsOutsideWithLot};
+    ghost use Rattle.fuse_store.specs.TableKeeper.{FaultsOutside, FaultsOutsideWithLot, TurnsHeld};
     ghost use Rattle.fuse_store.specs.inner.Laws.{one_held};
 
     ghost model = { tree_of P.PROFILE };
@@ -317,6 +333,10 @@ impl<P: Profiled, S: Alter + Drop> Keeper for TableKeeper<P, S> {
         // It commits once at most: after a crash all of it is seen, or nothing.
         ensures once { CommitsOnce (state S.Store (conn_of S.Store self.old))
             (state S.Store (conn_of S.Store self.new)) result }
+        // The next lot has the number after the one that the call takes, if it takes one.
+        ensures held { TurnsHeld S.Store self.old self.new (performed
+            (keeper_told P.PROFILE S.Store self.old).lots.current (ids_of settled.now)
+            (entries_of group.now)) result }
     {
         one_holding();
         calls_perform::<P>();
@@ -357,6 +377,14 @@ impl<P: Profiled, S: Alter + Drop> Keeper for TableKeeper<P, S> {
             (state S.Store (conn_of S.Store self.new))) }
         ensures undone { OnErr result (RollsBack (state S.Store (conn_of S.Store self.old))
             (state S.Store (conn_of S.Store self.new))) }
+        ensures once { CommitsOnce (state S.Store (conn_of S.Store self.old))
+            (state S.Store (conn_of S.Store self.new)) result }
+        // The next lot has the number that it had.
+        ensures held { ServesAs HeldFor (λ y. HeldFor (cleared_for y))
+            (state S.Store (conn_of S.Store self.old)) (state S.Store (conn_of S.Store self.new)) result }
+        // Of rows that no tree has, those of the last mount are deleted too.
+        ensures rows { Serves cleared (state S.Store (conn_of S.Store self.old))
+            (state S.Store (conn_of S.Store self.new)) result }
     {
         one_holding();
         lots_are_read();
@@ -469,22 +497,4 @@ impl<P: Profiled, S: Alter + Drop> Keeper for TableKeeper<P, S> {
     ghost counted = { record { none = λ k. tt; then = λ a b c m n before after. tt } };
 
     ghost log = { record { none = λ k. tt; onward = λ a b c before after one two. tt } };
-}
-
-impl<P: Profiled, S: Alter + Drop> Restart for TableKeeper<P, S> {
-    ghost use Rattle.fuse_store.specs.TableKeeper.{Refuses};
-
-    type Rest = Connection<S>;
-
-    ghost refuses = { Refuses S.Store };
-
-    /// Opens the same connection again, without a lot number.
-    fn restart(self) -> Result<TableKeeper<P, S>, (StoreFault, Connection<S>)> {
-        one_holding();
-        lots_are_read();
-        match TableKeeper::open(self.look.alloc, self.look.conn) {
-            Ok(keeper) => Ok(keeper),
-            Err((fault, conn)) => Err((fault, conn)),
-        }
-    }
 }

@@ -20,7 +20,7 @@ use Rattle.fuse_store.specs.declared.table_keeper.TableKeeper.{TableKeeper}
 use Rattle.fuse_store.specs.TableKeeper.{conn_of}
 use Rattle.fuse_store_files.specs.Files.{TreesTell}
 use Rattle.fuse_store_files.specs.Left.{own_store, TellsOf, LeavesWhole, LeavesOf, Closes}
-use Rattle.fuse_store_files.specs.inner.Connections.{Ends, IsClosedAs, IsCopiedTo, IsUncopied}
+use Rattle.fuse_store_files.specs.inner.Connections.{EndsAsStore, IsClosedAs, IsCopiedTo, IsUncopied}
 use Rattle.fuse_store_files.proofs.Finding.{holds_more}
 
 -- these trees are a store that a crash of the keeper could leave
@@ -49,16 +49,16 @@ module _ {P D : Type 0} {g : Ghosts D} (p : Profile) (keeper : TableKeeper P (Fi
   more : LeavesWhole p keeper → HasCleanDisk (file_state conn) → (db : Trees) → (file_state conn).may_leave db → TellsOf p keeper db
   more whole clean = tells p ⊥ keeper.look.known (file_state conn) keeper.lot keeper.failed whole clean
 
-  before : (ends : Ends conn) → LeavesWhole p keeper → IsClean (view ends.ended) → LeavesOf (TellsOf p keeper) (own_store keeper)
+  before : (ends : EndsAsStore conn) → LeavesWhole p keeper → IsClean (view ends.ended) → LeavesOf (TellsOf p keeper) (own_store keeper)
   before ends whole clean image may =
       let honest = ends.honest clean in
       holds_more _ _ image (more whole honest) (ends.before clean (databases p ⊥ keeper.look.known (file_state conn) keeper.lot keeper.failed whole honest) image may)
 
-  at_end : (ends : Ends conn) → LeavesWhole p keeper → LeavesOf (TellsOf p keeper) ends.ended
+  at_end : (ends : EndsAsStore conn) → LeavesWhole p keeper → LeavesOf (TellsOf p keeper) ends.ended
   at_end ends whole image may =
       holds_more _ _ image (more whole (ends.honest (no_doubt _ (clean_if_left ends.ended.pool image may)))) (ends.leaves image may)
 
-  pub closes : Ends conn → (left : Result (Files D) (FileStore D g)) → IfOk left (IsClosedAs conn) → IfErr left (IsUncopied conn) → IfOk left (IsCopiedTo conn)
+  pub closes : EndsAsStore conn → (left : Result (Files D) (FileStore D g)) → IfOk left (IsClosedAs conn) → IfErr left (IsUncopied conn) → IfOk left (IsCopiedTo conn)
       → Closes p keeper left
   closes ends (Ok files) closed uncopied copied = record {
     ended = ends.ended;

@@ -10,7 +10,8 @@ use Rattle.sqlite_store.specs.Laws.{settled_at}
 use Rattle.sqlite.specs.State.{State, HasCleanDisk}
 use Rattle.sqlite.specs.Held.{Held}
 use Rattle.sqlite.specs.Files.{file_state, IsOpened, Finds, image_of}
-use Rattle.fuse_tree.specs.Rows.{Rows, rowed}
+use Rattle.fuse_rows.specs.Rows.{Rows}
+use Rattle.fuse_tree.specs.Rowed.{rowed}
 use Rattle.fuse_keeper.specs.Stands.{Records}
 use Rattle.fuse_keeper.specs.KeeperState.{Reopened, IsFirm}
 use Rattle.fuse_keeper.specs.Lots.{SameLots}
@@ -27,14 +28,15 @@ use Rattle.fuse_init.specs.declared.profile.Profile.{Profile}
 use Rattle.fuse_store_files.specs.Files.{HoldSome}
 use Rattle.fuse_store_files.specs.Crashing.{Crashes}
 
-retold : (m : Option Meta) (s : State) (y : Holding) (rows : Rows) (records : Records) → HoldsIn m s (rowed y.tree) (records_of y.kept) → IsOf y rows records
-    → HoldsIn m s rows records
-retold m s y rows records at is = record {
+retold : (p : Profile) (m : Option Meta) (s : State) (y : Holding) (rows : Rows) (records : Records) → HoldsIn p m s (rowed y.tree) (records_of y.kept) → IsOf y rows records
+    → HoldsIn p m s rows records
+retold p m s y rows records at is = record {
   holding = at.holding;
   rests = at.rests;
   alone = at.alone;
   is_of = record { rows_are = is.rows_are ∙ at.is_of.rows_are; records_are = λ i. is.records_are i ∙ at.is_of.records_are i };
   knows = at.knows;
+  profile = at.profile;
 }
 
 module _ {D : Type 0} {g : Ghosts D} (crashed : D → D → Type 0) (conn again : Held (FileStore D g)) (left : Files D) (cr : Crashes crashed conn left)
@@ -52,26 +54,26 @@ module _ {D : Type 0} {g : Ghosts D} (crashed : D → D → Type 0) (conn again 
       (live.0.is_open, live.0.autocommit, subst (LeftAs (HeldFor y)) (sym (found_left clean).1) held)
 
   module _ (stays : SeenMayStay g) (p : Profile) (m n : Option Meta) (b : State) (lot taken : Option ℕ) (failed now : Bool) (honest : HasCleanDisk b → HasCleanDisk (file_state again))
-      (holds : HasCleanDisk b → (z : Stored) → WasFor z (file_state again) → HoldsIn n b (rowed (opened_for z).tree) (records_of (opened_for z).kept))
+      (holds : HasCleanDisk b → (z : Stored) → WasFor z (file_state again) → HoldsIn p n b (rowed (opened_for z).tree) (records_of (opened_for z).kept))
       (lots : HasCleanDisk b → (z : Stored) → WasFor z (file_state again) → SameLots (lots_of None (opened_for z)) (lots_in taken b.now)) where
     back : HasCleanDisk b → HasCleanDisk (file_state conn)
     back clean = cr.honest (found (honest clean)).honest
 
     -- while it was open, a crash left nothing but what was committed
-    left_same : (clean : HasCleanDisk b) (rows : Rows) (records : Records) (at : HoldsIn m (file_state conn) rows records)
+    left_same : (clean : HasCleanDisk b) (rows : Rows) (records : Records) (at : HoldsIn p m (file_state conn) rows records)
         → LeftAs (HeldFor at.holding) (found_left (honest clean)).0.trees
     left_same clean rows records at =
         let h = (found_left (honest clean)).0 in
         ((file_state conn).now, at.rests.holds, ap (λ d. d.trees) (sym at.rests.committed) ∙ sym (settled_at conn.store stays h.trees at.rests.is_open h.so))
 
-    some_left : (clean : HasCleanDisk b) → (table_told p ⊥ m (file_state conn) lot failed).leaves_whole → LeavesSome (found_left (honest clean)).0.trees
+    some_left : (clean : HasCleanDisk b) → (table_told p ⊥ m (file_state conn) lot failed).leaves_whole → LeavesSome p (found_left (honest clean)).0.trees
     some_left clean whole = let h = (found_left (honest clean)).0 in whole (back clean) h.trees h.so
 
     pub reopened : {memory : Type 0} → LotsAreSame → (HasCleanDisk b → IsFirm (table_told p ⊥ n b taken now)) → (now ≡ false)
         → Reopened (table_told p memory m (file_state conn) lot failed) (table_told p memory n b taken now)
     reopened told firm going = record {
       same = λ clean rows records at.
-          retold n b at.holding rows records (holds clean (Second at.holding) (was (honest clean) at.holding (left_same clean rows records at))) at.is_of;
+          retold p n b at.holding rows records (holds clean (Second at.holding) (was (honest clean) at.holding (left_same clean rows records at))) at.is_of;
       held = λ clean whole.
           let some = some_left clean whole in (
             rowed some.holding.tree,

@@ -22,13 +22,14 @@ use Rattle.sqlite.specs.Schema.{Schema}
 use Rattle.sqlite_catalog.specs.Listing.{Lists, IsSound}
 use Rattle.sqlite.specs.State.{State, HasCleanDisk, IsLive, Opens, Survives, store_error}
 use Rattle.sqlite.specs.Held.{Held, AreDatabases}
-use Rattle.sqlite.specs.Files.{file_state, IsOpened, IsEmpty, IsNothing, IsCleanLeft, AreFoundIn, FailsToOpenFiles, HoldsDatabase, image_of}
+use Rattle.sqlite.specs.Files.{file_state, IsOpened, IsEmpty, IsNothing, IsCleanLeft, LeavesFiles, AreFoundIn, FailsToOpenFiles, HoldsDatabase, image_of}
 use Rattle.sqlite.specs.Start.{FindsIn}
 use Rattle.sqlite.specs.declared.error.Error.{Error}
 use Rattle.sqlite.specs.declared.file.Leftover.{Leftover}
 use Rattle.sqlite.specs.declared.file.Leftover.TheVariants as left
 use Rattle.sqlite.proofs.ListingLemmas.{empty_is_sound}
-use Rattle.fuse_tree.specs.Rows.{Rows, rowed}
+use Rattle.fuse_rows.specs.Rows.{Rows}
+use Rattle.fuse_tree.specs.Rowed.{rowed}
 use Rattle.fuse_init.specs.declared.profile.Profile.{Profile}
 use Rattle.fuse_keeper.specs.Stands.{Records}
 use Rattle.fuse_keeper.specs.KeeperState.{KeeperState}
@@ -44,14 +45,15 @@ use Rattle.fuse_store_tree.specs.Store.{records_of}
 use Rattle.fuse_tree.specs.TheTree.{tree_of}
 use Rattle.fuse_tree.specs.State.{profile_of}
 use Rattle.fuse_store.specs.Creating.{IsBlank}
-use Rattle.fuse_store.specs.Opening.{Stored, StoredFor, WasFor, opened_for}
+use Rattle.fuse_store.specs.Opening.{Stored, StoredFor, WasFor, IsUndone, opened_for}
 use Rattle.fuse_store.specs.Storing.{opening_fault}
 use Rattle.fuse_store_files.specs.declared.files.Opening.{Opening}
 use Rattle.fuse_store_files.specs.declared.files.Opening.TheVariants.{Existing, Any, Fresh}
 use Rattle.fuse_store_files.specs.Files.{HoldSome, FilesHold, HoldNothing, TreesTell, AreTheirs}
 use Rattle.fuse_store_files.specs.Starting.{OpensAs, KeepsStore, FilesHoldRows}
 use Rattle.fuse_store_files.specs.Left.{LeavesAsFound, LeavesOpening, LeavesStore, LeavesUnclosed, IsMadeBy}
-use Rattle.fuse_store_files.specs.Databases.{FilesHave, IsToOpen, IsToMake, IsToChange, OpensOwn, FailsOver}
+use Rattle.fuse_store_files.specs.Databases.{FilesHave, IsToOpen, IsToMake, IsToChange, OpensOwn, KeepsFound, FailsOver, LeavesOnce}
+use Rattle.fuse_store_files.specs.Restarting.{LeavesCrashed}
 use Rattle.fuse_store_files.specs.inner.Opened.{OpensOver, LeavesOver, IsNotOpened}
 use Rattle.fuse_store_files.proofs.Finding.{holds_one, holds_more}
 use Rattle.fuse_store_files.proofs.Nothing.{found_nothing}
@@ -137,6 +139,9 @@ module _ (image : Image) (s : State) (opens : Opens s) (live : IsLive s) (finds 
 
   pub opens_own : (how : Opening) → (IsToOpen how s.now → IsTabled s.now) → (IsToOpen how s.now → (c : Content) → IsLaid c s.now → HasMeta c) → OpensOwn how image
   opens_own how tabled whole = record {
+    db = s.committed;
+    found = finds.reads;
+    sound = (live opens.is_open).1;
     tabled = λ d have ours. let same = found_now d have in subst IsTabled (sym same) (tabled (subst (IsToOpen how) same ours));
     whole = λ d have ours c laid. let same = found_now d have in whole (subst (IsToOpen how) same ours) c (subst (IsLaid c) same laid);
   }
@@ -168,6 +173,27 @@ leaves_each P image it sound each = record {
   holds = λ numbered some left may.
       holds_more (recovers it) P left each (holds_one it left may numbered (sound (no_doubt _ (clean_if_left it.pool left may)) some));
 }
+
+-- a store that was not opened recovers to what the files recover to
+their_own : {D : Type 0} {g : Ghosts D} (files : Files D) (it : FileStore D g) → (IsCleanLeft (left.Store it) → LeavesFiles files (left.Store it))
+    → LeavesStore (AreTheirs (image_of g files)) (image_of g files) it
+their_own {g = g} files it kept =
+    let image = image_of g files in
+    let found : (db : Trees) → recovers it db → AreTheirs image db = λ db may.
+    let one = kept (clean_if_left it.pool may.0 may.2) db may in
+    record { holds = one.1; reads = one.0 } in
+    leaves_each _ image it
+    (λ clean some.
+    ∥∥₁_map some.held (λ h.
+    let sound : AreDatabases (recovers it) = λ db may. (h.2.schema, subst (IsSound h.2.schema) (sym ((found db may).holds some.trees h)) h.2.sound) in
+    sound))
+    found
+
+-- what is left of files that crashed, and were not opened
+pub left_crashed : {D : Type 0} {g : Ghosts D} (files : Files D) (it : Leftover D g) → (IsCleanLeft it → LeavesFiles files it) → LeavesCrashed files it
+left_crashed files (left.Files now) kept = kept
+left_crashed files (left.Unopened now) kept = kept
+left_crashed {g = g} files (left.Store it) kept = leaves_more _ _ (image_of g files) it (λ db theirs. inl theirs) (their_own files it kept)
 
 module _ {D : Type 0} {g : Ghosts D} (image : Image) (how : Opening) where
   pub left_open : (conn : Held (FileStore D g)) → SeenMayStay g → (HasCleanDisk (file_state conn) → IsOpened conn)
@@ -208,18 +234,7 @@ module _ {D : Type 0} {g : Ghosts D} (image : Image) (how : Opening) where
   stays_found (left.Files files) e not = not.left
   stays_found (left.Unopened files) e not = not.left
   stays_found (left.Store it) e not =
-      let found : (db : Trees) → recovers it db → AreTheirs image db = λ db may.
-      let one = not.left.kept (clean_if_left it.pool may.0 may.2) db may in
-      record {
-        holds = λ d held. one.1 d (subst (λ (i : Image). HoldsDatabase i d) (sym not.left.held) held);
-        reads = subst (λ (i : Image). AreFoundIn i db) not.left.held one.0;
-      } in
-      leaves_each _ image it
-      (λ clean some.
-      ∥∥₁_map some.held (λ h.
-      let sound : AreDatabases (recovers it) = λ db may. (h.2.schema, subst (IsSound h.2.schema) (sym ((found db may).holds some.trees h)) h.2.sound) in
-      sound))
-      found
+      subst (λ (i : Image). LeavesStore (AreTheirs i) i it) not.left.held (their_own not.left.files it not.left.kept)
 
   pub not_opened : (it : Leftover D g) (e : Error) → IsNotOpened image it e → LeavesOpening how image it
   not_opened (left.Files files) e not = not.left
@@ -268,14 +283,54 @@ outside_says d (Sql e) so = tt
 outside_says d _ so = absurd so
 
 module _ {D : Type 0} {g : Ghosts D} (image : Image) (how : Opening) where
+  unopened_once : (it : Leftover D g) (e : Error) → IsNotOpened image it e → LeavesOnce image it
+  unopened_once (left.Files files) e not = not.left
+  unopened_once (left.Unopened files) e not = not.left
+  unopened_once (left.Store it) e not = λ a b may other. inl ((stays_found image how (left.Store it) e not).each a may)
+
   pub fails_unopened : (it : Leftover D g) (e : Error) → IsNotOpened image it e → FailsOver how image (opening_fault e) it
   fails_unopened it e not = record {
     says = λ clean d have ours.
         outside_says d (opening_fault e) (not_wanting image it e not clean (λ db. Unit {0}) (record { trees = d.trees; held = have.held; so = tt }));
     alone = λ d have ours same. stays_found image how it e not;
+    once = λ d have ours. unopened_once it e not;
     blank = λ clean made nothing.
         wanting not.left.files it e (not.cause clean) (has_none _ (subst HoldNothing (sym not.left.held) nothing));
   }
+
+  -- of a database that was opened, and is what the files hold
+  once_left : (conn : Held (FileStore D g)) → SeenMayStay g → (HasCleanDisk (file_state conn) → IsOpened conn)
+      → (HasCleanDisk (file_state conn) → FindsIn image (file_state conn)) → (new : State) (it : FileStore D g)
+      → doubt (file_state conn).is_clean ≤ doubt new.is_clean → doubt new.is_clean ≤ doubt (view it).is_clean
+      → ((db : Trees) → recovers it db → new.may_leave db) → (IsToOpen how (file_state conn).now → IsUndone (file_state conn) new)
+      → (d : Database) → FilesHave image d → IsToOpen how d → LeavesOnce image (left.Store it)
+  once_left conn stays opened found new it before later outcomes undone d have ours = λ a b may other.
+      let last : IsClean (view it) = no_doubt _ (clean_if_left it.pool may.0 may.2) in
+      let clean_new : HasCleanDisk new = omega (arith, last, later) in
+      let clean : HasCleanDisk (file_state conn) = omega (arith, clean_new, before) in
+      let live = opened clean in
+      let finds = found clean in
+      let theirs : (db : Trees) → (file_state conn).may_leave db → AreTheirs image db = λ db old.
+      subst (AreTheirs image) (sym (settled_at conn.store stays db live.0.is_open old)) (record { holds = finds.holds; reads = finds.reads }) in
+      let once = (undone (subst (IsToOpen how) (found_now image (file_state conn) live.0 live.1 finds d have) ours)).once in
+      elim (once.crash clean_new a (outcomes a may)) [
+        | inl old ↦ inl (theirs a old)
+        | inr is ↦ elim (once.crash clean_new b (outcomes b other)) [
+          | inl old ↦ inr (inl (theirs b old))
+          | inr too ↦ inr (inr (is ∙ sym too))
+        ]
+      ]
+
+  pub keeps_found : (conn : Held (FileStore D g)) → SeenMayStay g → IsOpened conn → FindsIn image (file_state conn) → (new : State) → HasCleanDisk new
+      → (IsToOpen how (file_state conn).now → ¬ (IsToChange how (file_state conn).now) → LeavesAlone (file_state conn) new) → KeepsFound how image new
+  keeps_found conn stays live finds new clean alone d have ours other db may =
+      let left = same_alone image (file_state conn) live.0 live.1 finds how alone d have ours other in
+      elim (left.survives.crash clean db may) [
+        | inl old ↦
+            settled_at conn.store stays db live.0.is_open old
+            ∙ same_trees image (file_state conn) live.0 live.1 finds (λ t. Unit {0}) (record { trees = d.trees; held = have.held; so = tt })
+        | inr none ↦ absurd none
+      ]
 
   pub fails_open : (conn : Held (FileStore D g)) → SeenMayStay g → (HasCleanDisk (file_state conn) → IsOpened conn)
       → (HasCleanDisk (file_state conn) → FindsIn image (file_state conn)) → (new : State) (it : FileStore D g) (f : StoreFault)
@@ -283,8 +338,9 @@ module _ {D : Type 0} {g : Ghosts D} (image : Image) (how : Opening) where
       → ((db : Trees) → recovers it db → new.may_leave db) → (IsClean (view it) → AreDatabases (recovers it))
       → (HasCleanDisk new → IsToOpen how (file_state conn).now → Says (file_state conn).now f)
       → ((file_state conn).in_transaction ≡ false → IsToOpen how (file_state conn).now → ¬ (IsToChange how (file_state conn).now) → LeavesAlone (file_state conn) new)
+      → (IsToOpen how (file_state conn).now → IsUndone (file_state conn) new)
       → (IsToMake how → IsBlank (file_state conn) → IsOutside f) → FailsOver how image f (left.Store it)
-  fails_open conn stays opened found new it f survives later outcomes sound says alone outside = record {
+  fails_open conn stays opened found new it f survives later outcomes sound says alone undone outside = record {
     says = λ is_clean d have ours.
         let last = no_doubt _ is_clean in
         let clean_new : HasCleanDisk new = omega (arith, last, later) in
@@ -304,6 +360,7 @@ module _ {D : Type 0} {g : Ghosts D} (image : Image) (how : Opening) where
               subst (AreTheirs image) (sym committed) (record { holds = finds.holds; reads = finds.reads })
           | inr none ↦ absurd none
         ]);
+    once = once_left conn stays opened found new it survives.clean later outcomes undone;
     blank = λ is_clean made nothing.
         let last = no_doubt _ is_clean in
         let clean_new : HasCleanDisk new = omega (arith, last, later) in

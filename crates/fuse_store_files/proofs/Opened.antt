@@ -7,7 +7,7 @@ use Rattle.sqlite.specs.Schema.{Schema}
 use Rattle.sqlite.specs.Effect.{Database}
 use Rattle.sqlite.specs.State.{State}
 use Rattle.fuse_init.specs.declared.profile.Profile.{Profile}
-use Rattle.fuse_tree.specs.Rows.{rowed}
+use Rattle.fuse_tree.specs.Rowed.{rowed}
 use Rattle.fuse_keeper.specs.KeeperState.{KeeperState, StandsFor}
 use Rattle.fuse_keeper.specs.Lots.{SameLots}
 use Rattle.fuse_store_tables.specs.Content.{Content}

@@ -4,7 +4,8 @@ use Rattle.sqlite_wal.specs.Recovery.{Image}
 use Rattle.sqlite.specs.Tree.{Trees}
 use Rattle.sqlite.specs.Files.{HoldsDatabase, IsNothing, IsEmpty, AreFoundIn}
 use Rattle.fuse_init.specs.declared.profile.Profile.{Profile}
-use Rattle.fuse_tree.specs.Rows.{Rows, rowed}
+use Rattle.fuse_rows.specs.Rows.{Rows}
+use Rattle.fuse_tree.specs.Rowed.{rowed}
 use Rattle.fuse_keeper.specs.Stands.{Records, Standing, StandsAt}
 use Rattle.fuse_store_tables.specs.Content.{LeftAs}
 use Rattle.fuse_store_tree.specs.Store.{records_of}

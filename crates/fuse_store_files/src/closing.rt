@@ -5,7 +5,8 @@ ghost use Rattle.sqlite.specs.Files.{over_files};
 ghost use Rattle.sqlite.specs.Closing.{IsCopied};
 ghost use Rattle.fuse_store.specs.TableKeeper.{conn_of};
 ghost use Rattle.fuse_store_files.specs.Left.{Closes};
-ghost use Rattle.fuse_store_files.specs.inner.Connections.{Ends, IsClosedAs, IsCopiedTo, IsUncopied};
+ghost use Rattle.fuse_store_files.specs.inner.Connections.{EndsAsStore, IsClosedAs, IsCopiedTo};
+ghost use Rattle.fuse_store_files.specs.inner.Connections.{IsUncopied};
 
 use fuse_init::Profiled;
 use fuse_store::TableKeeper;
@@ -18,7 +19,7 @@ use sqlite_trees::store::Store;
 pub(crate) fn close_connection<D: Disk + Drop>(
     conn: Connection<FileStore<D>>,
 ) -> Result<Files<D>, FileStore<D>>
-    ensures ended { Ends conn }
+    ensures ended { EndsAsStore conn }
     ensures closed { IfOk result (IsClosedAs conn) }
     ensures copied { IfOk result (IsCopiedTo conn) }
     ensures unclosed { IfErr result (IsUncopied conn) }

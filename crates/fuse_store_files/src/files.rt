@@ -3,8 +3,9 @@ ghost use Rattle.std.specs.Prelude.{◌≡◌, ◌⊎◌, None, false, codes, If
 ghost use Rattle.sqlite.specs.declared.error.Error.TheVariants.{SqliteFailure};
 ghost use Rattle.sqlite.specs.declared.error.ErrorCode.TheVariants.{CannotOpen, OutOfMemory, DatabaseBusy};
 ghost use Rattle.sqlite.specs.State.{HasCleanDisk};
-ghost use Rattle.sqlite.specs.Files.{file_state, over_files, IsOpened, IsCleanLeft};
+ghost use Rattle.sqlite.specs.Files.{file_state, over_files, IsOpened, IsBlankAs, IsCleanLeft};
 ghost use Rattle.sqlite.specs.Start.{FindsIn};
+ghost use Rattle.sqlite_store.specs.FileStore.{view};
 ghost use Rattle.sqlite_wal.specs.Files.{image_at};
 ghost use Rattle.fuse_keeper.specs.KeeperState.{IsFirm};
 ghost use Rattle.fuse_keeper.specs.declared.fault.StoreFault.TheVariants.{NotAStore, Sql};
@@ -20,7 +21,7 @@ ghost use Rattle.fuse_store_files.specs.declared.files.Opening.TheVariants.{Exis
 ghost use Rattle.fuse_store_files.specs.Files.{FilesHold};
 ghost use Rattle.fuse_store_files.specs.Starting.{path_of, OpensAs, KeepsStore, FilesHoldRows, RowsKept};
 ghost use Rattle.fuse_store_files.specs.Left.{LeavesAsFound, LeavesOpening};
-ghost use Rattle.fuse_store_files.specs.Databases.{OpensOwn, FailsOver};
+ghost use Rattle.fuse_store_files.specs.Databases.{OpensOwn, FailsOver, KeepsFound};
 ghost use Rattle.fuse_store_files.specs.Databases.{IsNeverOpened};
 ghost use Rattle.fuse_store_files.specs.inner.Opened.{IsNotOpened};
 
@@ -70,6 +71,8 @@ impl<'r, 'p, S: Start> StoreFiles<'r, 'p, S> {
         ensures opened { IfOk result (λ c. HasCleanDisk (file_state c) → IsOpened c) }
         ensures found { IfOk result (λ c. HasCleanDisk (file_state c)
             → FindsIn (image_at S.Start) (file_state c)) }
+        ensures sums { IfOk result (λ c. HasCleanDisk (file_state c)
+            → IsBlankAs false (image_at S.Start) → (view c.store).has_sums ≡ false) }
         ensures none { IfErr result (λ e. e.1 ≡ None → (e.0 ≡ SqliteFailure CannotOpen)
             ⊎ ((e.0 ≡ SqliteFailure OutOfMemory) ⊎ (e.0 ≡ SqliteFailure DatabaseBusy))) }
         ensures left { IfErr result (λ e. IfSome e.1
@@ -120,6 +123,8 @@ pub fn open_store<S: Start>(
     // Of any database in the files: only a store of a version that is known is opened. What the
     // fault says is so, and what isn't to be changed is left as it was found.
     ensures own { IfOk result (λ k. (store_told k).is_honest → OpensOwn how (image_at S.Start)) }
+    ensures found { IfOk result (λ k. (store_told k).is_honest
+        → KeepsFound how (image_at S.Start) (file_state (own_conn k))) }
     ensures fails { IfErr result (λ e. IfSome e.1 (FailsOver how (image_at S.Start) e.0)) }
 {
     if matches!(how, Opening::Existing) && files.are_missing() {

@@ -11,7 +11,7 @@ ghost use Rattle.fuse_store_tables.specs.Moves.{RestsAs, LeavesAlone};
 ghost use Rattle.fuse_store_tables.specs.Opening.{IsStored, IsLaid, HasMeta};
 ghost use Rattle.fuse_store_tables.specs.Saying.{Says, IsTabled, IsRefusal};
 ghost use Rattle.fuse_store.specs.Creating.{IsBlank};
-ghost use Rattle.fuse_store.specs.Opening.{Stored, WasFor};
+ghost use Rattle.fuse_store.specs.Opening.{Stored, WasFor, IsUndone};
 ghost use Rattle.fuse_store.specs.TableKeeper.{SharesMedium};
 ghost use Rattle.fuse_store.specs.StoreKeeper.{own_profile, own_conn, store_told};
 ghost use Rattle.fuse_store_files.specs.Databases.{IsToOpen, IsToMake, IsToChange};
@@ -53,11 +53,16 @@ pub(crate) fn open_as<S: Alter>(
     ensures whole { IfOk result (λ k. (store_told k).is_honest
         → IsToOpen how (state S.Store conn).now → (c : Content)
         → IsLaid c (state S.Store conn).now → HasMeta c) }
+    ensures stays { IfOk result (λ k. (store_told k).is_honest
+        → IsToOpen how (state S.Store conn).now → ¬ (IsToChange how (state S.Store conn).now)
+        → LeavesAlone (state S.Store conn) (state S.Store (own_conn k))) }
     ensures says { IfErr result (λ r. HasCleanDisk (state S.Store r.1)
         → IsToOpen how (state S.Store conn).now → Says (state S.Store conn).now r.0) }
     ensures alone { IfErr result (λ r. (state S.Store conn).in_transaction ≡ false
         → IsToOpen how (state S.Store conn).now → ¬ (IsToChange how (state S.Store conn).now)
         → LeavesAlone (state S.Store conn) (state S.Store r.1)) }
+    ensures undone { IfErr result (λ r. IsToOpen how (state S.Store conn).now
+        → IsUndone (state S.Store conn) (state S.Store r.1)) }
     ensures absent { (state S.Store conn).in_transaction ≡ false
         → IsToOpen how (state S.Store conn).now
         → table_named (state S.Store conn).now.schema (codes "meta") ≡ None

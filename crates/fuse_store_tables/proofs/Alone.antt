@@ -1,5 +1,5 @@
 -- What an opening leaves of any database.
-use Rattle.std.proofs.Common.{◌≡◌, Ok, Err, Result, IfErr, IsErrAnd, IsTrue, Bool, true, false, cond, sym, ap, subst, ◌∙◌, inl, inr}
+use Rattle.std.proofs.Common.{◌≡◌, ◌⊎◌, Ok, Err, Result, IfErr, IsErrAnd, IsTrue, Bool, true, false, cond, sym, ap, subst, ◌∙◌, inl, inr}
 use Rattle.std.specs.Result.{IsErr}
 use Rattle.sqlite.specs.Tree.{Trees}
 use Rattle.sqlite.specs.State.{State, HasCleanDisk, Survives, KeepsCommit}
@@ -13,8 +13,12 @@ use Rattle.fuse_store_tables.specs.Faults.{IsOutside}
 use Rattle.fuse_store_tables.specs.Saying.{IsRefusal}
 use Rattle.fuse_store_tables.proofs.Joining.{outside}
 use Rattle.fuse_store_tables.specs.inner.Following.{earlier}
-use Rattle.fuse_store_tables.specs.inner.Performing.{OnlyReads, CommitsNothing}
+use Rattle.sqlite.specs.Effect.{Database}
+use Rattle.sqlite.specs.Schema.{Schema}
+use Rattle.fuse_store_tables.specs.Layout.{no_schema}
+use Rattle.fuse_store_tables.specs.inner.Performing.{OnlyReads, CommitsNothing, TransactsAs}
 use Rattle.fuse_store_tables.specs.Moves.{Begins, Ends, Undoes, LeavesAlone}
+pub use Rattle.fuse_store_tables.specs.inner.Transaction.{begins_nothing, once_none, once_failed, once_committed, once_undone}
 
 pub commits_then : (a b d : State) → CommitsNothing a b → CommitsNothing b d → CommitsNothing a d
 commits_then a b d p q = record {
@@ -24,35 +28,53 @@ commits_then a b d p q = record {
 
 -- the same, with what was read
 pub reads_told : {X Y E F : Type 0} (a b : State) (x : X) (r : Result Y F) → OnlyReads {E = E} a b (Ok x) → OnlyReads a b r
-reads_told a b x (Ok y) p = record { commits = p.commits; same = p.same }
-reads_told a b x (Err f) p = record { commits = p.commits; same = tt }
+reads_told a b x (Ok y) p = record { commits = p.commits; same = p.same; outside = p.outside; seen = p.seen }
+reads_told a b x (Err f) p = record { commits = p.commits; same = tt; outside = p.outside; seen = p.seen }
 
 pub reads_failed : {X Y E F : Type 0} (a b : State) (e : E) (r : Result Y F) → IsErr r → OnlyReads {X = X} a b (Err e) → OnlyReads a b r
 reads_failed a b e (Ok y) is p = absurd cc
-reads_failed a b e (Err f) is p = record { commits = p.commits; same = tt }
+reads_failed a b e (Err f) is p = record { commits = p.commits; same = tt; outside = p.outside; seen = p.seen }
+
+-- what the second read sees, by what the first one does
+seen_then : {X Y E F : Type 0} (a b d : State) (x : X) (r : Result Y F) → OnlyReads {E = E} a b (Ok x) → OnlyReads b d r → HasCleanDisk d
+    → IsTrue d.is_open → (d.now ≡ a.now) ⊎ (d.now ≡ a.committed)
+seen_then a b d x r p q clean is_open =
+    let mid = earlier b d _ q.commits.survives clean in
+    elim (q.seen clean is_open) [
+      | inl now ↦ inl (now ∙ p.same mid)
+      | inr back ↦ inr (back ∙ (p.commits.kept mid).committed ((q.commits.kept clean).was_open is_open))
+    ]
 
 pub reads_then : {X Y E F : Type 0} (a b d : State) (x : X) (r : Result Y F) → OnlyReads {E = E} a b (Ok x) → OnlyReads b d r → OnlyReads a d r
 reads_then a b d x (Ok y) p q = record {
   commits = commits_then a b d p.commits q.commits;
   same = λ clean. q.same clean ∙ p.same (earlier b d _ q.commits.survives clean);
+  outside = λ clean rests. q.outside clean (p.outside (earlier b d _ q.commits.survives clean) rests);
+  seen = seen_then a b d x (Ok y) p q;
 }
-reads_then a b d x (Err f) p q = record { commits = commits_then a b d p.commits q.commits; same = tt }
+reads_then a b d x (Err f) p q = record {
+  commits = commits_then a b d p.commits q.commits;
+  same = tt;
+  outside = λ clean rests. q.outside clean (p.outside (earlier b d _ q.commits.survives clean) rests);
+  seen = seen_then a b d x (Err f) p q;
+}
 
 -- what can't be on a clean disk
 pub reads_never : {X E : Type 0} (a d : State) (r : Result X E) {K : Trees → Type 0} → (HasCleanDisk d → ⊥) → Survives a d K → OnlyReads a d r
 reads_never a d (Ok x) never s = record {
   commits = record { survives = survives_weaker a d _ _ (λ clean db may. never clean) s; kept = λ clean. absurd (never clean) };
   same = λ clean. absurd (never clean);
+  outside = λ clean. absurd (never clean);
+  seen = λ clean. absurd (never clean);
 }
 reads_never a d (Err e) never s = record {
   commits = record { survives = survives_weaker a d _ _ (λ clean db may. never clean) s; kept = λ clean. absurd (never clean) };
   same = tt;
+  outside = λ clean. absurd (never clean);
+  seen = λ clean. absurd (never clean);
 }
 
 -- ---- a transaction
-
-pub begins_nothing : {X E : Type 0} (a b : State) (r : Result X E) → Begins a b r → CommitsNothing a b
-begins_nothing a b r p = record { survives = survives_weaker a b _ _ (λ _ db none. none) p.survives; kept = p.kept }
 
 -- what was only read is committed as it was
 module _ (a b d e : State) {X Y E F : Type 0} (x : X) (y : Y) (stays : IsTrue a.is_open → a.may_leave a.committed.trees)
@@ -99,6 +121,14 @@ module _ (a b d e : State) {X Y E F : Type 0} (x : X) (y : Y) (stays : IsTrue a.
         let late = earlier d e _ t.survives clean in
         keeps_then a d e (keeps_then a b d (p.kept (earlier b d _ q.commits.survives late)) (q.commits.kept late)) (t.kept clean);
   }
+
+-- what committed nothing
+pub alone_performs : {C X E : Type 0} (P Q : C → Database → Type 0) (a b : State) (e : E) → CommitsNothing a b → TransactsAs {X = X} P Q a b (Err e)
+alone_performs P Q a b e p = record { survives = survives_weaker a b _ _ (λ _ db none. absurd none) p.survives; kept = λ clean c at. p.kept clean; done = tt }
+
+-- what is seen in the transaction was there before it
+pub was_empty : (was is : Database) (schema : Schema) → is ≡ was → schema ≡ is.schema → schema ≡ no_schema → was.schema ≡ no_schema
+was_empty was is schema same seen empty = ap (λ (d : Database). d.schema) (sym same) ∙ sym seen ∙ empty
 
 -- ---- and its end
 

@@ -8,11 +8,11 @@ use Rattle.sqlite.specs.Order.{Row}
 use Rattle.fuse_store_tables.specs.Blocks.{Block, is_from}
 use Rattle.fuse_store_tables.specs.Content.{Content, without_blocks_from}
 use Rattle.fuse_store_tables.specs.Clearing.{unnamed_numbers}
-use Rattle.fuse_store_tables.specs.inner.Columns.{shown_number, number_of}
+use Rattle.fuse_store_tables.specs.inner.Columns.{shown_number, number_of_row}
 use Rattle.fuse_store_tables.specs.inner.Steps.{without_blocks_of, without_unnamed_blocks}
 use Rattle.fuse_store_tables.proofs.Removing.{every, not_either}
 
-pub numbers_back : (ns : List ℕ) → map number_of (map shown_number ns) ≡ ns
+pub numbers_back : (ns : List ℕ) → map number_of_row (map shown_number ns) ≡ ns
 numbers_back [] = refl
 numbers_back (n ∷ ns) = ap (λ more. n ∷ more) (numbers_back ns)
 
@@ -22,11 +22,11 @@ shown_at [] at d low = absurd (omega (arith, low))
 shown_at (n ∷ ns) zero d low = refl
 shown_at (n ∷ ns) (suc at) d low = shown_at ns at d (omega (arith, low))
 
-pub with_more : (rows : List Row) (at : ℕ) (d : Row) (c : Content) → at < length rows → without_blocks_of (map number_of (take (suc at) rows))
-    c ≡ without_blocks_from (number_of (slice_index_or rows at d)) 0 (without_blocks_of (map number_of (take at rows)) c)
+pub with_more : (rows : List Row) (at : ℕ) (d : Row) (c : Content) → at < length rows → without_blocks_of (map number_of_row (take (suc at) rows))
+    c ≡ without_blocks_from (number_of_row (slice_index_or rows at d)) 0 (without_blocks_of (map number_of_row (take at rows)) c)
 with_more [] at d c low = absurd (omega (arith, low))
 with_more (r ∷ rows) zero d c low = refl
-with_more (r ∷ rows) (suc at) d c low = with_more rows at d (without_blocks_from (number_of r) 0 c) (omega (arith, low))
+with_more (r ∷ rows) (suc at) d c low = with_more rows at d (without_blocks_from (number_of_row r) 0 c) (omega (arith, low))
 
 same_filter : {X : Type 0} (p q : X → Bool) → ((x : X) → p x ≡ q x) → (xs : List X) → filter p xs ≡ filter q xs
 same_filter p q same [] = refl
@@ -50,7 +50,7 @@ blocks_of (n ∷ ns) c =
     (λ b. not (of (n ∷ ns) b))
     (λ b. ap (λ t. not (t || of ns b)) (and_true (is_eq (nat_cmp b.node n)) (is_ge (nat_cmp b.block 0)) (from_first b.block))) c.blocks)
 
-pub unnamed_blocks : (rows : List Row) (c : Content) → rows ≡ map shown_number (unnamed_numbers c.nodes) → without_blocks_of (map number_of rows)
+pub unnamed_blocks : (rows : List Row) (c : Content) → rows ≡ map shown_number (unnamed_numbers c.nodes) → without_blocks_of (map number_of_row rows)
     c ≡ without_unnamed_blocks c
-unnamed_blocks rows c is = ap (λ rs. without_blocks_of (map number_of rs) c) is ∙ ap (λ ns. without_blocks_of ns c) (numbers_back (unnamed_numbers c.nodes))
+unnamed_blocks rows c is = ap (λ rs. without_blocks_of (map number_of_row rs) c) is ∙ ap (λ ns. without_blocks_of ns c) (numbers_back (unnamed_numbers c.nodes))
     ∙ blocks_of (unnamed_numbers c.nodes) c

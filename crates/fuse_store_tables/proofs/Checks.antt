@@ -70,7 +70,7 @@ checks_as Known More P Q a b (Err f) so p = record {
 pub checks_told : {X Y : Type 0} (Known P : Content → Type 0) (a b : State) (x : X) (y : Y) → ChecksIf Known P a b (Ok x) → ChecksIf Known P a b (Ok y)
 checks_told Known P a b x y p = record {
   looks = record { stays = p.looks.stays; within = p.looks.within; turns = p.looks.turns };
-  reads = record { commits = p.reads.commits; same = p.reads.same };
+  reads = record { commits = p.reads.commits; same = p.reads.same; outside = p.reads.outside; seen = p.reads.seen };
   within = record { survives = p.within.survives; kept = p.within.kept; within = p.within.within };
   whole = p.whole;
   fault = λ clean. tt;
@@ -83,7 +83,7 @@ pub checks_failed : {X Y : Type 0} (Known More P Q : Content → Type 0) (a b : 
 checks_failed Known More P Q a b e (Ok y) same so p = absurd same
 checks_failed Known More P Q a b e (Err f) same so p = record {
   looks = record { stays = p.looks.stays; within = tt; turns = tt };
-  reads = record { commits = p.reads.commits; same = tt };
+  reads = record { commits = p.reads.commits; same = tt; outside = p.reads.outside; seen = p.reads.seen };
   within = record { survives = p.within.survives; kept = p.within.kept; within = tt };
   whole = λ clean. tt;
   fault = λ clean c at more holds. let is = so c more holds in subst IsOutside (sym same) (p.fault clean c at is.0 is.1);
@@ -97,7 +97,7 @@ pub query_failed : {X Y : Type 0} (Known P : Content → Type 0) (a b : State) (
 query_failed Known P a b e (Ok y) same looks reads within = absurd same
 query_failed Known P a b e (Err f) same looks reads within = record {
   looks = record { stays = looks.stays; within = tt; turns = tt };
-  reads = record { commits = reads.commits; same = tt };
+  reads = record { commits = reads.commits; same = tt; outside = reads.outside; seen = reads.seen };
   within = record { survives = within.survives; kept = within.kept; within = tt };
   whole = λ clean. tt;
   fault = λ clean c at known holds. subst IsOutside (sym same) (outside e);
@@ -110,7 +110,7 @@ pub query_told : {X Y : Type 0} (Known P : Content → Type 0) (a b : State) (x 
     → (HasCleanDisk b → IfErr r (λ f. (c : Content) → InsideAs (IsLaid c) a → Known c → P c → IsOutside f)) → IfErr r IsPlain → ChecksIf Known P a b r
 query_told Known P a b x (Ok y) looks reads within whole fault plain = record {
   looks = record { stays = looks.stays; within = looks.within; turns = looks.turns };
-  reads = record { commits = reads.commits; same = reads.same };
+  reads = record { commits = reads.commits; same = reads.same; outside = reads.outside; seen = reads.seen };
   within = record { survives = within.survives; kept = within.kept; within = within.within };
   whole = whole;
   fault = fault;
@@ -118,7 +118,7 @@ query_told Known P a b x (Ok y) looks reads within whole fault plain = record {
 }
 query_told Known P a b x (Err f) looks reads within whole fault plain = record {
   looks = record { stays = looks.stays; within = tt; turns = tt };
-  reads = record { commits = reads.commits; same = tt };
+  reads = record { commits = reads.commits; same = tt; outside = reads.outside; seen = reads.seen };
   within = record { survives = within.survives; kept = within.kept; within = tt };
   whole = whole;
   fault = fault;
@@ -153,7 +153,12 @@ pub nothing_asked : {Y : Type 0} (Known P : Content → Type 0) (a : State) (e :
 nothing_asked Known P a e (Ok y) same plain out = absurd same
 nothing_asked Known P a e (Err f) same plain out = record {
   looks = record { stays = record { survives = no_step a _; kept = λ clean inside. still }; within = tt; turns = tt };
-  reads = record { commits = record { survives = no_step a _; kept = λ clean. still }; same = tt };
+  reads = record {
+    commits = record { survives = no_step a _; kept = λ clean. still };
+    same = tt;
+    outside = λ clean rests. rests;
+    seen = λ clean is_open. inl refl;
+  };
   within = record { survives = no_step a _; kept = λ clean inside. still; within = tt };
   whole = λ clean. tt;
   fault = λ clean c at known holds. subst IsOutside (sym same) (out c known);

@@ -24,8 +24,8 @@ use Rattle.sqlite.specs.declared.error.Error.{Error}
 use Rattle.sqlite.specs.Listing.{understood, reads_listing}
 use Rattle.sqlite.specs.State.{State, HasCleanDisk, Survives, Shown, FailsToQuery, CommitsShowing}
 use Rattle.sqlite.proofs.Callers.{IsPlain, command_of}
-use Rattle.fuse_tree.specs.declared.rows.EntryRow.{EntryRow}
-use Rattle.fuse_tree.specs.declared.rows.NodeRow.{NodeRow}
+use Rattle.fuse_rows.specs.declared.rows.EntryRow.{EntryRow}
+use Rattle.fuse_rows.specs.declared.rows.NodeRow.{NodeRow}
 use Rattle.fuse_store_tables.specs.Layout.{store_schema}
 use Rattle.fuse_store_tables.specs.Content.{Content, Holds, has_by, at_by, node_key, node_row, cookie_of, entry_row, stands_after, columns_of, shown_entry}
 use Rattle.fuse_store_tables.specs.Content.{shown_child, node_columns}

@@ -20,7 +20,7 @@ use Rattle.sqlite_resolve.specs.declared.error.CompileError.{CompileError}
 use Rattle.sqlite_schema.specs.declared.command.Returning.{Returning}
 use Rattle.sqlite.proofs.StateLemmas.{survives_weaker}
 use Rattle.sqlite.proofs.Callers.{IsPlain, command_of, runs_as}
-use Rattle.fuse_store_tables.specs.Moves.{Begins, Ends, Undoes}
+use Rattle.fuse_store_tables.specs.Moves.{Begins, Ends, Undoes, IsEndedOrKept}
 use Rattle.fuse_store_tables.specs.inner.Performing.{Ran}
 
 abbrev pub begin_text : List ℕ
@@ -84,6 +84,31 @@ keeps_query old new sql params e (inr h) = shown h.0.returning h.2
     shown None it = keeps_unchanged old new it.3
     shown (Some what) it = keeps_command old new sql _ e h.0 it
 
+-- ---- and what failed is undone, or was not begun
+
+undone_unchanged : (old new : State) → IsUnchanged old new → IsEndedOrKept old new
+undone_unchanged old new h = inr (h.0.mode, h.0.now_is)
+
+undone_fails : (old new : State) (U : Type 0) (e : Error) → Fails old new U e → IsEndedOrKept old new
+undone_fails old new U e h = inl h.3.autocommit
+
+undone_not_run : (old new : State) (sql : List ℕ) (params : Row) (e : Error) → IsNotRun old new sql params e → IsEndedOrKept old new
+unfolding IsNotRun
+undone_not_run old new sql params e (inl h) = undone_unchanged old new h.1
+undone_not_run old new sql params e (inr h) = undone_fails old new _ e h
+
+undone_command : (old new : State) (sql : List ℕ) (params : Row) (e : Error) (c : _) → RunsCommand old new sql c params (Err e) → IsEndedOrKept old new
+undone_command old new sql params e c (inl h) = undone_unchanged old new h.1
+undone_command old new sql params e c (inr h) = undone_fails old new _ e h
+
+undone_failed : (old new : State) (sql : List ℕ) (params : Row) (e : Error) → Executes sql params old new (Err e) → IsEndedOrKept old new
+unfolding ExecutesIn
+undone_failed old new sql params e (inl h) = undone_not_run old new sql params e h
+undone_failed old new sql params e (inr h) = elim (cases_Bool (shows_rows false h.0)) [
+  | inl shows ↦ undone_unchanged old new (rw shows at h.2).1
+  | inr runs ↦ undone_command old new sql _ e h.0 (rw runs at h.2)
+]
+
 -- ---- the three texts
 
 begins_ok : (old new : State) (n : ℕ) → Executes begin_text [] old new (Ok n) → IsTrue new.is_open × (new.in_transaction ≡ true) × (new.now ≡ old.now)
@@ -99,6 +124,9 @@ begins_keeps old new n h =
 
 begins_outside : (old new : State) (n : ℕ) → Executes begin_text [] old new (Ok n) → old.in_transaction ≡ false
 begins_outside old new n h = (runs_as begin_text [] old new old.now.schema refl Begin (begin_is _) (begin_plain _) n h).0
+
+commits_was : (old new : State) (n : ℕ) → Executes commit_text [] old new (Ok n) → IsTrue old.is_open
+commits_was old new n h = (runs_as commit_text [] old new old.now.schema refl Commit (commit_is _) (commit_plain _) n h).1.was_open
 
 commits_ok : (old new : State) (n : ℕ) → Executes commit_text [] old new (Ok n) → IsTrue new.is_open × (new.in_transaction ≡ false) × (new.now ≡ old.now)
     × (new.committed ≡ new.now)
@@ -158,12 +186,14 @@ begins old new (Ok x) runs survives = record {
   kept = λ clean. begins_keeps old new (runs clean).0 (runs clean).1;
   begun = λ clean. begins_ok old new (runs clean).0 (runs clean).1;
   outside = λ clean. begins_outside old new (runs clean).0 (runs clean).1;
+  failed = tt;
 }
 begins old new (Err e) runs survives = record {
   survives = survives_weaker old new _ _ (λ _ db. begin_commits_none old db) survives;
   kept = λ clean. keeps_failed old new _ _ e (runs clean);
   begun = tt;
   outside = tt;
+  failed = λ clean. undone_failed old new _ _ e (runs clean);
 }
 
 pub ends : (old new : State) (r : Result (Unit {0}) Error) → (HasCleanDisk new → Ran commit_text [] old new r) → Survives old new (CommitsBy commit_text [] old)
@@ -171,12 +201,16 @@ pub ends : (old new : State) (r : Result (Unit {0}) Error) → (HasCleanDisk new
 ends old new (Ok x) runs survives = record {
   survives = survives_weaker old new _ _ (λ _ db. commit_commits old db) survives;
   kept = tt;
+  was = λ clean. commits_was old new (runs clean).0 (runs clean).1;
   ended = λ clean. commits_ok old new (runs clean).0 (runs clean).1;
+  failed = tt;
 }
 ends old new (Err e) runs survives = record {
   survives = survives_weaker old new _ _ (λ _ db. commit_commits old db) survives;
   kept = λ clean. keeps_failed old new _ _ e (runs clean);
+  was = tt;
   ended = tt;
+  failed = λ clean. undone_failed old new _ _ e (runs clean);
 }
 
 -- ---- ROLLBACK

@@ -1,6 +1,6 @@
 -- The statements on the table of entries.
 use Rattle.std.proofs.Common.{take, ◌≡◌, ℕ, pos, List, [], ◌∷◌, map, filter, codes, true, false, ◌&&◌, Some, None, Ok, Err}
-use Rattle.std.proofs.Common.{Result, IfOk, IfErr, refl, sym, ap, subst, ◌∙◌}
+use Rattle.std.proofs.Common.{Result, OnOk, IfOk, IfErr, refl, sym, ap, subst, ◌∙◌}
 use Rattle.std.specs.List.{list_all}
 use Rattle.std.specs.Ordering.{is_eq, is_gt, nat_cmp}
 use Rattle.sqlite.specs.declared.types.Value.TheVariants.{Null, Int, Blob}
@@ -19,24 +19,25 @@ use Rattle.sqlite.specs.Command.TheVariants.{Insert, Delete, Select}
 use Rattle.sqlite_rules.specs.Cast.{cast_row}
 use Rattle.sqlite_tied.specs.Compute.{everything}
 use Rattle.sqlite.specs.declared.error.Error.{Error}
+use Rattle.sqlite_rules.specs.Edit.{is_taken}
 use Rattle.sqlite.specs.Listing.{understood, reads_listing}
 use Rattle.sqlite.specs.State.{State, HasCleanDisk, Survives, CommitsBy, Writes, Shown, FailsToQuery, CommitsShowing}
 use Rattle.sqlite.proofs.Callers.{IsPlain, command_of, statement_of}
 use Rattle.fuse_store_tables.specs.Layout.{entries, store_schema}
-use Rattle.fuse_store_tables.specs.Content.{Content, Holds, stored, put_by, has_by, cookie_of, entry_row, with_entry, with_entry_gone, has_name}
+use Rattle.fuse_store_tables.specs.Content.{Content, Holds, stored, put_by, has_by, at_by, cookie_of, entry_row, with_entry, with_entry_gone, has_name}
 use Rattle.fuse_store_tables.specs.Content.{stands_after, shown_entry, shown_place}
 use Rattle.fuse_store_tables.specs.Moves.{Inside, Makes}
 use Rattle.fuse_store_tables.specs.inner.Performing.{Ran}
-use Rattle.fuse_store_tables.proofs.Writing.{makes}
+use Rattle.fuse_store_tables.proofs.Writing.{told_before, makes}
 use Rattle.fuse_store_tables.proofs.Tables.{wrote, quiet, only_entries}
-use Rattle.fuse_store_tables.proofs.Keyed.{put_rows, row_cmp_nat}
+use Rattle.fuse_store_tables.proofs.Keyed.{put_rows, row_cmp_nat, none_taken}
 use Rattle.fuse_store_tables.proofs.RowLemmas.{cast_int, cast_null, inserted}
 use Rattle.fuse_store_tables.proofs.Reading.{looks, read, truth_of, both_true}
 use Rattle.fuse_store_tables.proofs.Deletes.{picking, picks}
 use Rattle.fuse_store_tables.proofs.Ordered.{ordered_query, answered_in_order, rises_from}
 use Rattle.sqlite_value.proofs.OrderLemmas.{value_cmp-Blob}
 use Rattle.std.specs.Cmp.Lexicographic.{slice_cmp}
-use Rattle.fuse_tree.specs.declared.rows.EntryRow.{EntryRow}
+use Rattle.fuse_rows.specs.declared.rows.EntryRow.{EntryRow}
 use Rattle.sqlite_resolve.specs.Compile.{first}
 use Rattle.fuse_store_tables.proofs.Edits.{IsEditText}
 use Rattle.fuse_store_tables.proofs.Queries.{IsSelectText}
@@ -82,6 +83,20 @@ pub adds : (x : EntryRow) (old new : State) (r : Result (Unit {0}) Error) → (H
     → Survives old new (CommitsBy insert_text (given x) old) → Makes (with_entry x) old new r
 adds x = makes Holds store_schema (λ c d h. h.schema) insert_text (given x) (Insert 2 (Values insert_terms 5)) insert_is insert_plain refl insert_edit
     (λ c. Holds (with_entry x c)) (inserts x)
+
+-- its key was not there
+fresh : (x : EntryRow) (c : Content) (old new : State) (n : ℕ) → Holds c old.now → Writes old new None (Insert 2 (Values insert_terms 5))
+    (statement_of insert_text (understood store_schema insert_text)) (given x) n
+    → at_by cookie_of x.cookie c.entries ≡ None
+fresh x c old new n at w =
+    let put = inserted store_schema 2 entries refl insert_terms 5 old new _ (given x) n (entry_row x) (λ keys news. quiet keys 2 [] news) (ap (λ r. r
+    ∷ []) (cast_as x)) at.schema w in
+    none_taken cookie_of entry_row (λ _. refl) x c.entries (subst (λ rows. is_taken rows (entry_row x) ≡ false) at.rows.1.1.0.0 put.free)
+
+pub adds_new : (x : EntryRow) (old new : State) (r : Result (Unit {0}) Error) → (HasCleanDisk new → Ran insert_text (given x) old new r) → HasCleanDisk new
+    → OnOk r ((c : Content) → Inside c old → at_by cookie_of x.cookie c.entries ≡ None)
+adds_new x = told_before Holds store_schema (λ c d h. h.schema) insert_text (given x) (Insert 2 (Values insert_terms 5)) insert_is insert_plain refl
+    (λ c. at_by cookie_of x.cookie c.entries ≡ None) (fresh x)
 
 -- ---- by the key
 

@@ -6,15 +6,15 @@ use Rattle.std.specs.Ordering.{is_eq, nat_cmp}
 use Rattle.sqlite.specs.State.{State, Survives}
 use Rattle.sqlite.proofs.StateLemmas.{survives_weaker}
 use Rattle.fuse_keeper.specs.declared.fault.StoreFault.{StoreFault}
-use Rattle.fuse_tree.specs.declared.origin.Origin.{Origin}
+use Rattle.fuse_rows.specs.declared.origin.Origin.{Origin}
 use Rattle.fuse_init.specs.declared.profile.Profile.{Profile}
 use Rattle.fuse_init.specs.declared.profile.Profile.TheVariants.{Plain, Everyday}
 use Rattle.fuse_init.specs.Profile.{terms}
 use Rattle.fuse_store_tables.specs.Content.{Content, Holds, LeftAs, node_key, value_at, set_counter, is_unnamed}
 use Rattle.fuse_store_tables.specs.Clearing.{cleared, counted_to, lowered, named, unnamed_blocks}
-use Rattle.fuse_store_tables.specs.Making.{new_store, first_counters, room_counters}
+use Rattle.fuse_store_tables.specs.Making.{new_content, first_counters, room_counters}
 use Rattle.fuse_store_tables.specs.Moves.{RestsAs, Serves, ServesAs, IsSafe}
-use Rattle.fuse_store_tables.specs.Opening.{most, profile_in, meta_rows, IsMetaFrom, MetaOf, AreAbove, IsFit, IsSecond}
+use Rattle.fuse_store_tables.specs.Opening.{greatest_value, profile_in, meta_rows, IsMetaFrom, MetaOf, AreAbove, IsFitContent, IsSecond}
 use Rattle.fuse_store_tables.proofs.MetaLemmas.{meta_set}
 use Rattle.fuse_store_tables.proofs.Lowering.{lowered_low, room_lowered}
 use Rattle.fuse_store_tables.proofs.Profiles.{AreNoRoom, profile_set, room_same, room_set}
@@ -31,7 +31,7 @@ abbrev AreFew : Content → Profile → Type 0
 AreFew c p = length c.nodes ≤ (terms p).node_limit
 
 -- its other value
-pub fit_set : (key v : ℕ) → IsFree key → (c : Content) → v ≤ most (profile_in c) key → IsFit c → IsFit (set_counter key v c)
+pub fit_set : (key v : ℕ) → IsFree key → (c : Content) → v ≤ greatest_value (profile_in c) key → IsFitContent c → IsFitContent (set_counter key v c)
 fit_set key v free c low fit =
     let p = profile_in c in
     record {
@@ -91,7 +91,7 @@ free_nine = free_by 9 refl refl refl refl refl refl refl refl
 free_ten : IsFree 10
 free_ten = free_by 10 refl refl refl refl refl refl refl refl
 
-fit_lowered : (c : Content) → IsFit c → IsFit (lowered c)
+fit_lowered : (c : Content) → IsFitContent c → IsFitContent (lowered c)
 fit_lowered c fit =
     let p = profile_in c in
     let left = value_at 14 c - unnamed_blocks c.nodes in
@@ -105,7 +105,7 @@ fit_lowered c fit =
       few = subst (AreFew c) (sym (profile_set 14 left c)) fit.few;
     }
 
-pub fit_cleared : (c : Content) → IsFit c → IsFit (cleared c)
+pub fit_cleared : (c : Content) → IsFitContent c → IsFitContent (cleared c)
 fit_cleared c fit =
     let less = filter_length (λ n. not (is_unnamed n)) c.nodes in
     let c6 = set_counter 6 0 (lowered c) in
@@ -199,23 +199,23 @@ room_meta capacity low = (
 from_zero : (n : ℕ) → 0 ≤ n
 from_zero n = omega arith
 
-new_meta : (room : Option ℕ) → IfSome room (λ capacity. capacity < 2 ^ 51) → (from : Origin) → MetaOf (profile_in (new_store room from)) (new_store room from)
+new_meta : (room : Option ℕ) → IfSome room (λ capacity. capacity < 2 ^ 51) → (from : Origin) → MetaOf (profile_in (new_content room from)) (new_content room from)
 new_meta None low from = (first_meta, tt)
 new_meta (Some capacity) low from = (room_meta capacity low, (refl, from_zero capacity))
 
-new_few : (room : Option ℕ) (from : Origin) → AreFew (new_store room from) (profile_in (new_store room from))
+new_few : (room : Option ℕ) (from : Origin) → AreFew (new_content room from) (profile_in (new_content room from))
 new_few None from = omega arith
 new_few (Some capacity) from = omega arith
 
-new_version : (room : Option ℕ) (from : Origin) → value_at 1 (new_store room from) ≡ 2
+new_version : (room : Option ℕ) (from : Origin) → value_at 1 (new_content room from) ≡ 2
 new_version None from = refl
 new_version (Some capacity) from = refl
 
-new_above : (room : Option ℕ) (from : Origin) → AreAbove (new_store room from)
+new_above : (room : Option ℕ) (from : Origin) → AreAbove (new_content room from)
 new_above None from = record { nodes = (one_below_two, tt); handles = tt; entries = tt }
 new_above (Some capacity) from = record { nodes = (one_below_two, tt); handles = tt; entries = tt }
 
-pub fit_new : (room : Option ℕ) (from : Origin) → IfSome room (λ capacity. capacity < 2 ^ 51) → IsFit (new_store room from)
+pub fit_new : (room : Option ℕ) (from : Origin) → IfSome room (λ capacity. capacity < 2 ^ 51) → IsFitContent (new_content room from)
 fit_new room from low = record {
   version = new_version room from;
   meta = new_meta room low from;
@@ -226,11 +226,11 @@ fit_new room from low = record {
 }
 
 -- a whole transaction, where the content stays in order
-module _ (f : Content → Content) (keeps : (c : Content) → IsFit c → IsFit (f c)) (a b : State) where
+module _ (f : Content → Content) (keeps : (c : Content) → IsFitContent c → IsFitContent (f c)) (a b : State) where
   rests_held : (c : Content) (s : State) → RestsAs (IsSecond c) s → RestsAs (Holds c) s
   rests_held c s at = record { is_open = at.is_open; autocommit = at.autocommit; holds = at.holds.holds; committed = at.committed }
 
-  rests_fit : (c : Content) (s : State) → IsFit c → RestsAs (Holds c) s → RestsAs (IsSecond c) s
+  rests_fit : (c : Content) (s : State) → IsFitContent c → RestsAs (Holds c) s → RestsAs (IsSecond c) s
   rests_fit c s fit at = record { is_open = at.is_open; autocommit = at.autocommit; holds = record { holds = at.holds; fit = fit }; committed = at.committed }
 
   survives_fit : Survives a b (λ db. (c : Content) → RestsAs (Holds c) a → LeftAs (Holds (f c)) db) → Survives a b (λ db. (c : Content) → RestsAs (IsSecond c) a

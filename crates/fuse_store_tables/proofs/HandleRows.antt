@@ -1,6 +1,6 @@
 -- The statements on the table of handles.
 use Rattle.std.proofs.Common.{◌≡◌, ℕ, pos, List, [], ◌∷◌, map, take, filter, codes, true, false, ◌&&◌, Some, None, Ok, Err, Result}
-use Rattle.std.proofs.Common.{IfOk, IfErr, refl, sym, ap, subst, ◌∙◌}
+use Rattle.std.proofs.Common.{OnOk, IfOk, IfErr, refl, sym, ap, subst, ◌∙◌}
 use Rattle.std.specs.List.{list_all}
 use Rattle.std.specs.Option.{option_to_list}
 use Rattle.std.specs.Ordering.{is_eq}
@@ -20,6 +20,7 @@ use Rattle.sqlite.specs.Command.TheVariants.{Insert, Delete, Select}
 use Rattle.sqlite_rules.specs.Cast.{cast_row}
 use Rattle.sqlite_tied.specs.Compute.{everything}
 use Rattle.sqlite.specs.declared.error.Error.{Error}
+use Rattle.sqlite_rules.specs.Edit.{is_taken}
 use Rattle.sqlite.specs.Listing.{understood, reads_listing}
 use Rattle.sqlite.specs.State.{State, HasCleanDisk, Survives, CommitsBy, Writes, Shown, FailsToQuery, CommitsShowing}
 use Rattle.sqlite.proofs.Callers.{IsPlain, command_of, statement_of}
@@ -28,14 +29,14 @@ use Rattle.fuse_store_tables.specs.Content.{Content, Holds, stored, put_by, has_
 use Rattle.fuse_store_tables.specs.Content.{without_handle, shown_open, is_handle_of}
 use Rattle.fuse_store_tables.specs.Moves.{Inside, Makes}
 use Rattle.fuse_store_tables.specs.inner.Performing.{Ran}
-use Rattle.fuse_store_tables.proofs.Writing.{makes}
+use Rattle.fuse_store_tables.proofs.Writing.{told_before, makes}
 use Rattle.fuse_store_tables.proofs.Tables.{wrote, quiet, only_handles}
-use Rattle.fuse_store_tables.proofs.Keyed.{put_rows, row_cmp_nat, found_rows}
+use Rattle.fuse_store_tables.proofs.Keyed.{put_rows, row_cmp_nat, found_rows, none_taken}
 use Rattle.fuse_store_tables.proofs.RowLemmas.{cast_int, cast_null, inserted}
 use Rattle.fuse_store_tables.proofs.Reading.{plain_query, answered, looks, read, only, truth_of}
 use Rattle.fuse_store_tables.proofs.Deletes.{picking, picks}
 use Rattle.fuse_store_tables.proofs.Ordered.{ordered_query, answered_in_order, rises_from}
-use Rattle.fuse_tree.specs.declared.rows.HandleRow.{HandleRow}
+use Rattle.fuse_rows.specs.declared.rows.HandleRow.{HandleRow}
 use Rattle.sqlite_resolve.specs.Compile.{first}
 use Rattle.fuse_store_tables.proofs.Edits.{IsEditText}
 use Rattle.fuse_store_tables.proofs.Queries.{IsSelectText}
@@ -81,6 +82,20 @@ pub adds : (x : HandleRow) (old new : State) (r : Result (Unit {0}) Error) → (
     → Survives old new (CommitsBy insert_text (given x) old) → Makes (with_handle x) old new r
 adds x = makes Holds store_schema (λ c d h. h.schema) insert_text (given x) (Insert 4 (Values insert_terms 4)) insert_is insert_plain refl insert_edit
     (λ c. Holds (with_handle x c)) (inserts x)
+
+-- its key was not there
+fresh : (x : HandleRow) (c : Content) (old new : State) (n : ℕ) → Holds c old.now → Writes old new None (Insert 4 (Values insert_terms 4))
+    (statement_of insert_text (understood store_schema insert_text)) (given x) n
+    → at_by fh_of x.fh c.handles ≡ None
+fresh x c old new n at w =
+    let put = inserted store_schema 4 handles refl insert_terms 4 old new _ (given x) n (handle_row x) (λ keys news. quiet keys 7 [] news) (ap (λ r. r
+    ∷ []) (cast_as x)) at.schema w in
+    none_taken fh_of handle_row (λ _. refl) x c.handles (subst (λ rows. is_taken rows (handle_row x) ≡ false) at.rows.1.1.1.1.0.0 put.free)
+
+pub adds_new : (x : HandleRow) (old new : State) (r : Result (Unit {0}) Error) → (HasCleanDisk new → Ran insert_text (given x) old new r) → HasCleanDisk new
+    → OnOk r ((c : Content) → Inside c old → at_by fh_of x.fh c.handles ≡ None)
+adds_new x = told_before Holds store_schema (λ c d h. h.schema) insert_text (given x) (Insert 4 (Values insert_terms 4)) insert_is insert_plain refl
+    (λ c. at_by fh_of x.fh c.handles ≡ None) (fresh x)
 
 -- ---- by the key
 

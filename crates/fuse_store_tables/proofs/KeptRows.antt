@@ -1,6 +1,6 @@
 -- The statements on the table of records.
 use Rattle.std.proofs.Common.{◌≡◌, ℕ, pos, List, [], ◌∷◌, map, codes, true, false, ◌&&◌, Some, None, Ok, Err, Result}
-use Rattle.std.proofs.Common.{IfOk, IfErr, refl, sym, ap, subst, ◌∙◌}
+use Rattle.std.proofs.Common.{OnOk, IfOk, IfErr, refl, sym, ap, subst, ◌∙◌}
 use Rattle.std.specs.List.{list_all}
 use Rattle.std.specs.Option.{option_to_list}
 use Rattle.std.specs.Ordering.{is_eq}
@@ -20,16 +20,17 @@ use Rattle.sqlite.specs.Command.TheVariants.{Insert, Delete, Select}
 use Rattle.sqlite_rules.specs.Cast.{cast_row}
 use Rattle.sqlite_tied.specs.Compute.{everything}
 use Rattle.sqlite.specs.declared.error.Error.{Error}
+use Rattle.sqlite_rules.specs.Edit.{is_taken}
 use Rattle.sqlite.specs.Listing.{understood, reads_listing}
 use Rattle.sqlite.specs.State.{State, HasCleanDisk, Survives, CommitsBy, Writes, Shown, FailsToQuery, CommitsShowing}
 use Rattle.sqlite.proofs.Callers.{IsPlain, command_of, statement_of}
 use Rattle.fuse_store_tables.specs.Layout.{kept, store_schema}
-use Rattle.fuse_store_tables.specs.Content.{Content, Kept, Holds, stored, put_by, has_by, at_by, kept_key, kept_row, shown_kept, with_kept, without_kept}
+use Rattle.fuse_store_tables.specs.Content.{Content, Kept, Holds, stored, put_by, has_by, at_by, kept_key, kept_row, shown_kept, put_kept, without_kept}
 use Rattle.fuse_store_tables.specs.Moves.{Inside, Rests, Makes, Serves}
 use Rattle.fuse_store_tables.specs.inner.Performing.{Ran}
-use Rattle.fuse_store_tables.proofs.Writing.{makes}
+use Rattle.fuse_store_tables.proofs.Writing.{told_before, makes}
 use Rattle.fuse_store_tables.proofs.Tables.{wrote, quiet, only_kept}
-use Rattle.fuse_store_tables.proofs.Keyed.{put_rows, row_cmp_nat, found_rows}
+use Rattle.fuse_store_tables.proofs.Keyed.{put_rows, row_cmp_nat, found_rows, none_taken}
 use Rattle.fuse_store_tables.proofs.RowLemmas.{cast_int, cast_null, inserted}
 use Rattle.fuse_store_tables.proofs.Reading.{plain_query, answered, looks, read_held, only, truth_of}
 use Rattle.fuse_store_tables.proofs.Resting.{peeks}
@@ -66,19 +67,33 @@ cast_as x = rw (cast_int (pos x.id), cast_int (pos x.lot), cast_int (pos x.said.
 
 inserts : (x : Kept) (c : Content) (old new : State) (n : ℕ) → Holds c old.now → Writes old new None (Insert 7 (Values insert_terms 5))
     (statement_of insert_text (understood store_schema insert_text)) (given x) n
-    → Holds (with_kept x c) new.now
+    → Holds (put_kept x c) new.now
 inserts x c old new n at w =
     let put = inserted store_schema 7 kept refl insert_terms 5 old new _ (given x) n (kept_row x) (λ keys news. quiet keys 10 [] news) (ap (λ r. r
     ∷ []) (cast_as x)) at.schema w in
     let was = at.rows.1.1.1.1.1.1.1.0 in
-    wrote store_schema (stored c) (stored (with_kept x c)) kept old.now new.now at put.spares w.sound (only_kept c (put_by kept_key x c.kept))
+    wrote store_schema (stored c) (stored (put_kept x c)) kept old.now new.now at put.spares w.sound (only_kept c (put_by kept_key x c.kept))
     (put.rows ∙ ap (put_row (kept_row x)) was.0 ∙ put_rows kept_key kept_row (λ _. refl) x c.kept)
     (subst IsTable (sym put.rows) (IsTable-put_row (kept_row x) (old.now.trees 10) was.1))
 
 pub adds : (x : Kept) (old new : State) (r : Result (Unit {0}) Error) → (HasCleanDisk new → Ran insert_text (given x) old new r)
-    → Survives old new (CommitsBy insert_text (given x) old) → Makes (with_kept x) old new r
+    → Survives old new (CommitsBy insert_text (given x) old) → Makes (put_kept x) old new r
 adds x = makes Holds store_schema (λ c d h. h.schema) insert_text (given x) (Insert 7 (Values insert_terms 5)) insert_is insert_plain refl insert_edit
-    (λ c. Holds (with_kept x c)) (inserts x)
+    (λ c. Holds (put_kept x c)) (inserts x)
+
+-- its key was not there
+fresh : (x : Kept) (c : Content) (old new : State) (n : ℕ) → Holds c old.now → Writes old new None (Insert 7 (Values insert_terms 5))
+    (statement_of insert_text (understood store_schema insert_text)) (given x) n
+    → at_by kept_key x.id c.kept ≡ None
+fresh x c old new n at w =
+    let put = inserted store_schema 7 kept refl insert_terms 5 old new _ (given x) n (kept_row x) (λ keys news. quiet keys 10 [] news) (ap (λ r. r
+    ∷ []) (cast_as x)) at.schema w in
+    none_taken kept_key kept_row (λ _. refl) x c.kept (subst (λ rows. is_taken rows (kept_row x) ≡ false) at.rows.1.1.1.1.1.1.1.0.0 put.free)
+
+pub adds_new : (x : Kept) (old new : State) (r : Result (Unit {0}) Error) → (HasCleanDisk new → Ran insert_text (given x) old new r) → HasCleanDisk new
+    → OnOk r ((c : Content) → Inside c old → at_by kept_key x.id c.kept ≡ None)
+adds_new x = told_before Holds store_schema (λ c d h. h.schema) insert_text (given x) (Insert 7 (Values insert_terms 5)) insert_is insert_plain refl
+    (λ c. at_by kept_key x.id c.kept ≡ None) (fresh x)
 
 -- ---- by the key
 

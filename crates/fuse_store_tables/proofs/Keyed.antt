@@ -11,7 +11,7 @@ use Rattle.sqlite.specs.declared.types.Value.TheVariants.{Int}
 use Rattle.sqlite.specs.Order.{Row}
 use Rattle.sqlite_trees.specs.Tree.{IsTable, rowid, put_row, without_rowid, has_rowid}
 use Rattle.sqlite_trees.proofs.TreeLemmas.{IsTable-put_row}
-use Rattle.sqlite_rules.specs.Edit.{with_rowid, numbered, put_all}
+use Rattle.sqlite_rules.specs.Edit.{with_rowid, numbered, put_all, is_taken}
 use Rattle.sqlite.specs.Rowids.TheVariants.{Chosen}
 use Rattle.sqlite_value.specs.Order.{value_cmp}
 use Rattle.fuse_store_tables.specs.Content.{put_by}
@@ -76,6 +76,14 @@ module _ {X : Type 0} (key : X → ℕ) (row : X → Row) (keyed : (x : X) → r
   found_rows k (x ∷ xs) rise = elim (cases_Bool (has k x)) [
     | inl here ↦ rw here (ap (λ rest. x ∷ rest) (none_after k x xs here rise.0))
     | inr not_here ↦ rw not_here (found_rows k xs rise.1)
+  ]
+
+  -- a row whose rowid is not taken has a new key
+  pub none_taken : (x : X) (xs : List X) → is_taken (map row xs) (row x) ≡ false → at_key (key x) xs ≡ None
+  none_taken x [] free = refl
+  none_taken x (y ∷ ys) free = elim (cases_Bool (has (key x) y)) [
+    | inl here ↦ absurd (let e = rw (cmp_rows y x, here) at free in cc)
+    | inr not_here ↦ rw not_here (none_taken x ys (rw (cmp_rows y x, not_here) at free))
   ]
 
   pub without_rows : (k : ℕ) (xs : List X) → without_rowid (pos k) (map row xs) ≡ map row (filter (λ x. not (has k x)) xs)

@@ -57,3 +57,4 @@ pub mod Checks
 pub mod NumberRows
 pub mod Renewed
 pub mod SelectTexts
+pub mod Wanted

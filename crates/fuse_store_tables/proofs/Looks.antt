@@ -2,9 +2,9 @@
 use Rattle.std.proofs.Common.{Ok, Err, Result, OnOk, OnErr}
 use Rattle.sqlite.specs.State.{State}
 use Rattle.sqlite.specs.declared.error.Error.{Error}
-use Rattle.fuse_store_tables.specs.Moves.{Makes, Looked, Stays}
+use Rattle.fuse_store_tables.specs.Moves.{Makes, LookedInside, Stays}
 
-pub looked : {X : Type 0} (a b : State) (r : Result X Error) → Makes (λ c. c) a b r → OnOk r (Looked a b)
+pub looked : {X : Type 0} (a b : State) (r : Result X Error) → Makes (λ c. c) a b r → OnOk r (LookedInside a b)
 looked a b (Ok x) p = record { stays = p.stays; within = p.within; same = p.turns }
 looked a b (Err e) p = tt
 

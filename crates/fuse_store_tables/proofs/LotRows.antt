@@ -1,6 +1,6 @@
 -- The statements on the table of lots.
 use Rattle.std.proofs.Common.{◌≡◌, ℕ, pos, List, [], ◌∷◌, codes, None, Result}
-use Rattle.std.proofs.Common.{refl, sym, ap, subst, ◌∙◌}
+use Rattle.std.proofs.Common.{false, OnOk, refl, sym, ap, subst, ◌∙◌}
 use Rattle.sqlite.specs.declared.types.Value.TheVariants.{Null, Int}
 use Rattle.sqlite.specs.Order.{Row}
 use Rattle.sqlite_trees.specs.Tree.{IsTable, put_row}
@@ -11,16 +11,17 @@ use Rattle.sqlite.specs.Command.TheVariants.{Insert}
 use Rattle.sqlite_rules.specs.Cast.{cast_row}
 use Rattle.sqlite_tied.specs.Compute.{everything}
 use Rattle.sqlite.specs.declared.error.Error.{Error}
+use Rattle.sqlite_rules.specs.Edit.{is_taken}
 use Rattle.sqlite.specs.Listing.{understood}
 use Rattle.sqlite.specs.State.{State, HasCleanDisk, Survives, CommitsBy, Writes}
 use Rattle.sqlite.proofs.Callers.{IsPlain, command_of, statement_of}
 use Rattle.fuse_store_tables.specs.Layout.{lots, store_schema}
-use Rattle.fuse_store_tables.specs.Content.{Content, Holds, stored, put_by, lot_row, with_lot}
-use Rattle.fuse_store_tables.specs.Moves.{Makes}
+use Rattle.fuse_store_tables.specs.Content.{Content, Holds, stored, put_by, at_by, lot_row, with_lot}
+use Rattle.fuse_store_tables.specs.Moves.{Inside, Makes}
 use Rattle.fuse_store_tables.specs.inner.Performing.{Ran}
-use Rattle.fuse_store_tables.proofs.Writing.{makes}
+use Rattle.fuse_store_tables.proofs.Writing.{told_before, makes}
 use Rattle.fuse_store_tables.proofs.Tables.{wrote, quiet, only_lots}
-use Rattle.fuse_store_tables.proofs.Keyed.{put_rows}
+use Rattle.fuse_store_tables.proofs.Keyed.{put_rows, none_taken}
 use Rattle.fuse_store_tables.proofs.RowLemmas.{cast_int, cast_null, inserted}
 use Rattle.sqlite_resolve.specs.Compile.{first}
 use Rattle.fuse_store_tables.proofs.Edits.{IsEditText}
@@ -66,3 +67,17 @@ pub adds : (x : ℕ) (old new : State) (r : Result (Unit {0}) Error) → (HasCle
     → Survives old new (CommitsBy insert_text (given x) old) → Makes (with_lot x) old new r
 adds x = makes Holds store_schema (λ c d h. h.schema) insert_text (given x) (Insert 6 (Values insert_terms 2)) insert_is insert_plain refl insert_edit
     (λ c. Holds (with_lot x c)) (inserts x)
+
+-- its key was not there
+fresh : (x : ℕ) (c : Content) (old new : State) (n : ℕ) → Holds c old.now → Writes old new None (Insert 6 (Values insert_terms 2))
+    (statement_of insert_text (understood store_schema insert_text)) (given x) n
+    → at_by (λ n. n) x c.lots ≡ None
+fresh x c old new n at w =
+    let put = inserted store_schema 6 lots refl insert_terms 2 old new _ (given x) n (lot_row x) (λ keys news. quiet keys 9 [] news) (ap (λ r. r
+    ∷ []) (cast_as x)) at.schema w in
+    none_taken (λ n. n) lot_row (λ _. refl) x c.lots (subst (λ rows. is_taken rows (lot_row x) ≡ false) at.rows.1.1.1.1.1.1.0.0 put.free)
+
+pub adds_new : (x : ℕ) (old new : State) (r : Result (Unit {0}) Error) → (HasCleanDisk new → Ran insert_text (given x) old new r) → HasCleanDisk new
+    → OnOk r ((c : Content) → Inside c old → at_by (λ n. n) x c.lots ≡ None)
+adds_new x = told_before Holds store_schema (λ c d h. h.schema) insert_text (given x) (Insert 6 (Values insert_terms 2)) insert_is insert_plain refl
+    (λ c. at_by (λ n. n) x c.lots ≡ None) (fresh x)

@@ -11,11 +11,11 @@ use Rattle.std.specs.Ordering.{is_eq, nat_cmp}
 use Rattle.sqlite.specs.Order.{Row}
 use Rattle.fuse_init.specs.declared.profile.Profile.{Profile}
 use Rattle.fuse_init.specs.declared.profile.Profile.TheVariants.{Plain, Everyday}
-use Rattle.fuse_tree.specs.declared.rows.NodeRow.{NodeRow}
+use Rattle.fuse_rows.specs.declared.rows.NodeRow.{NodeRow}
 use Rattle.fuse_store_tables.specs.Clearing.{blocks_in, lowered, unnamed_blocks}
 use Rattle.fuse_store_tables.specs.Content.{Content, Counter, counter_key, has_by, at_by, set_by, valued, value_at, set_counter, is_unnamed, shown_counter}
-use Rattle.fuse_store_tables.specs.Opening.{IsMetaFrom, HasRoomOf, most}
-use Rattle.fuse_store_tables.specs.inner.Columns.{number_of, shown_number}
+use Rattle.fuse_store_tables.specs.Opening.{IsMetaFrom, HasRoomOf, greatest_value}
+use Rattle.fuse_store_tables.specs.inner.Columns.{number_of_row, shown_number}
 use Rattle.fuse_store_tables.specs.inner.Steps.{lowered_from, read_blocks, unnamed_sizes}
 use Rattle.fuse_store_tables.proofs.CounterValues.{value_set}
 
@@ -24,7 +24,7 @@ use Rattle.fuse_store_tables.proofs.CounterValues.{value_set}
 sizes_read : (ns : List NodeRow) → read_blocks (map shown_number (map (λ (n : NodeRow). n.size) ns)) ≡ sum_by (λ n. blocks_in n.size) ns
 sizes_read [] = refl
 sizes_read (n ∷ ns) =
-    sum_by-cons (λ r. blocks_in (number_of r)) (shown_number n.size) (map shown_number (map (λ (m : NodeRow). m.size) ns))
+    sum_by-cons (λ r. blocks_in (number_of_row r)) (shown_number n.size) (map shown_number (map (λ (m : NodeRow). m.size) ns))
     ∙ ap (λ more. blocks_in n.size + more) (sizes_read ns) ∙ sym (sum_by-cons (λ (m : NodeRow). blocks_in m.size) n ns)
 
 -- the number that is left is that of the content
@@ -41,10 +41,10 @@ left_low used so_far left is = omega (arith, is)
 
 -- one size more
 pub left_more : (rows : List Row) (at : ℕ) (d : Row) (used left : ℕ) → at < length rows → left ≡ used - read_blocks (take at rows)
-    → left - blocks_in (number_of (slice_index_or rows at d)) ≡ used - read_blocks (take (at + 1) rows)
+    → left - blocks_in (number_of_row (slice_index_or rows at d)) ≡ used - read_blocks (take (at + 1) rows)
 left_more rows at d used left low is =
-    minus_more left used (read_blocks (take at rows)) (blocks_in (number_of (slice_index_or rows at d))) (read_blocks (take (at + 1) rows)) is
-    (sum_by_more (λ r. blocks_in (number_of r)) rows at d low)
+    minus_more left used (read_blocks (take at rows)) (blocks_in (number_of_row (slice_index_or rows at d))) (read_blocks (take (at + 1) rows)) is
+    (sum_by_more (λ r. blocks_in (number_of_row r)) rows at d low)
 
 -- ---- the number that was in use
 
@@ -123,23 +123,23 @@ set_at_most key v (c ∷ cs) =
 is_key : (a b : ℕ) → is_eq (nat_cmp a b) ≡ true → a ≡ b
 is_key a b is = grind (arith, nat_tests)
 
-value_low : (p : Profile) (k n key : ℕ) (cs : List Counter) → IsMetaFrom p k n cs → value_in (at_by counter_key key cs) ≤ most p key
-value_low p k zero key [] meta = from_zero (most p key)
+value_low : (p : Profile) (k n key : ℕ) (cs : List Counter) → IsMetaFrom p k n cs → value_in (at_by counter_key key cs) ≤ greatest_value p key
+value_low p k zero key [] meta = from_zero (greatest_value p key)
 value_low p k zero key (c ∷ cs) meta = absurd meta
 value_low p k (suc n) key [] meta = absurd meta
 value_low p k (suc n) key (c ∷ cs) meta = elim (cases_Bool (has_by counter_key key c)) [
   | inl here ↦
-      subst (λ b. value_in (cond b (Some c) (at_by counter_key key cs)) ≤ most p key) (sym here)
-      (subst (λ m. c.value ≤ most p m) (is_key c.key key here) meta.1)
+      subst (λ b. value_in (cond b (Some c) (at_by counter_key key cs)) ≤ greatest_value p key) (sym here)
+      (subst (λ m. c.value ≤ greatest_value p m) (is_key c.key key here) meta.1)
   | inr off ↦
-      subst (λ b. value_in (cond b (Some c) (at_by counter_key key cs)) ≤ most p key) (sym off) (value_low p (k + 1) n key cs meta.2)
+      subst (λ b. value_in (cond b (Some c) (at_by counter_key key cs)) ≤ greatest_value p key) (sym off) (value_low p (k + 1) n key cs meta.2)
 ]
 
 minus_low : (a b c : ℕ) → a ≤ c → a - b ≤ c
 minus_low a b c low = omega (arith, low)
 
-pub lowered_low : (p : Profile) (n : ℕ) (c : Content) → IsMetaFrom p 1 n c.counters → value_at 14 c - unnamed_blocks c.nodes ≤ most p 14
-lowered_low p n c meta = minus_low (value_at 14 c) (unnamed_blocks c.nodes) (most p 14) (value_low p 1 n 14 c.counters meta)
+pub lowered_low : (p : Profile) (n : ℕ) (c : Content) → IsMetaFrom p 1 n c.counters → value_at 14 c - unnamed_blocks c.nodes ≤ greatest_value p 14
+lowered_low p n c meta = minus_low (value_at 14 c) (unnamed_blocks c.nodes) (greatest_value p 14) (value_low p 1 n 14 c.counters meta)
 
 lower_still : (x a b c y : ℕ) → x ≤ a - b → a ≤ c → y ≡ c → x ≤ y
 lower_still x a b c y one two three = omega (arith, one, two, three)

@@ -10,7 +10,7 @@ use Rattle.sqlite.specs.Order.{Row}
 use Rattle.fuse_init.specs.declared.profile.Profile.{Profile}
 use Rattle.fuse_init.specs.declared.profile.Profile.TheVariants.{Plain}
 use Rattle.fuse_store_tables.specs.Content.{Content, Counter, counter_key, has_by, valued, value_at, put_by, with_counter}
-use Rattle.fuse_store_tables.specs.Opening.{IsMetaFrom, most, marked}
+use Rattle.fuse_store_tables.specs.Opening.{IsMetaFrom, greatest_value, as_version_2}
 use Rattle.fuse_store_tables.specs.inner.Columns.{shown_meta}
 
 pub meta_length : (p : Profile) (k n : ℕ) (cs : List Counter) → IsMetaFrom p k n cs → length cs ≡ n
@@ -20,7 +20,7 @@ meta_length p k (suc n) [] meta = absurd meta
 meta_length p k (suc n) (c ∷ cs) meta = ap suc (meta_length p (k + 1) n cs meta.2)
 
 abbrev IsRowAt : Profile → ℕ → Row → Counter → Type 0
-IsRowAt p key row c = (row ≡ shown_meta c) × (c.key ≡ key) × (c.value ≤ most p c.key)
+IsRowAt p key row c = (row ≡ shown_meta c) × (c.key ≡ key) × (c.value ≤ greatest_value p c.key)
 
 pub row_at : (p : Profile) (k n : ℕ) (cs : List Counter) (at : ℕ) (d : Row) → IsMetaFrom p k n cs → at < length (map shown_meta cs) → (c : Counter)
     × IsRowAt p (k + at) (slice_index_or (map shown_meta cs) at d) c
@@ -45,7 +45,7 @@ shown_at [] at d low = absurd (omega (arith, low))
 shown_at (c ∷ cs) zero d low = refl
 shown_at (c ∷ cs) (suc at) d low = shown_at cs at d (omega (arith, low))
 
-meta_last : (p : Profile) (k n : ℕ) (cs : List Counter) (c : Counter) → IsMetaFrom p k n cs → c.key ≡ k + n → c.value ≤ most p c.key
+meta_last : (p : Profile) (k n : ℕ) (cs : List Counter) (c : Counter) → IsMetaFrom p k n cs → c.key ≡ k + n → c.value ≤ greatest_value p c.key
     → IsMetaFrom p k (suc n) (cs ++ c ∷ [])
 meta_last p k zero [] c meta is low = (omega (arith, is), low, tt)
 meta_last p k zero (x ∷ cs) c meta is low = absurd meta
@@ -57,7 +57,7 @@ one_above n = omega arith
 
 -- one row more
 pub starts_more : (p : Profile) (rows : List Row) (at : ℕ) (row : Row) → at < length rows → row ≡ slice_index_or rows at row
-    → ((c : Counter) → row ≡ shown_meta c → (c.key ≡ at + 1) × (c.value ≤ most p c.key)) → StartsWell p rows at → StartsWell p rows (at + 1)
+    → ((c : Counter) → row ≡ shown_meta c → (c.key ≡ at + 1) × (c.value ≤ greatest_value p c.key)) → StartsWell p rows at → StartsWell p rows (at + 1)
 starts_more p rows at row low is whole so_far cs same =
     let below : at < length (map shown_meta cs) = subst (λ rs. at < length rs) same low in
     let c = slice_index_or cs at no_counter in
@@ -69,7 +69,7 @@ starts_more p rows at row low is whole so_far cs same =
 lower : (a b k n : ℕ) → a ≡ k → b ≡ k + suc n → nat_cmp a b ≡ Less
 lower a b k n first last = grind (arith, nat_tests)
 
-pub meta_more : (p : Profile) (k n m v : ℕ) (cs : List Counter) → m ≡ k + n → IsMetaFrom p k n cs → v ≤ most p m
+pub meta_more : (p : Profile) (k n m v : ℕ) (cs : List Counter) → m ≡ k + n → IsMetaFrom p k n cs → v ≤ greatest_value p m
     → IsMetaFrom p k (suc n) (put_by (λ (x : Counter). x.key) (record { key = m; value = v }) cs)
 meta_more p k zero m v [] is meta low = (omega (arith, is), low, tt)
 meta_more p k zero m v (c ∷ cs) is meta low = absurd meta
@@ -84,7 +84,7 @@ same_key : (m n : ℕ) → is_eq (nat_cmp m n) ≡ true → m ≡ n
 same_key m n is = grind (arith, nat_tests)
 
 -- another value in range
-pub meta_set : (p : Profile) (k n key v : ℕ) (cs : List Counter) → IsMetaFrom p k n cs → v ≤ most p key
+pub meta_set : (p : Profile) (k n key v : ℕ) (cs : List Counter) → IsMetaFrom p k n cs → v ≤ greatest_value p key
     → IsMetaFrom p k n (map (λ x. cond (has_by counter_key key x) (valued v x) x) cs)
 meta_set p k zero key v [] meta low = tt
 meta_set p k zero key v (c ∷ cs) meta low = absurd meta
@@ -92,7 +92,7 @@ meta_set p k (suc n) key v [] meta low = absurd meta
 meta_set p k (suc n) key v (c ∷ cs) meta low = elim (cases_Bool (has_by counter_key key c)) [
   | inl here ↦
       subst (λ b. IsMetaFrom p k (suc n) (cond b (valued v c) c ∷ map (λ x. cond (has_by counter_key key x) (valued v x) x) cs)) (sym here)
-      (meta.0, subst (λ m. v ≤ most p m) (sym (same_key c.key key here)) low, meta_set p (k + 1) n key v cs meta.2 low)
+      (meta.0, subst (λ m. v ≤ greatest_value p m) (sym (same_key c.key key here)) low, meta_set p (k + 1) n key v cs meta.2 low)
   | inr not_here ↦
       subst (λ b. IsMetaFrom p k (suc n) (cond b (valued v c) c ∷ map (λ x. cond (has_by counter_key key x) (valued v x) x) cs)) (sym not_here)
       (meta.0, meta.1, meta_set p (k + 1) n key v cs meta.2 low)
@@ -100,15 +100,15 @@ meta_set p k (suc n) key v (c ∷ cs) meta low = elim (cases_Bool (has_by counte
 
 -- ---- the first row is the version
 
-pub marked_meta : (c : Content) → IsMetaFrom Plain 1 10 c.counters → IsMetaFrom Plain 1 11 (marked c).counters
+pub marked_meta : (c : Content) → IsMetaFrom Plain 1 10 c.counters → IsMetaFrom Plain 1 11 (as_version_2 c).counters
 marked_meta c meta = meta_set Plain 1 11 1 2 (with_counter 11 1 c).counters (meta_more Plain 1 10 11 1 c.counters refl meta (omega arith)) (omega arith)
 
-second_of : (c : Content) (cs : List Counter) → IsMetaFrom Plain 1 10 cs → value_at 1 (marked (record c { counters = cs })) ≡ 2
+second_of : (c : Content) (cs : List Counter) → IsMetaFrom Plain 1 10 cs → value_at 1 (as_version_2 (record c { counters = cs })) ≡ 2
 second_of c [] meta = absurd meta
 second_of c (x ∷ cs) meta = started x.key x.value meta.0
   where
-    started : (key value : ℕ) → key ≡ 1 → value_at 1 (marked (record c { counters = record { key = key; value = value } ∷ cs })) ≡ 2
-    started key value is = subst (λ k. value_at 1 (marked (record c { counters = record { key = k; value = value } ∷ cs })) ≡ 2) (sym is) refl
+    started : (key value : ℕ) → key ≡ 1 → value_at 1 (as_version_2 (record c { counters = record { key = key; value = value } ∷ cs })) ≡ 2
+    started key value is = subst (λ k. value_at 1 (as_version_2 (record c { counters = record { key = k; value = value } ∷ cs })) ≡ 2) (sym is) refl
 
-pub marked_version : (c : Content) → IsMetaFrom Plain 1 10 c.counters → value_at 1 (marked c) ≡ 2
+pub marked_version : (c : Content) → IsMetaFrom Plain 1 10 c.counters → value_at 1 (as_version_2 c) ≡ 2
 marked_version c meta = second_of c c.counters meta

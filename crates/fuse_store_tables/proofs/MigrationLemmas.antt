@@ -15,8 +15,8 @@ use Rattle.fuse_init.specs.declared.profile.Profile.TheVariants.{Plain}
 use Rattle.fuse_init.specs.Profile.{terms}
 use Rattle.fuse_store_tables.specs.Layout.{with_answers, with_lots, with_kept, lots, kept, entries, entries_in_order}
 use Rattle.fuse_store_tables.specs.Content.{Content, Answer, Kept, Holds, stored, lot_row, kept_row, answer_row, kept_key, value_at, put_by, with_counter}
-use Rattle.fuse_store_tables.specs.Opening.{AreAbove, IsOld, IsFit, IsFirst, IsSecond, HoldsUnindexed, IsStored, IsOpened, under, marked, migrated, opened}
-use Rattle.fuse_store_tables.specs.inner.Steps.{HasLots, HasKept, HasTables, moved}
+use Rattle.fuse_store_tables.specs.Opening.{AreAbove, IsOld, IsFitContent, IsFirst, IsSecond, HoldsUnindexed, IsStored, IsOpened, under, as_version_2, migrated, opened}
+use Rattle.fuse_store_tables.specs.inner.Steps.{HasLots, HasKept, HasTables, moved_answers}
 use Rattle.fuse_store_tables.specs.Moves.{InsideAs, Takes}
 use Rattle.fuse_store_tables.specs.inner.Performing.{Ran}
 use Rattle.fuse_store_tables.proofs.Writing.{makes}
@@ -118,15 +118,15 @@ rises_under (a ∷ xs) rise = (each xs rise.0, rises_under xs rise.1)
 
 -- ---- what the statements make is the migrated store
 
-pub is_migrated : (c : Content) (d : Database) → IsFirst c d → marked (moved c) ≡ migrated c
+pub is_migrated : (c : Content) (d : Database) → IsFirst c d → as_version_2 (moved_answers c) ≡ migrated c
 is_migrated c d h =
     let was = h.holds.rows.1.1.1.1.1.0 in
     let rise = rises_from (λ (a : Answer). a.id) answer_row (λ _. refl) c.answers (subst IsTable was.0 was.1) in
     let all = map (under 0) c.answers in
-    ap (λ ls. record c { counters = (marked c).counters; answers = []; lots = put_by (λ l. l) 0 ls; kept = fold (λ ks k. put_by kept_key k ks) c.kept all })
+    ap (λ ls. record c { counters = (as_version_2 c).counters; answers = []; lots = put_by (λ l. l) 0 ls; kept = fold (λ ks k. put_by kept_key k ks) c.kept all })
     h.old.no_lots
-    ∙ ap (λ ks. record c { counters = (marked c).counters; answers = []; lots = 0 ∷ []; kept = fold (λ l k. put_by kept_key k l) ks all }) h.old.no_kept
-    ∙ ap (λ ks. record c { counters = (marked c).counters; answers = []; lots = 0 ∷ []; kept = ks }) (put_all_last [] all (rises_under c.answers rise)
+    ∙ ap (λ ks. record c { counters = (as_version_2 c).counters; answers = []; lots = 0 ∷ []; kept = fold (λ l k. put_by kept_key k l) ks all }) h.old.no_kept
+    ∙ ap (λ ks. record c { counters = (as_version_2 c).counters; answers = []; lots = 0 ∷ []; kept = ks }) (put_all_last [] all (rises_under c.answers rise)
     (nothing_below all))
 
 pub opened_first : (c : Content) → value_at 1 c ≡ 1 → opened c ≡ migrated c
@@ -141,15 +141,15 @@ small_under [] small = tt
 small_under (a ∷ xs) small = (small.0, small_under xs small.1)
 
 -- the counters of the nodes, handles and entries are as they were, and the next lot is 1
-marked_above : (c : Content) → AreAbove c → AreAbove (marked c)
+marked_above : (c : Content) → AreAbove c → AreAbove (as_version_2 c)
 marked_above c above =
     above_set 1 2 (record { node = refl; fh = refl; cookie = refl }) (with_counter 11 1 c)
     (above_put 11 1 (record { node = refl; fh = refl; cookie = refl }) c above)
 
-marked_lot : (c : Content) → value_at 11 (marked c) ≡ 1
+marked_lot : (c : Content) → value_at 11 (as_version_2 c) ≡ 1
 marked_lot c = value_set 1 2 11 refl (with_counter 11 1 c) ∙ value_put 11 1 c
 
-pub migrated_fit : (c : Content) → IsOld c → IsFit (migrated c)
+pub migrated_fit : (c : Content) → IsOld c → IsFitContent (migrated c)
 migrated_fit c old =
     let above = marked_above c old.above in
     record {
@@ -161,7 +161,7 @@ migrated_fit c old =
       few = subst (λ p. length c.nodes ≤ (terms p).node_limit) (sym (plain_in 11 (migrated c) (omega arith) (marked_meta c old.meta))) old.few;
     }
 
-pub first_opened : (c : Content) (d e : Database) → IsFirst c d → Holds (marked (moved c)) e → IsOpened c e
+pub first_opened : (c : Content) (d e : Database) → IsFirst c d → Holds (as_version_2 (moved_answers c)) e → IsOpened c e
 first_opened c d e h holds =
     subst (λ k. IsSecond k e) (sym (opened_first c h.old.version))
     (record { holds = subst (λ k. Holds k e) (is_migrated c d h) holds; fit = migrated_fit c h.old })

@@ -1,6 +1,6 @@
 -- The statements on the table of nodes.
 use Rattle.std.proofs.Common.{◌≡◌, ℕ, pos, List, [], ◌∷◌, map, codes, Bool, true, false, nat_lt, ◌&&◌, Some, None, Ok, Err, Result}
-use Rattle.std.proofs.Common.{IfOk, IfErr, refl, sym, ap, subst, ◌∙◌, ◌++◌}
+use Rattle.std.proofs.Common.{OnOk, IfOk, IfErr, refl, sym, ap, subst, ◌∙◌, ◌++◌}
 use Rattle.std.specs.List.{list_all}
 use Rattle.std.specs.Option.{option_to_list, is_some}
 use Rattle.std.specs.Ordering.{is_eq}
@@ -21,6 +21,7 @@ use Rattle.sqlite_rules.specs.Cast.{cast_row}
 use Rattle.sqlite_tied.specs.Compute.{everything}
 use Rattle.sqlite.specs.declared.error.Error.{Error}
 use Rattle.sqlite.specs.Effect.{Database}
+use Rattle.sqlite_rules.specs.Edit.{is_taken}
 use Rattle.sqlite.specs.Listing.{understood, reads_listing}
 use Rattle.sqlite.specs.State.{State, HasCleanDisk, Survives, CommitsBy, Writes, Shown, FailsToQuery, CommitsShowing}
 use Rattle.sqlite.proofs.Callers.{IsPlain, command_of, statement_of}
@@ -30,15 +31,15 @@ use Rattle.fuse_store_tables.specs.inner.Columns.{given_node}
 use Rattle.fuse_store_tables.specs.Content.{with_node, set_node, without_node}
 use Rattle.fuse_store_tables.specs.Moves.{Inside, Makes}
 use Rattle.fuse_store_tables.specs.inner.Performing.{Ran, RanAny}
-use Rattle.fuse_store_tables.proofs.Writing.{makes, makes_any, says_any}
+use Rattle.fuse_store_tables.proofs.Writing.{told_before, makes, makes_any, says_any}
 use Rattle.fuse_store_tables.proofs.Tables.{wrote, quiet, only_nodes}
-use Rattle.fuse_store_tables.proofs.Keyed.{put_rows, row_cmp_nat, found_rows, set_is_put, set_missing, none_there, one_there}
+use Rattle.fuse_store_tables.proofs.Keyed.{put_rows, row_cmp_nat, found_rows, set_is_put, set_missing, none_there, one_there, none_taken}
 use Rattle.fuse_store_tables.proofs.RowLemmas.{cast_int, cast_null, inserted}
 use Rattle.fuse_store_tables.proofs.Reading.{plain_query, answered, looks, read, only, truth_of}
 use Rattle.fuse_store_tables.proofs.Updating.{changing, changes, changes_some}
 use Rattle.fuse_store_tables.proofs.Deletes.{picking, picks}
 use Rattle.std.specs.Int.{w64, cast_signed}
-use Rattle.fuse_tree.specs.declared.rows.NodeRow.{NodeRow}
+use Rattle.fuse_rows.specs.declared.rows.NodeRow.{NodeRow}
 use Rattle.sqlite_resolve.specs.Compile.{first}
 use Rattle.fuse_store_tables.proofs.Edits.{IsEditText}
 use Rattle.fuse_store_tables.proofs.Queries.{IsSelectText}
@@ -103,6 +104,20 @@ pub adds : (x : NodeRow) (old new : State) (r : Result (Unit {0}) Error) → (Ha
     → Survives old new (CommitsBy insert_text (given x) old) → Makes (with_node x) old new r
 adds x = makes Holds store_schema (λ c d h. h.schema) insert_text (given x) (Insert 1 (Values insert_terms 15)) insert_is insert_plain refl insert_edit
     (λ c. Holds (with_node x c)) (inserts x)
+
+-- its key was not there
+fresh : (x : NodeRow) (c : Content) (old new : State) (n : ℕ) → Holds c old.now → Writes old new None (Insert 1 (Values insert_terms 15))
+    (statement_of insert_text (understood store_schema insert_text)) (given x) n
+    → at_by node_key x.node c.nodes ≡ None
+fresh x c old new n at w =
+    let put = inserted store_schema 1 nodes refl insert_terms 15 old new _ (given x) n (node_row x) (λ keys news. quiet keys 1 [] news) (ap (λ r. r
+    ∷ []) (cast_as x)) at.schema w in
+    none_taken node_key node_row (λ _. refl) x c.nodes (subst (λ rows. is_taken rows (node_row x) ≡ false) at.rows.1.0.0 put.free)
+
+pub adds_new : (x : NodeRow) (old new : State) (r : Result (Unit {0}) Error) → (HasCleanDisk new → Ran insert_text (given x) old new r) → HasCleanDisk new
+    → OnOk r ((c : Content) → Inside c old → at_by node_key x.node c.nodes ≡ None)
+adds_new x = told_before Holds store_schema (λ c d h. h.schema) insert_text (given x) (Insert 1 (Values insert_terms 15)) insert_is insert_plain refl
+    (λ c. at_by node_key x.node c.nodes ≡ None) (fresh x)
 
 -- ---- by the key
 

@@ -1,5 +1,5 @@
 -- A SELECT over any database changes nothing and commits nothing.
-use Rattle.std.proofs.Common.{◌≡◌, ◌+◌, ℕ, List, Ok, Err, None, Option, Result, IfOk, IfErr, true, false, Bool, cond, refl, sym, subst, ◌∙◌}
+use Rattle.std.proofs.Common.{◌≡◌, ◌⊎◌, inl, inr, IsTrue, ◌+◌, ℕ, List, Ok, Err, None, Option, Result, IfOk, IfErr, true, false, Bool, cond, refl, sym, subst, ◌∙◌}
 use Rattle.sqlite.specs.Tree.{Trees}
 use Rattle.sqlite.specs.Order.{Row}
 use Rattle.sqlite.specs.Schema.{Schema}
@@ -16,7 +16,7 @@ use Rattle.sqlite_resolve.specs.Lowering.{Checked, and_then}
 use Rattle.sqlite_resolve.specs.Compile.{first, compiled, planned, meaning, returning, command, timed as formats_at, small, with_command}
 use Rattle.sqlite.specs.declared.error.Error.{Error}
 use Rattle.sqlite.specs.Listing.{understood, reads_listing, if_select, is_select, listing_schema}
-use Rattle.sqlite.specs.State.{State, HasCleanDisk, Survives, Shown, FailsToQuery, CommitsShowing, IsUnchanged}
+use Rattle.sqlite.specs.State.{State, HasCleanDisk, Survives, Shown, FailsToQuery, CommitsShowing, IsUnchanged, IsRolledBack, IsNotRun}
 use Rattle.sqlite.proofs.StateLemmas.{survives_weaker}
 use Rattle.fuse_store_tables.specs.inner.Performing.{OnlyReads, StaysWithin}
 use Rattle.fuse_store_tables.proofs.Control.{keeps_unchanged, keeps_query}
@@ -97,6 +97,27 @@ module _ (sql : List ℕ) (params : Row) (is : IsSelectText (first sql)) where
   unfolding CommitsShowing
   none s db h = let bare = returns_none sql is s.now.schema h.0 h.1.is in let some = rw bare at h.2 in absurd cc
 
+  -- one that failed changed nothing, or the transaction was rolled back
+  whole : (old new : State) (e : Error) → FailsToQuery sql params old new e → IsUnchanged old new ⊎ IsRolledBack old new
+  unfolding FailsToQuery IsNotRun
+  whole old new e (inl (inl h)) = inl h.1
+  whole old new e (inl (inr h)) = inr h.3
+  whole old new e (inr h) =
+      let none = returns_none sql is old.now.schema h.0 h.1.is in
+      inl (rw none at h.2).3
+
+  ended : (old new : State) (e : Error) → FailsToQuery sql params old new e → old.in_transaction ≡ false → new.in_transaction ≡ false
+  ended old new e h rests = elim (whole old new e h) [
+    | inl same ↦ same.0.mode ∙ rests
+    | inr back ↦ back.autocommit
+  ]
+
+  seen_after : (old new : State) (e : Error) → FailsToQuery sql params old new e → IsTrue new.is_open → (new.now ≡ old.now) ⊎ (new.now ≡ old.committed)
+  seen_after old new e h is_open = elim (whole old new e h) [
+    | inl same ↦ inl same.0.now_is
+    | inr back ↦ inr (back.undone is_open).0
+  ]
+
   pub only_reads : {X : Type 0} (items : X → List Row) (old new : State) (r : Result X Error)
       → (HasCleanDisk new → IfOk r (λ x. Shown sql params old new (items x)))
       → (HasCleanDisk new → IfErr r (FailsToQuery sql params old new)) → Survives old new (CommitsShowing sql params old) → OnlyReads old new r
@@ -106,6 +127,8 @@ module _ (sql : List ℕ) (params : Row) (is : IsSelectText (first sql)) where
       kept = λ clean. keeps_unchanged old new (unchanged old new (items x) (ok clean));
     };
     same = λ clean. (unchanged old new (items x) (ok clean)).0.now_is;
+    outside = λ clean rests. (unchanged old new (items x) (ok clean)).0.mode ∙ rests;
+    seen = λ clean is_open. inl (unchanged old new (items x) (ok clean)).0.now_is;
   }
   only_reads items old new (Err e) ok err survives = record {
     commits = record {
@@ -113,6 +136,8 @@ module _ (sql : List ℕ) (params : Row) (is : IsSelectText (first sql)) where
       kept = λ clean. keeps_query old new sql params e (err clean);
     };
     same = tt;
+    outside = λ clean rests. ended old new e (err clean) rests;
+    seen = λ clean is_open. seen_after old new e (err clean) is_open;
   }
 
   pub reads_within : {X : Type 0} (items : X → List Row) (old new : State) (r : Result X Error)

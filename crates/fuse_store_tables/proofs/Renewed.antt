@@ -1,18 +1,21 @@
 -- An opening and the begin of a mount, in one transaction.
+use Rattle.std.specs.Prelude.{⊤}
 use Rattle.std.proofs.Common.{◌≡◌, Ok, Err, Result, IfErr, IsErrAnd, sym, subst}
 use Rattle.sqlite.specs.Effect.{Database}
-use Rattle.sqlite.specs.Tree.{Trees}
-use Rattle.sqlite.specs.State.{State, Survives}
+use Rattle.sqlite.specs.State.{State}
+use Rattle.fuse_init.specs.declared.profile.Profile.{Profile}
 use Rattle.fuse_keeper.specs.declared.fault.StoreFault.{StoreFault}
 use Rattle.fuse_store_tables.specs.Content.{Content, Holds}
 use Rattle.fuse_store_tables.specs.Clearing.{cleared, IsBegun}
 use Rattle.fuse_store_tables.specs.Faults.{IsOutside, IsPlain}
-use Rattle.fuse_store_tables.specs.Moves.{InsideAs, Takes, Makes}
-use Rattle.fuse_store_tables.specs.Opening.{IsStored, IsOpened, opened}
+use Rattle.fuse_store_tables.specs.Moves.{InsideAs, IsReady, Takes, Makes}
+use Rattle.fuse_store_tables.specs.Opening.{IsSecond, IsOpened, HasSecondMeta, opened}
 use Rattle.fuse_store_tables.specs.Saying.{Says, IsTabled}
-use Rattle.fuse_store_tables.specs.inner.Following.{earlier}
+use Rattle.fuse_store_tables.specs.inner.Checking.{ChecksIf}
+use Rattle.fuse_store_tables.specs.inner.Following.{taken_from}
 use Rattle.fuse_store_tables.specs.inner.Performing.{IsSure}
 use Rattle.fuse_store_tables.specs.inner.Versions.{tabled_says}
+use Rattle.fuse_store_tables.proofs.Checks.{checks_keep, checks_sure, second_laid, second_passes}
 use Rattle.fuse_store_tables.proofs.Joining.{made_from}
 use Rattle.fuse_store_tables.proofs.Either.{sub_from, narrowed_if}
 use Rattle.fuse_store_tables.proofs.Fitting.{fit_cleared}
@@ -30,12 +33,29 @@ clears_opened a b r p =
 held : (c : Content) (s : State) → InsideAs (IsOpened c) s → InsideAs (Holds (opened c)) s
 held c s at = record { is_open = at.is_open; in_transaction = at.in_transaction; holds = at.holds.holds }
 
-pub sure_cleared : {X Y E : Type 0} (a b d : State) (x : X) (r : Result Y StoreFault) → Takes {E = E} IsStored IsOpened a b (Ok x)
-    → {K : Trees → Type 0} → Survives b d K → IsSure Holds b d r → IsSure IsStored a d r
-sure_cleared a b d x (Ok y) p s q clean = tt
-sure_cleared a b d x (Err f) p s q clean = λ at. q clean (opened at.0, held at.0 b (p.turns (earlier b d _ s clean) at.0 at.1))
+pub sure_cleared : {X : Type 0} (a b : State) (r : Result X StoreFault) → IsSure Holds a b r → IsSure IsOpened a b r
+sure_cleared a b (Ok x) q clean = tt
+sure_cleared a b (Err f) q clean = λ at. q clean (opened at.0, held at.0 a at.1)
 
--- what `?` returns of it
+-- ---- the test of what is left
+
+module _ (a b : State) (r : Result Profile StoreFault) (p : ChecksIf (λ _. ⊤) HasSecondMeta a b r) where
+  pub begun_keeps : Takes IsBegun IsBegun a b r
+  begun_keeps = taken_from IsSecond IsSecond (λ k. cleared (opened k)) a b r (checks_keep IsSecond second_laid HasSecondMeta a b r p)
+
+  pub begun_sure : IsSure IsBegun a b r
+  begun_sure clean = told r (checks_sure IsSecond second_laid HasSecondMeta a b r p second_passes clean)
+    where
+      told : (r : Result Profile StoreFault) → IfErr r (λ f. IsReady IsSecond a → IsOutside f) → IfErr r (λ f. IsReady IsBegun a → IsOutside f)
+      told (Ok x) all = tt
+      told (Err f) all = λ at. all (cleared (opened at.0), at.1)
+
+-- ---- what `?` returns of it
+
+pub plain_back : {Y : Type 0} (e : StoreFault) (r : Result Y StoreFault) → IsErrAnd r (λ f. f ≡ e) → IsPlain e → IfErr r IsPlain
+plain_back e (Ok y) same plain = absurd same
+plain_back e (Err f) same plain = subst IsPlain (sym same) plain
+
 pub same_sure : {C Y : Type 0} (P : C → Database → Type 0) (a b : State) (e : StoreFault) (r : Result Y StoreFault) → IsErrAnd r (λ f. f ≡ e)
     → IsSure {X = Unit {0}} P a b (Err e) → IsSure P a b r
 same_sure P a b e (Ok y) same sure clean = absurd same

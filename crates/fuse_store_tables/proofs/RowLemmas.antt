@@ -30,7 +30,7 @@ use Rattle.sqlite.specs.Rows.{Written, stamped, Task}
 use Rattle.sqlite.specs.Effect.{Database, Answers, value_rows}
 use Rattle.sqlite.specs.State.{State, Writes, mode_of}
 use Rattle.sqlite.proofs.Callers.{one_step}
-use Rattle.fuse_store_tables.specs.inner.Rows.{Puts, PutsAll, Edits, Removes}
+use Rattle.fuse_store_tables.specs.inner.Rows.{PutsRow, PutsAll, Edits, Removes}
 
 either : (b : Bool) (x : Value) → cond b x x ≡ x
 either true x = refl
@@ -142,7 +142,7 @@ module _ (schema : Schema) (at : ℕ) (table : Table) (listed : slice_get schema
       → ((keys : Keys) (news : List Row) → works schema keys 0 table.tree [] news ≡ [])
       → map (λ s. cast_row table s) (value_rows (stamped table params) width (length terms / width) terms) ≡ row ∷ []
       → old.now.schema ≡ schema → Writes old new None (Insert at (Values terms width)) text params n
-      → Puts table (with_rowid Chosen (old.now.trees table.tree) row) old.now new.now
+      → PutsRow table (with_rowid Chosen (old.now.trees table.tree) row) old.now new.now
   inserted terms width old new text params n row quiet given has w =
       let all = inserted_all terms width old new text params n (row ∷ []) quiet given has w in
       record { free = fresh_one (old.now.trees table.tree) (with_rowid Chosen (old.now.trees table.tree) row) all.fresh; rows = all.rows; spares = all.spares }

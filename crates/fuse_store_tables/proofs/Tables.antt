@@ -16,9 +16,9 @@ use Rattle.sqlite_schema.specs.Rules.{parent_key}
 use Rattle.sqlite_rules.specs.Action.{works, work_for, work_by, pairs, deed_for, deed_of}
 use Rattle.sqlite.specs.Effect.{Database, IsDatabase}
 use Rattle.fuse_store_tables.specs.Layout.{store_schema}
-use Rattle.fuse_tree.specs.declared.rows.NodeRow.{NodeRow}
-use Rattle.fuse_tree.specs.declared.rows.EntryRow.{EntryRow}
-use Rattle.fuse_tree.specs.declared.rows.HandleRow.{HandleRow}
+use Rattle.fuse_rows.specs.declared.rows.NodeRow.{NodeRow}
+use Rattle.fuse_rows.specs.declared.rows.EntryRow.{EntryRow}
+use Rattle.fuse_rows.specs.declared.rows.HandleRow.{HandleRow}
 use Rattle.fuse_store_tables.specs.Content.{Content, Counter, Answer, Kept, HasRows, HoldsAs, stored}
 use Rattle.fuse_store_tables.specs.Blocks.{Block}
 use Rattle.fuse_store_tables.specs.inner.Rows.{Spares}

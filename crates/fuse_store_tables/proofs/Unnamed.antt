@@ -19,7 +19,7 @@ use Rattle.sqlite.specs.declared.error.Error.{Error}
 use Rattle.sqlite.specs.Listing.{understood, reads_listing}
 use Rattle.sqlite.specs.State.{State, HasCleanDisk, Survives, CommitsBy, Writes, Shown, FailsToQuery, CommitsShowing}
 use Rattle.sqlite.proofs.Callers.{IsPlain, command_of, statement_of}
-use Rattle.fuse_tree.specs.declared.rows.NodeRow.{NodeRow}
+use Rattle.fuse_rows.specs.declared.rows.NodeRow.{NodeRow}
 use Rattle.fuse_store_tables.specs.Layout.{nodes, store_schema}
 use Rattle.fuse_store_tables.specs.Content.{Content, Holds, stored, node_row, node_columns, is_unnamed}
 use Rattle.fuse_store_tables.specs.inner.Steps.{without_unnamed, unnamed_sizes}

@@ -1,5 +1,5 @@
 -- Statements that write within a transaction.
-use Rattle.std.proofs.Common.{◌≡◌, inl, inr, ℕ, List, Bool, true, false, cond, None, Option, Ok, Err, Result, IfOk, nat_lt, sym, ap, ◌∙◌}
+use Rattle.std.proofs.Common.{◌≡◌, inl, inr, ℕ, List, Bool, true, false, cond, None, Option, Ok, Err, Result, IfOk, OnOk, nat_lt, sym, ap, ◌∙◌}
 use Rattle.sqlite.specs.Schema.{Schema}
 use Rattle.sqlite_resolve.specs.Compile.{first}
 use Rattle.sqlite.specs.Order.{Row}
@@ -85,3 +85,13 @@ module _ {C : Type 0} (P : C → Database → Type 0) (layout : Schema) (known :
       let ran = runs clean in
       ran.2 ∙ does c old new ran.0 at.holds (written old new ran.0 (c, at) ran.1)
   says_any found does old new (Err e) runs clean = tt
+
+  -- what is so of the content before a statement that wrote
+  pub told_before : (Q : C → Type 0) → ((c : C) (old new : State) (n : ℕ) → P c old.now
+      → Writes old new None command (statement_of sql (understood layout sql)) params n → Q c)
+      → (old new : State) (r : Result (Unit {0}) Error) → (HasCleanDisk new → Ran sql params old new r)
+      → HasCleanDisk new → OnOk r ((c : C) → InsideAs (P c) old → Q c)
+  told_before Q does old new (Ok x) runs clean = λ c at.
+      let ran = runs clean in
+      does c old new ran.0 at.holds (written old new ran.0 (c, at) ran.1)
+  told_before Q does old new (Err e) runs clean = tt

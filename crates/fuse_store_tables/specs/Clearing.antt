@@ -2,8 +2,8 @@
 use Rattle.std.specs.Prelude.{ℕ, ◌+◌, ◌-◌, ◌/◌, Bool, not, List, [], map, filter, length, min}
 use Rattle.std.specs.List.{list_any, sum_by}
 use Rattle.std.specs.Ordering.{is_eq, nat_cmp}
-use Rattle.fuse_tree.specs.declared.rows.NodeRow.{NodeRow}
-use Rattle.fuse_tree.specs.Bounds.{block_bytes}
+use Rattle.fuse_rows.specs.declared.rows.NodeRow.{NodeRow}
+use Rattle.fuse_rows.specs.Bounds.{block_bytes}
 use Rattle.sqlite.specs.Effect.{Database}
 use Rattle.fuse_store_tables.specs.Content.{Content, is_unnamed, set_counter, value_at}
 use Rattle.fuse_store_tables.specs.Opening.{IsSecond, opened}

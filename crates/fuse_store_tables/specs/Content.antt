@@ -16,9 +16,9 @@ use Rattle.fuse_wire.specs.declared.moment.Moment.{Moment}
 use Rattle.fuse_wire.specs.declared.access_mode.AccessMode.{AccessMode}
 use Rattle.fuse_wire.specs.declared.access_mode.AccessMode.TheVariants.{ReadOnly, WriteOnly, ReadWrite}
 use Rattle.fuse_answer.specs.Said.{Said}
-use Rattle.fuse_tree.specs.declared.rows.NodeRow.{NodeRow}
-use Rattle.fuse_tree.specs.declared.rows.EntryRow.{EntryRow}
-use Rattle.fuse_tree.specs.declared.rows.HandleRow.{HandleRow}
+use Rattle.fuse_rows.specs.declared.rows.NodeRow.{NodeRow}
+use Rattle.fuse_rows.specs.declared.rows.EntryRow.{EntryRow}
+use Rattle.fuse_rows.specs.declared.rows.HandleRow.{HandleRow}
 use Rattle.fuse_store_tables.specs.Layout.{store_schema}
 use Rattle.fuse_store_tables.specs.Blocks.{Block, block_row, is_from, block_at, new_block, set_at}
 
@@ -191,8 +191,8 @@ without_handle fh c = record c { handles = without_by fh_of fh c.handles }
 abbrev pub with_lot : ℕ → Content → Content
 with_lot lot c = record c { lots = put_by (λ n. n) lot c.lots }
 
-abbrev pub with_kept : Kept → Content → Content
-with_kept k c = record c { kept = put_by kept_key k c.kept }
+abbrev pub put_kept : Kept → Content → Content
+put_kept k c = record c { kept = put_by kept_key k c.kept }
 
 abbrev pub without_kept : ℕ → Content → Content
 without_kept id c = record c { kept = without_by kept_key id c.kept }

@@ -21,11 +21,11 @@ strict name kind filled = record { name = name; kind = kind; is_strict = true; n
 abbrev pub key : List ℕ → Column
 key name = strict name Integer false
 
-abbrev pub number : List ℕ → Column
-number name = strict name Integer true
+abbrev pub number_column : List ℕ → Column
+number_column name = strict name Integer true
 
-abbrev pub bytes : List ℕ → Column
-bytes name = strict name Blob true
+abbrev pub bytes_column : List ℕ → Column
+bytes_column name = strict name Blob true
 
 -- the column at this place names a row of another table
 abbrev pub refers : ℕ → List ℕ → List ℕ → Reference
@@ -60,17 +60,17 @@ keyed_table name tree columns uniques orders references = record {
 }
 
 abbrev pub meta : Table
-meta = keyed_table (codes "meta") 0 (key (codes "k") ∷ number (codes "v") ∷ []) [] [] []
+meta = keyed_table (codes "meta") 0 (key (codes "k") ∷ number_column (codes "v") ∷ []) [] [] []
 
 abbrev pub nodes : Table
 nodes = keyed_table (codes "nodes") 1
-    (key (codes "node") ∷ number (codes "mode") ∷ number (codes "uid") ∷ number (codes "gid") ∷ number (codes "rdev") ∷ number (codes "size")
-    ∷ number (codes "atime") ∷ number (codes "atimensec")
-    ∷ number (codes "mtime") ∷ number (codes "mtimensec") ∷ number (codes "ctime") ∷ number (codes "ctimensec") ∷ number (codes "up") ∷ number (codes "subdirs")
+    (key (codes "node") ∷ number_column (codes "mode") ∷ number_column (codes "uid") ∷ number_column (codes "gid") ∷ number_column (codes "rdev") ∷ number_column (codes "size")
+    ∷ number_column (codes "atime") ∷ number_column (codes "atimensec")
+    ∷ number_column (codes "mtime") ∷ number_column (codes "mtimensec") ∷ number_column (codes "ctime") ∷ number_column (codes "ctimensec") ∷ number_column (codes "up") ∷ number_column (codes "subdirs")
     ∷ []) [] [] []
 
 abbrev pub entries : Table
-entries = keyed_table (codes "entries") 2 (key (codes "cookie") ∷ number (codes "dir") ∷ bytes (codes "name") ∷ number (codes "child") ∷ [])
+entries = keyed_table (codes "entries") 2 (key (codes "cookie") ∷ number_column (codes "dir") ∷ bytes_column (codes "name") ∷ number_column (codes "child") ∷ [])
     ((4 ∷ []) ∷ (2 ∷ 3 ∷ []) ∷ []) (plain ∷ plain ∷ []) (to_nodes 2 ∷ to_nodes 4 ∷ [])
 
 -- its rowid is hidden
@@ -78,7 +78,7 @@ abbrev pub blocks : Table
 blocks = record {
   name = codes "blocks";
   tree = 5;
-  columns = number (codes "node") ∷ number (codes "block") ∷ bytes (codes "bytes") ∷ [];
+  columns = number_column (codes "node") ∷ number_column (codes "block") ∷ bytes_column (codes "bytes") ∷ [];
   key = None;
   primary = 1 ∷ 2 ∷ [];
   uniques = (1 ∷ 2 ∷ []) ∷ [];
@@ -91,16 +91,16 @@ blocks = record {
 }
 
 abbrev pub handles : Table
-handles = keyed_table (codes "handles") 7 (key (codes "fh") ∷ number (codes "node") ∷ number (codes "access") ∷ []) [] [] (to_nodes 2 ∷ [])
+handles = keyed_table (codes "handles") 7 (key (codes "fh") ∷ number_column (codes "node") ∷ number_column (codes "access") ∷ []) [] [] (to_nodes 2 ∷ [])
 
 abbrev pub answers : Table
-answers = keyed_table (codes "answers") 8 (key (codes "id") ∷ number (codes "errno") ∷ bytes (codes "body") ∷ []) [] [] []
+answers = keyed_table (codes "answers") 8 (key (codes "id") ∷ number_column (codes "errno") ∷ bytes_column (codes "body") ∷ []) [] [] []
 
 abbrev pub lots : Table
 lots = keyed_table (codes "lots") 9 (key (codes "lot") ∷ []) [] [] []
 
 abbrev pub kept : Table
-kept = keyed_table (codes "kept") 10 (key (codes "id") ∷ number (codes "lot") ∷ number (codes "errno") ∷ bytes (codes "body")
+kept = keyed_table (codes "kept") 10 (key (codes "id") ∷ number_column (codes "lot") ∷ number_column (codes "errno") ∷ bytes_column (codes "body")
     ∷ []) [] [] (refers 2 (codes "lots") (codes "lot") ∷ [])
 
 -- the entries of a directory in the order of their cookies

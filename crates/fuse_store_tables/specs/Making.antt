@@ -3,8 +3,8 @@ use Rattle.std.specs.Prelude.{ℕ, List, [], ◌∷◌, ◌++◌, Option, Some, 
 use Rattle.sqlite_trees.specs.Tree.{no_trees}
 use Rattle.sqlite.specs.Effect.{Database}
 use Rattle.sqlite.specs.Schema.{Schema}
-use Rattle.fuse_tree.specs.declared.origin.Origin.{Origin}
-use Rattle.fuse_tree.specs.declared.rows.NodeRow.{NodeRow}
+use Rattle.fuse_rows.specs.declared.origin.Origin.{Origin}
+use Rattle.fuse_rows.specs.declared.rows.NodeRow.{NodeRow}
 use Rattle.fuse_store_tables.specs.Content.{Content, Counter, HoldsAs, with_node}
 use Rattle.fuse_store_tables.specs.Opening.{IsSecond}
 
@@ -47,8 +47,8 @@ first_room None = []
 first_room (Some capacity) = room_counters capacity 0
 
 -- with a capacity, of the everyday profile
-abbrev pub new_store : Option ℕ → Origin → Content
-new_store room from = with_node (root from) (record counters_alone { counters = first_counters ++ first_room room })
+abbrev pub new_content : Option ℕ → Origin → Content
+new_content room from = with_node (root from) (record counters_alone { counters = first_counters ++ first_room room })
 
 abbrev pub IsNew : Option ℕ → Origin → ⊤ → Database → Type 0
-IsNew room from _ = IsSecond (new_store room from)
+IsNew room from _ = IsSecond (new_content room from)

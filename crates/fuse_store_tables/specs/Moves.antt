@@ -1,5 +1,6 @@
 -- The effect of a call on a store, by the state of the connection before and after it (defined by this project).
-use Rattle.std.specs.Prelude.{◌≡◌, ◌≢◌, true, false, IsTrue, Result, OnOk, OnErr, IfErr}
+use Rattle.std.specs.Prelude.{◌≡◌, ◌≢◌, ◌⊎◌, true, false, IsTrue, Result, OnOk, OnErr, IfErr}
+use Rattle.sqlite.specs.Tree.{Trees}
 use Rattle.sqlite.specs.Effect.{Database}
 use Rattle.sqlite.specs.State.{State, HasCleanDisk, Survives, KeepsCommit}
 use Rattle.fuse_store_tables.specs.Content.{Content, Holds, LeftAs}
@@ -53,16 +54,23 @@ pub record Takes {C X E : Type 0} (P Q : C → Database → Type 0) (old new : S
 abbrev pub Makes : {X E : Type 0} → (Content → Content) → State → State → Result X E → Type 0
 Makes f = Takes Holds (λ c. Holds (f c))
 
+-- no transaction is open, or the one that was, with what it made
+abbrev pub IsEndedOrKept : State → State → Type 0
+IsEndedOrKept old new = (new.in_transaction ≡ false) ⊎ ((new.in_transaction ≡ old.in_transaction) × (new.now ≡ old.now))
+
 pub record Begins {X E : Type 0} (old new : State) (result : Result X E) : Type 0 where
   pub survives : Survives old new (λ _. ⊥)
   pub kept : HasCleanDisk new → KeepsCommit old new
   pub begun : OnOk result (HasCleanDisk new → IsTrue new.is_open × (new.in_transaction ≡ true) × (new.now ≡ old.now))
   pub outside : OnOk result (HasCleanDisk new → old.in_transaction ≡ false)
+  pub failed : OnErr result (HasCleanDisk new → IsEndedOrKept old new)
 
 pub record Ends {X E : Type 0} (old new : State) (result : Result X E) : Type 0 where
   pub survives : Survives old new (λ db. db ≡ old.now.trees)
   pub kept : OnErr result (HasCleanDisk new → KeepsCommit old new)
+  pub was : OnOk result (HasCleanDisk new → IsTrue old.is_open)
   pub ended : OnOk result (HasCleanDisk new → IsTrue new.is_open × (new.in_transaction ≡ false) × (new.now ≡ old.now) × (new.committed ≡ new.now))
+  pub failed : OnErr result (HasCleanDisk new → IsEndedOrKept old new)
 
 -- the transaction, if one is open, is rolled back
 pub record Undoes (old new : State) : Type 0 where
@@ -85,10 +93,18 @@ pub record CommitsNothing (old new : State) : Type 0 where
   pub survives : Survives old new (λ _. ⊥)
   pub kept : HasCleanDisk new → KeepsCommit old new
 
--- a call that only reads
+-- A call that only reads. It begins no transaction; one that is open may be rolled back where the call fails.
 pub record OnlyReads {X E : Type 0} (old new : State) (result : Result X E) : Type 0 where
   pub commits : CommitsNothing old new
   pub same : OnOk result (HasCleanDisk new → new.now ≡ old.now)
+  pub outside : HasCleanDisk new → old.in_transaction ≡ false → new.in_transaction ≡ false
+  pub seen : HasCleanDisk new → IsTrue new.is_open → (new.now ≡ old.now) ⊎ (new.now ≡ old.committed)
+
+-- a crash leaves what was committed before, or one database as a whole: the one that is seen after, where the call succeeded
+pub record CommitsOnce {X E : Type 0} (old new : State) (result : Result X E) : Type 0 where
+  pub trees : Trees
+  pub survives : Survives old new (λ db. db ≡ trees)
+  pub made : OnOk result (HasCleanDisk new → trees ≡ new.now.trees)
 
 -- a whole transaction that leaves the store as it was where it fails
 pub record ServesAs {C X E : Type 0} (P Q : C → Database → Type 0) (old new : State) (result : Result X E) : Type 0 where
@@ -100,7 +116,7 @@ abbrev pub Serves : {X E : Type 0} → (Content → Content) → State → State
 Serves f = ServesAs Holds (λ c. Holds (f c))
 
 -- only reads that succeeded lie between the two states
-pub record Looked (old new : State) : Type 0 where
+pub record LookedInside (old new : State) : Type 0 where
   pub stays : Stays old new
   pub within : StaysInside old new
   pub same : Turns (λ c. c) old new

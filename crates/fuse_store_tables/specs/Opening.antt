@@ -1,6 +1,6 @@
 -- A store before and after its opening (defined by this project).
 use Rattle.std.specs.Prelude.{◌≡◌, ◌≤◌, ◌⊎◌, ◌<◌, ◌^◌, ◌+◌, ℕ, zero, suc, List, [], ◌∷◌, map, length, if◌then◌else◌}
-use Rattle.std.specs.Prelude.{nat_lt, ⊤}
+use Rattle.std.specs.Prelude.{nat_lt, ⊤, Option, Some, None}
 use Rattle.std.specs.List.{AllByRecursion}
 use Rattle.std.specs.Option.{is_some}
 use Rattle.std.specs.Ordering.{is_eq, nat_cmp}
@@ -15,8 +15,8 @@ use Rattle.fuse_store_tables.specs.Content.{counter_key, node_key, fh_of, cookie
 -- ---- the rows of `meta`
 
 -- the greatest value of the row with this key
-abbrev pub most : Profile → ℕ → ℕ
-most p key =
+abbrev pub greatest_value : Profile → ℕ → ℕ
+greatest_value p key =
     if nat_lt key 5 then 2 ^ 62
     else (if nat_lt key 6 then (terms p).node_limit
     else (if nat_lt key 7 then 65536
@@ -30,7 +30,7 @@ abbrev pub IsMetaFrom : Profile → ℕ → ℕ → List Counter → Type 0
 IsMetaFrom p key zero [] = ⊤
 IsMetaFrom p key zero (c ∷ cs) = ⊥
 IsMetaFrom p key (suc n) [] = ⊥
-IsMetaFrom p key (suc n) (c ∷ cs) = (c.key ≡ key) × (c.value ≤ most p c.key) × IsMetaFrom p (key + 1) n cs
+IsMetaFrom p key (suc n) (c ∷ cs) = (c.key ≡ key) × (c.value ≤ greatest_value p c.key) × IsMetaFrom p (key + 1) n cs
 
 abbrev pub IsMeta : Profile → ℕ → Content → Type 0
 IsMeta p n c = IsMetaFrom p 1 n c.counters
@@ -81,7 +81,7 @@ pub record IsOld (c : Content) : Type 0 where
   pub no_kept : c.kept ≡ []
 
 -- version 2
-pub record IsFit (c : Content) : Type 0 where
+pub record IsFitContent (c : Content) : Type 0 where
   pub version : value_at 1 c ≡ 2
   pub meta : MetaOf (profile_in c) c
   pub above : AreAbove c
@@ -95,7 +95,7 @@ pub record IsFirst (c : Content) (d : Database) : Type 0 where
 
 pub record IsSecond (c : Content) (d : Database) : Type 0 where
   pub holds : Holds c d
-  pub fit : IsFit c
+  pub fit : IsFitContent c
 
 -- the tables of version 2 without the index
 abbrev pub HoldsUnindexed : Content → Database → Type 0
@@ -103,11 +103,22 @@ HoldsUnindexed c = HoldsAs with_kept (stored c)
 
 pub record IsUnindexed (c : Content) (d : Database) : Type 0 where
   pub holds : HoldsUnindexed c d
-  pub fit : IsFit c
+  pub fit : IsFitContent c
 
 -- a store of either version; the index of version 2 may be missing
 abbrev pub IsStored : Content → Database → Type 0
 IsStored c d = (IsFirst c d ⊎ IsSecond c d) ⊎ IsUnindexed c d
+
+-- ---- the profile that is asked for
+
+-- it is the one that is wanted, if one is
+abbrev pub IsWanted : Option Profile → Profile → Type 0
+IsWanted None p = ⊤
+IsWanted (Some wanted) p = p ≡ wanted
+
+-- a store of either version that is of this profile
+abbrev pub IsWantedStore : Option Profile → Content → Database → Type 0
+IsWantedStore wanted c d = IsStored c d × IsWanted wanted (profile_in c)
 
 -- ---- the tests of an opening
 
@@ -131,12 +142,12 @@ HasMeta c = ((value_at 1 c ≡ 1) × HasFirstMeta c) ⊎ ((value_at 1 c ≡ 2) �
 abbrev pub under : ℕ → Answer → Kept
 under lot a = record { id = a.id; lot = lot; said = a.said }
 
-abbrev pub marked : Content → Content
-marked c = set_counter 1 2 (with_counter 11 1 c)
+abbrev pub as_version_2 : Content → Content
+as_version_2 c = set_counter 1 2 (with_counter 11 1 c)
 
 -- the records are under lot 0, and the next lot is 1
 abbrev pub migrated : Content → Content
-migrated c = record c { counters = (marked c).counters; answers = []; lots = 0 ∷ []; kept = map (under 0) c.answers }
+migrated c = record c { counters = (as_version_2 c).counters; answers = []; lots = 0 ∷ []; kept = map (under 0) c.answers }
 
 -- The index changes no row.
 abbrev pub opened : Content → Content

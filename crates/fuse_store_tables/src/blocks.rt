@@ -5,7 +5,7 @@ ghost use Rattle.sqlite.specs.declared.types.Value.TheVariants.{Int, Blob};
 ghost use Rattle.sqlite.specs.State.{HasCleanDisk};
 ghost use Rattle.sqlite.specs.Held.{state};
 ghost use Rattle.sqlite.specs.Values.{bound};
-ghost use Rattle.fuse_store_tables.specs.Moves.{Inside, Makes, Looked, Stays};
+ghost use Rattle.fuse_store_tables.specs.Moves.{Inside, Makes, LookedInside, Stays};
 ghost use Rattle.fuse_store_tables.specs.Blocks.{block_at, shown_block};
 ghost use Rattle.fuse_store_tables.specs.Content.{Content, with_block, set_block, put_block};
 ghost use Rattle.fuse_store_tables.specs.Content.{without_blocks_from};
@@ -128,7 +128,7 @@ pub fn select_block<S: Alter>(
 ) -> Result<Vec<Row>, Error>
     requires node { node < 2 ^ 63 }
     requires block { block < 2 ^ 63 }
-    ensures looks { OnOk result (Looked (state S.Store conn.old) (state S.Store conn.new)) }
+    ensures looks { OnOk result (LookedInside (state S.Store conn.old) (state S.Store conn.new)) }
     ensures fails { OnErr result (Stays (state S.Store conn.old) (state S.Store conn.new)) }
     ensures found { HasCleanDisk (state S.Store conn.new) → IfOk result (λ rows. (c : Content)
         → Inside c (state S.Store conn.old)

@@ -6,7 +6,7 @@ ghost use Rattle.std.specs.Int.{w64, cast_signed};
 ghost use Rattle.sqlite.specs.declared.types.Value.TheVariants.{Null, Int, Blob};
 ghost use Rattle.sqlite.specs.Order.{column};
 ghost use Rattle.fuse_wire.specs.declared.moment.Moment.{Moment as Time};
-ghost use Rattle.fuse_tree.specs.declared.rows.NodeRow.{NodeRow as Node};
+ghost use Rattle.fuse_rows.specs.declared.rows.NodeRow.{NodeRow as Node};
 ghost use Rattle.fuse_keeper.specs.Faults.{is_memory};
 ghost use Rattle.fuse_store_tables.specs.Faults.{IsOutside, IsPlain, IsMisread};
 ghost use Rattle.fuse_store_tables.specs.inner.Columns.{misread_as, shown_number};
@@ -14,7 +14,7 @@ ghost use Rattle.fuse_store_tables.specs.Content.{node_columns, columns_of, HasW
 ghost use Rattle.fuse_store_tables.specs.Clearing.{reached};
 
 use fuse_keeper::StoreFault;
-use fuse_tree::NodeRow;
+use fuse_rows::NodeRow;
 use fuse_wire::Moment;
 use sqlite::{Error, ErrorCode, Row};
 

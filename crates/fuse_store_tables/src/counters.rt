@@ -3,7 +3,7 @@ ghost use Rattle.std.specs.Prelude.{◌≡◌, ◌<◌, ◌^◌, map, IfOk, OnOk
 ghost use Rattle.std.specs.Option.{option_to_list};
 ghost use Rattle.sqlite.specs.State.{HasCleanDisk};
 ghost use Rattle.sqlite.specs.Held.{state};
-ghost use Rattle.fuse_store_tables.specs.Moves.{Inside, Rests, Makes, Looked, Stays, Serves};
+ghost use Rattle.fuse_store_tables.specs.Moves.{Inside, Rests, Makes, LookedInside, Stays, Serves};
 ghost use Rattle.fuse_store_tables.specs.Moves.{StaysOpen, OnlyReads};
 ghost use Rattle.fuse_store_tables.specs.Content.{Content, with_counter, set_counter, shown_counter};
 ghost use Rattle.fuse_store_tables.specs.Content.{counter_key, at_by};
@@ -128,7 +128,7 @@ pub(crate) fn select_counter<S: Alter>(
 
 /// The values of all counters, in the order of their keys.
 pub fn select_counters<S: Alter>(conn: &mut Connection<S>) -> Result<Vec<Row>, Error>
-    ensures looks { OnOk result (Looked (state S.Store conn.old) (state S.Store conn.new)) }
+    ensures looks { OnOk result (LookedInside (state S.Store conn.old) (state S.Store conn.new)) }
     ensures fails { OnErr result (Stays (state S.Store conn.old) (state S.Store conn.new)) }
     ensures found { HasCleanDisk (state S.Store conn.new) → IfOk result (λ rows. (c : Content)
         → Inside c (state S.Store conn.old) → rows.items ≡ map shown_counter c.counters) }

@@ -11,14 +11,15 @@ ghost use Rattle.fuse_store_tables.specs.Refusing.{HasMetaTable, IsOfStore, IsNa
 ghost use Rattle.fuse_store_tables.specs.inner.Steps.{HasCounters, with_room};
 ghost use Rattle.fuse_store_tables.specs.Moves.{Takes, Makes, ServesAs, IsSafe, LeavesAlone, Begins};
 ghost use Rattle.fuse_store_tables.specs.Moves.{CommitsNothing};
-ghost use Rattle.fuse_store_tables.specs.inner.Performing.{PerformsAs, StaysWithin};
+ghost use Rattle.fuse_store_tables.specs.inner.Performing.{TransactsAs, StaysWithin};
 
 use crate::counters::{CAPACITY, PROFILE, USED, insert_counter};
 use crate::nodes::write_node;
 use crate::profile::EVERYDAY;
+use crate::schema::is_empty;
 use crate::statements::{begin, commit, run, undo};
 use fuse_keeper::StoreFault;
-use fuse_tree::{NodeRow, Origin};
+use fuse_rows::{NodeRow, Origin};
 use sqlite::{Alter, Connection, Error};
 
 const META: &str = "CREATE TABLE meta (k INTEGER PRIMARY KEY, v INTEGER NOT NULL) STRICT";
@@ -218,24 +219,31 @@ fn transact<S: Alter>(
     from: Origin,
 ) -> Result<(), StoreFault>
     requires { IfSome room (λ capacity. capacity < 2 ^ 51) }
-    ensures performs { PerformsAs (IsBare no_schema) (IsNew room from) (state S.Store conn.old)
+    ensures performs { TransactsAs (IsBare no_schema) (IsNew room from) (state S.Store conn.old)
         (state S.Store conn.new) result }
     ensures fault { IsSafe (IsBare no_schema) (state S.Store conn.old) (state S.Store conn.new)
         result }
     ensures outside { IfErr result IsOutside }
     ensures was { HasCleanDisk (state S.Store conn.new)
         → OnOk result (IsTrue (state S.Store conn.old).is_open) }
+    ensures alone { ((state S.Store conn.old).now.schema ≡ no_schema → ⊥)
+        → CommitsNothing (state S.Store conn.old) (state S.Store conn.new) }
     ensures ended { OnOk result (HasCleanDisk (state S.Store conn.new)
-        → (state S.Store conn.new).in_transaction ≡ false) }
+        → ((state S.Store conn.new).in_transaction ≡ false)
+        × ((state S.Store conn.new).now ≡ (state S.Store conn.new).committed)) }
 {
     begin(conn)?;
+    if !is_empty(conn.schema()) {
+        return Err(StoreFault::Sql(Error::InvalidQuery));
+    }
     make_all(conn, room, from)?;
     commit(conn)?;
     Ok(())
 }
 
 /// Makes a new store of this origin in a database without tables: an everyday store where it has a
-/// capacity, in blocks, and else a plain one. The commit is its last call of the database.
+/// capacity, in blocks, and else a plain one. Any other database is left as it was. The commit is
+/// its last call of the database.
 pub fn make_store<S: Alter>(
     conn: &mut Connection<S>,
     room: Option<u64>,
@@ -250,6 +258,9 @@ pub fn make_store<S: Alter>(
     ensures outside { IfErr result IsOutside }
     ensures was { HasCleanDisk (state S.Store conn.new)
         → OnOk result (IsTrue (state S.Store conn.old).is_open) }
+    // Nothing is made beside other tables.
+    ensures alone { ((state S.Store conn.old).now.schema ≡ no_schema → ⊥)
+        → LeavesAlone (state S.Store conn.old) (state S.Store conn.new) }
     // No transaction is left open.
     ensures ended { HasCleanDisk (state S.Store conn.new)
         → (state S.Store conn.new).in_transaction ≡ false }

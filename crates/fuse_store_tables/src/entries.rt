@@ -1,18 +1,19 @@
 // The table of entries.
 ghost use Rattle.std.specs.Prelude.{◌≡◌, ◌<◌, ◌^◌, [], ◌∷◌, pos, map, take, filter, IfOk, OnOk};
-ghost use Rattle.std.specs.Prelude.{OnErr};
+ghost use Rattle.std.specs.Prelude.{None, OnErr};
 ghost use Rattle.sqlite.specs.declared.types.Value.TheVariants.{Int, Blob};
 ghost use Rattle.sqlite.specs.State.{HasCleanDisk};
 ghost use Rattle.sqlite.specs.Held.{state};
 ghost use Rattle.sqlite.specs.Values.{bound};
-ghost use Rattle.fuse_tree.specs.Columns.{FitsEntry};
-ghost use Rattle.fuse_store_tables.specs.Moves.{Inside, Makes, Looked, Stays};
-ghost use Rattle.fuse_store_tables.specs.Content.{Content, with_entry, with_entry_gone, has_name};
+ghost use Rattle.fuse_rows.specs.Columns.{FitsEntry};
+ghost use Rattle.fuse_store_tables.specs.Moves.{Inside, Makes, LookedInside, Stays};
+ghost use Rattle.fuse_store_tables.specs.Content.{Content, at_by, cookie_of, with_entry};
+ghost use Rattle.fuse_store_tables.specs.Content.{with_entry_gone, has_name};
 ghost use Rattle.fuse_store_tables.specs.Content.{stands_after, shown_place, shown_entry, shown_child};
 
 use crate::statements::run;
 use crate::values::{number, triple};
-use fuse_tree::EntryRow;
+use fuse_rows::EntryRow;
 use sqlite::types::{ToSql, ValueRef};
 use sqlite::{Alter, Connection, Error, Row};
 
@@ -56,7 +57,11 @@ fn place_values<'a>(dir: u64, name: &'a [u8]) -> [ValueRef<'a>; 2]
 /// Adds an entry. Its cookie, its child and its name in the directory are new.
 pub fn insert_entry<S: Alter>(conn: &mut Connection<S>, row: &EntryRow) -> Result<(), Error>
     requires { FitsEntry row.now }
-    ensures { Makes (with_entry row.now) (state S.Store conn.old) (state S.Store conn.new) result }
+    ensures made { Makes (with_entry row.now) (state S.Store conn.old) (state S.Store conn.new)
+        result }
+    // It fails where there is an entry of this cookie.
+    ensures fresh { HasCleanDisk (state S.Store conn.new) → OnOk result ((c : Content)
+        → Inside c (state S.Store conn.old) → at_by cookie_of row.now.cookie c.entries ≡ None) }
 {
     let values = entry_values(row);
     run(conn, INSERT, &values)
@@ -79,7 +84,7 @@ pub fn select_named<S: Alter>(
     name: &[u8],
 ) -> Result<Vec<Row>, Error>
     requires { dir < 2 ^ 63 }
-    ensures looks { OnOk result (Looked (state S.Store conn.old) (state S.Store conn.new)) }
+    ensures looks { OnOk result (LookedInside (state S.Store conn.old) (state S.Store conn.new)) }
     ensures fails { OnErr result (Stays (state S.Store conn.old) (state S.Store conn.new)) }
     ensures found { HasCleanDisk (state S.Store conn.new) → IfOk result (λ rows. (c : Content)
         → Inside c (state S.Store conn.old)
@@ -99,7 +104,7 @@ pub fn select_after<S: Alter>(
     requires dir { dir < 2 ^ 63 }
     requires cookie { cookie < 2 ^ 63 }
     requires limit { limit < 2 ^ 63 }
-    ensures looks { OnOk result (Looked (state S.Store conn.old) (state S.Store conn.new)) }
+    ensures looks { OnOk result (LookedInside (state S.Store conn.old) (state S.Store conn.new)) }
     ensures fails { OnErr result (Stays (state S.Store conn.old) (state S.Store conn.new)) }
     ensures found { HasCleanDisk (state S.Store conn.new) → IfOk result (λ rows. (c : Content)
         → Inside c (state S.Store conn.old)
@@ -119,7 +124,7 @@ pub fn select_children<S: Alter>(
     requires dir { dir < 2 ^ 63 }
     requires cookie { cookie < 2 ^ 63 }
     requires limit { limit < 2 ^ 63 }
-    ensures looks { OnOk result (Looked (state S.Store conn.old) (state S.Store conn.new)) }
+    ensures looks { OnOk result (LookedInside (state S.Store conn.old) (state S.Store conn.new)) }
     ensures fails { OnErr result (Stays (state S.Store conn.old) (state S.Store conn.new)) }
     ensures found { HasCleanDisk (state S.Store conn.new) → IfOk result (λ rows. (c : Content)
         → Inside c (state S.Store conn.old)

@@ -1,23 +1,42 @@
 // The opening of a store for a mount that begins, in one transaction.
-ghost use Rattle.std.specs.Prelude.{◌≡◌, false, IsTrue, IfOk, OnOk, OnErr, IfErr};
+ghost use Rattle.std.specs.Prelude.{◌≡◌, true, false, IsTrue, IfOk, OnOk, OnErr, IfErr};
 ghost use Rattle.sqlite.specs.State.{HasCleanDisk, KeepsCommit};
 ghost use Rattle.sqlite.specs.Held.{state};
 ghost use Rattle.fuse_store_tables.specs.Saying.{Says, IsTabled, IsRefusal};
 ghost use Rattle.fuse_store_tables.specs.Content.{Content};
 ghost use Rattle.fuse_store_tables.specs.Clearing.{IsBegun};
 ghost use Rattle.fuse_store_tables.specs.Moves.{RestsAs, InsideAs, Takes, ServesAs, IsSafe};
-ghost use Rattle.fuse_store_tables.specs.Moves.{LeavesAlone};
-ghost use Rattle.fuse_store_tables.specs.inner.Performing.{PerformsAs, IsSure, CommitsNothing};
+ghost use Rattle.fuse_store_tables.specs.Moves.{LeavesAlone, RollsBack, CommitsOnce};
+ghost use Rattle.fuse_store_tables.specs.inner.Performing.{TransactsAs, IsSure, CommitsNothing};
 ghost use Rattle.fuse_store_tables.specs.inner.Performing.{OnlyReads, StaysWithin};
+ghost use Rattle.fuse_store_tables.specs.Faults.{IsPlain};
 ghost use Rattle.fuse_store_tables.specs.Opening.{IsStored, IsLaid, HasMeta, profile_in};
+ghost use Rattle.fuse_store_tables.specs.Opening.{IsOpened, HasSecondMeta};
 ghost use Rattle.fuse_store_tables.specs.inner.Steps.{Tests};
 
 use crate::mount::clear;
+use crate::numbers::check_second;
 use crate::setup::{law_of_rest, work};
 use crate::statements::{begin, commit, undo};
 use fuse_init::Profile;
 use fuse_keeper::StoreFault;
 use sqlite::{Alter, Connection};
+
+// Deletes all state of the last mount, and tests the rows of `meta` that it leaves.
+fn clear_and_check<S: Alter>(conn: &mut Connection<S>) -> Result<(), StoreFault>
+    ensures begun { Takes IsOpened IsBegun (state S.Store conn.old) (state S.Store conn.new)
+        result }
+    ensures fault { IsSure IsOpened (state S.Store conn.old) (state S.Store conn.new) result }
+    ensures plain { IfErr result IsPlain }
+    ensures left { HasCleanDisk (state S.Store conn.new)
+        → (state S.Store conn.old).in_transaction ≡ true → OnOk result ((c : Content)
+        → InsideAs (IsLaid c) (state S.Store conn.new) → HasSecondMeta c) }
+    ensures within { StaysWithin (state S.Store conn.old) (state S.Store conn.new) result }
+{
+    clear(conn)?;
+    check_second(conn)?;
+    Ok(())
+}
 
 // Opens the store, and deletes all state of the last mount.
 fn renew<S: Alter>(conn: &mut Connection<S>) -> Result<Profile, StoreFault>
@@ -34,11 +53,14 @@ fn renew<S: Alter>(conn: &mut Connection<S>) -> Result<Profile, StoreFault>
     ensures alone { (HasCleanDisk (state S.Store conn.new)
         → IsTabled (state S.Store conn.old).now → ⊥)
         → OnlyReads (state S.Store conn.old) (state S.Store conn.new) result }
+    ensures left { HasCleanDisk (state S.Store conn.new)
+        → (state S.Store conn.old).in_transaction ≡ true → OnOk result ((c : Content)
+        → InsideAs (IsLaid c) (state S.Store conn.new) → HasSecondMeta c) }
     ensures within { StaysWithin (state S.Store conn.old) (state S.Store conn.new) result }
 {
     match work(conn) {
         Ok(profile) => {
-            clear(conn)?;
+            clear_and_check(conn)?;
             Ok(profile)
         }
         Err(fault) => Err(fault),
@@ -47,7 +69,7 @@ fn renew<S: Alter>(conn: &mut Connection<S>) -> Result<Profile, StoreFault>
 
 // The transaction. A fault may leave it open.
 fn transact<S: Alter>(conn: &mut Connection<S>) -> Result<Profile, StoreFault>
-    ensures performs { PerformsAs IsStored IsBegun (state S.Store conn.old)
+    ensures performs { TransactsAs IsStored IsBegun (state S.Store conn.old)
         (state S.Store conn.new) result }
     ensures fault { IsSafe IsStored (state S.Store conn.old) (state S.Store conn.new) result }
     ensures was { HasCleanDisk (state S.Store conn.new)
@@ -56,6 +78,8 @@ fn transact<S: Alter>(conn: &mut Connection<S>) -> Result<Profile, StoreFault>
         → IfErr result (Says (state S.Store conn.old).now) }
     ensures whole { HasCleanDisk (state S.Store conn.new) → OnOk result ((c : Content)
         → RestsAs (IsLaid c) (state S.Store conn.old) → HasMeta c) }
+    ensures left { HasCleanDisk (state S.Store conn.new) → OnOk result ((c : Content)
+        → RestsAs (IsLaid c) (state S.Store conn.new) → HasSecondMeta c) }
     ensures profile { HasCleanDisk (state S.Store conn.new) → IfOk result (λ p. (c : Content)
         → RestsAs (IsLaid c) (state S.Store conn.old) → p ≡ profile_in c) }
     ensures tabled { HasCleanDisk (state S.Store conn.new)
@@ -66,6 +90,7 @@ fn transact<S: Alter>(conn: &mut Connection<S>) -> Result<Profile, StoreFault>
         → CommitsNothing (state S.Store conn.old) (state S.Store conn.new)) }
     ensures keeps { OnErr result (HasCleanDisk (state S.Store conn.new)
         → KeepsCommit (state S.Store conn.old) (state S.Store conn.new)) }
+    ensures once { CommitsOnce (state S.Store conn.old) (state S.Store conn.new) result }
     ensures ended { OnOk result (HasCleanDisk (state S.Store conn.new)
         → ((state S.Store conn.new).in_transaction ≡ false)
         × ((state S.Store conn.new).now ≡ (state S.Store conn.new).committed)) }
@@ -95,6 +120,9 @@ pub fn set_up_fresh<S: Alter>(conn: &mut Connection<S>) -> Result<Profile, Store
     // than that of its version is never opened.
     ensures whole { HasCleanDisk (state S.Store conn.new) → OnOk result ((c : Content)
         → RestsAs (IsLaid c) (state S.Store conn.old) → HasMeta c) }
+    // The rows of `meta` that it leaves are whole too, so the next opening takes them.
+    ensures left { HasCleanDisk (state S.Store conn.new) → OnOk result ((c : Content)
+        → RestsAs (IsLaid c) (state S.Store conn.new) → HasSecondMeta c) }
     ensures profile { HasCleanDisk (state S.Store conn.new) → IfOk result (λ p. (c : Content)
         → RestsAs (IsLaid c) (state S.Store conn.old) → p ≡ profile_in c) }
     ensures tabled { HasCleanDisk (state S.Store conn.new)
@@ -108,10 +136,9 @@ pub fn set_up_fresh<S: Alter>(conn: &mut Connection<S>) -> Result<Profile, Store
     ensures ended { HasCleanDisk (state S.Store conn.new)
         → (state S.Store conn.new).in_transaction ≡ false }
     // Where the call fails, what was committed before is seen, whatever the database.
-    ensures undone { OnErr result (HasCleanDisk (state S.Store conn.new)
-        → IsTrue (state S.Store conn.new).is_open
-        → ((state S.Store conn.new).now ≡ (state S.Store conn.old).committed)
-        × ((state S.Store conn.new).committed ≡ (state S.Store conn.old).committed)) }
+    ensures undone { OnErr result (RollsBack (state S.Store conn.old) (state S.Store conn.new)) }
+    // It commits once at most: after a crash all of it is seen, or nothing.
+    ensures once { CommitsOnce (state S.Store conn.old) (state S.Store conn.new) result }
 {
     match transact(conn) {
         Ok(profile) => Ok(profile),

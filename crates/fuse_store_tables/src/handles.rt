@@ -1,13 +1,13 @@
 // The table of handles.
 ghost use Rattle.std.specs.Prelude.{◌≡◌, ◌<◌, ◌^◌, [], ◌∷◌, pos, map, take, filter, IfOk, OnOk};
-ghost use Rattle.std.specs.Prelude.{OnErr};
+ghost use Rattle.std.specs.Prelude.{None, OnErr};
 ghost use Rattle.std.specs.Option.{option_to_list};
 ghost use Rattle.sqlite.specs.declared.types.Value.TheVariants.{Int};
 ghost use Rattle.sqlite.specs.State.{HasCleanDisk};
 ghost use Rattle.sqlite.specs.Held.{state};
 ghost use Rattle.sqlite.specs.Values.{bound};
-ghost use Rattle.fuse_tree.specs.Columns.{FitsHandle};
-ghost use Rattle.fuse_store_tables.specs.Moves.{Inside, Makes, Looked, Stays};
+ghost use Rattle.fuse_rows.specs.Columns.{FitsHandle};
+ghost use Rattle.fuse_store_tables.specs.Moves.{Inside, Makes, LookedInside, Stays};
 ghost use Rattle.fuse_store_tables.specs.Content.{Content, access_code, fh_of, at_by, with_handle};
 ghost use Rattle.fuse_store_tables.specs.Content.{without_handle, shown_handle, shown_open};
 ghost use Rattle.fuse_store_tables.specs.Content.{is_handle_of};
@@ -16,7 +16,7 @@ ghost use Rattle.fuse_store_tables.specs.inner.Performing.{StaysWithin};
 
 use crate::statements::run;
 use crate::values::{number, pair};
-use fuse_tree::HandleRow;
+use fuse_rows::HandleRow;
 use fuse_wire::AccessMode;
 use sqlite::types::{ToSql, ValueRef};
 use sqlite::{Alter, Connection, Error, Row};
@@ -58,7 +58,11 @@ fn handle_values(row: &HandleRow) -> [ValueRef<'static>; 3]
 /// Adds a handle with a new number.
 pub fn insert_handle<S: Alter>(conn: &mut Connection<S>, row: &HandleRow) -> Result<(), Error>
     requires { FitsHandle row.now }
-    ensures { Makes (with_handle row.now) (state S.Store conn.old) (state S.Store conn.new) result }
+    ensures made { Makes (with_handle row.now) (state S.Store conn.old) (state S.Store conn.new)
+        result }
+    // It fails where there is a handle of this number.
+    ensures fresh { HasCleanDisk (state S.Store conn.new) → OnOk result ((c : Content)
+        → Inside c (state S.Store conn.old) → at_by fh_of row.now.fh c.handles ≡ None) }
 {
     let values = handle_values(row);
     run(conn, INSERT, &values)
@@ -84,7 +88,7 @@ pub(crate) fn delete_all_handles<S: Alter>(conn: &mut Connection<S>) -> Result<(
 /// The handles of this number: one row or none.
 pub fn select_handle<S: Alter>(conn: &mut Connection<S>, fh: u64) -> Result<Vec<Row>, Error>
     requires { fh < 2 ^ 63 }
-    ensures looks { OnOk result (Looked (state S.Store conn.old) (state S.Store conn.new)) }
+    ensures looks { OnOk result (LookedInside (state S.Store conn.old) (state S.Store conn.new)) }
     ensures fails { OnErr result (Stays (state S.Store conn.old) (state S.Store conn.new)) }
     ensures found { HasCleanDisk (state S.Store conn.new) → IfOk result (λ rows. (c : Content)
         → Inside c (state S.Store conn.old)
@@ -102,7 +106,7 @@ pub fn select_handles_of<S: Alter>(
 ) -> Result<Vec<Row>, Error>
     requires node { node < 2 ^ 63 }
     requires limit { limit < 2 ^ 63 }
-    ensures looks { OnOk result (Looked (state S.Store conn.old) (state S.Store conn.new)) }
+    ensures looks { OnOk result (LookedInside (state S.Store conn.old) (state S.Store conn.new)) }
     ensures fails { OnErr result (Stays (state S.Store conn.old) (state S.Store conn.new)) }
     ensures found { HasCleanDisk (state S.Store conn.new) → IfOk result (λ rows. (c : Content)
         → Inside c (state S.Store conn.old)

@@ -1,6 +1,7 @@
 // The tables and the indexes, compared with those of the layout.
 ghost use Rattle.std.specs.Prelude.{◌≡◌, [], ◌∷◌, codes, Decides};
-ghost use Rattle.fuse_store_tables.specs.Layout.{number, meta, nodes, entries, blocks, handles};
+ghost use Rattle.fuse_store_tables.specs.Layout.{number_column, meta, nodes, entries, blocks};
+ghost use Rattle.fuse_store_tables.specs.Layout.{handles};
 ghost use Rattle.fuse_store_tables.specs.Layout.{answers, lots, kept};
 ghost use Rattle.fuse_store_tables.specs.inner.Shapes.{node_times, first_indexes, last_indexes};
 ghost use Rattle.fuse_store_tables.specs.inner.Shapes.{all_indexes, first_tables, all_tables};
@@ -79,7 +80,8 @@ fn is_entries(t: &Table) -> bool
 
 // The last columns of a node.
 fn are_last_of_node(cs: &[Column]) -> bool
-    ensures { Decides result (cs.now ≡ number (codes "up") ∷ number (codes "subdirs") ∷ []) }
+    ensures { Decides result
+        (cs.now ≡ number_column (codes "up") ∷ number_column (codes "subdirs") ∷ []) }
 {
     match cs {
         [up, subdirs] => is_number(up, b"up") && is_number(subdirs, b"subdirs"),

@@ -35,5 +35,6 @@ pub use nodes::{delete_node, insert_node, put_node, select_node, sum_sizes};
 pub use records::{
     count_kept, count_lots, delete_four_kept, delete_kept, insert_kept, insert_lot, select_kept,
 };
+pub use schema::is_empty;
 pub use setup::set_up;
 pub use statements::{begin, commit, undo};

@@ -16,7 +16,8 @@ ghost use Rattle.fuse_store_tables.specs.Saying.{ShowsVersion, HasFirst, IsOwn, 
 ghost use Rattle.fuse_store_tables.specs.Saying.{Says};
 ghost use Rattle.fuse_store_tables.specs.Moves.{InsideAs, Takes};
 ghost use Rattle.fuse_store_tables.specs.inner.Performing.{IsSure, OnlyReads};
-ghost use Rattle.fuse_store_tables.specs.Opening.{IsStored, IsLaid, IsMetaFrom, IsMeta, most};
+ghost use Rattle.fuse_store_tables.specs.Opening.{IsStored, IsLaid, IsMetaFrom, IsMeta};
+ghost use Rattle.fuse_store_tables.specs.Opening.{greatest_value};
 ghost use Rattle.fuse_store_tables.specs.Opening.{MetaOf, profile_in};
 ghost use Rattle.fuse_store_tables.specs.inner.Checking.{ChecksIf};
 ghost use Rattle.fuse_store_tables.specs.inner.Columns.{shown_meta};
@@ -115,7 +116,7 @@ pub(crate) fn find_version<S: Alter>(conn: &mut Connection<S>) -> Result<u64, St
 
 // The greatest value of the row of `meta` with this key.
 fn most(profile: Profile, key: u64) -> u64
-    ensures { result ≡ most profile key }
+    ensures { result ≡ greatest_value profile key }
 {
     if key < 5 {
         1 << 62
@@ -140,9 +141,9 @@ fn most(profile: Profile, key: u64) -> u64
 fn check_row(row: &Row, profile: Profile, key: u64) -> Result<(), StoreFault>
     ensures plain { IfErr result IsPlain }
     ensures fault { IfErr result (λ f. (c : Counter) → row.now ≡ shown_meta c → c.key ≡ key
-        → c.value ≤ most profile c.key → IsOutside f) }
+        → c.value ≤ greatest_value profile c.key → IsOutside f) }
     ensures whole { OnOk result ((c : Counter) → row.now ≡ shown_meta c
-        → (c.key ≡ key) × (c.value ≤ most profile c.key)) }
+        → (c.key ≡ key) × (c.value ≤ greatest_value profile c.key)) }
 {
     let found = number_at(row, 0)?;
     let value = number_at(row, 1)?;

@@ -3,8 +3,8 @@ ghost use Rattle.sqlite.specs.Held.{state};
 ghost use Rattle.fuse_store_tables.specs.Moves.{Takes, Makes};
 ghost use Rattle.fuse_store_tables.specs.Content.{Holds};
 ghost use Rattle.fuse_store_tables.specs.Opening.{IsFirst, IsOpened, HoldsUnindexed};
-ghost use Rattle.fuse_store_tables.specs.inner.Steps.{HasLots, HasKept, HasTables, moved};
-ghost use Rattle.fuse_store_tables.specs.Opening.{marked};
+ghost use Rattle.fuse_store_tables.specs.inner.Steps.{HasLots, HasKept, HasTables, moved_answers};
+ghost use Rattle.fuse_store_tables.specs.Opening.{as_version_2};
 ghost use Rattle.fuse_store_tables.specs.inner.Performing.{StaysWithin};
 
 use crate::counters::{NEXT_LOT, VERSION, insert_counter, write_counter};
@@ -47,7 +47,7 @@ fn add_tables<S: Alter>(conn: &mut Connection<S>) -> Result<(), Error>
 
 // Puts the records under lot 0.
 fn move_records<S: Alter>(conn: &mut Connection<S>) -> Result<(), Error>
-    ensures made { Makes moved (state S.Store conn.old) (state S.Store conn.new) result }
+    ensures made { Makes moved_answers (state S.Store conn.old) (state S.Store conn.new) result }
     ensures within { StaysWithin (state S.Store conn.old) (state S.Store conn.new) result }
 {
     write_lot(conn, 0)?;
@@ -57,7 +57,7 @@ fn move_records<S: Alter>(conn: &mut Connection<S>) -> Result<(), Error>
 
 // Sets the next lot and the version.
 fn mark<S: Alter>(conn: &mut Connection<S>) -> Result<(), Error>
-    ensures made { Makes marked (state S.Store conn.old) (state S.Store conn.new) result }
+    ensures made { Makes as_version_2 (state S.Store conn.old) (state S.Store conn.new) result }
     ensures within { StaysWithin (state S.Store conn.old) (state S.Store conn.new) result }
 {
     insert_counter(conn, NEXT_LOT, 1)?;

@@ -4,7 +4,7 @@ ghost use Rattle.sqlite.specs.State.{HasCleanDisk, KeepsCommit};
 ghost use Rattle.sqlite.specs.Held.{state};
 ghost use Rattle.fuse_store_tables.specs.Content.{Holds};
 ghost use Rattle.fuse_store_tables.specs.Faults.{IsOutside, IsPlain};
-ghost use Rattle.fuse_store_tables.specs.inner.Columns.{shown_number, number_of};
+ghost use Rattle.fuse_store_tables.specs.inner.Columns.{shown_number, number_of_row};
 ghost use Rattle.fuse_store_tables.specs.inner.Steps.{without_blocks_of, without_unnamed_blocks};
 ghost use Rattle.fuse_store_tables.specs.Clearing.{without_settings};
 ghost use Rattle.fuse_store_tables.specs.inner.Steps.{with_nodes_counted, without_records};
@@ -12,9 +12,9 @@ ghost use Rattle.fuse_store_tables.specs.inner.Steps.{without_all_handles, witho
 ghost use Rattle.fuse_store_tables.specs.Clearing.{cleared};
 ghost use Rattle.fuse_store_tables.specs.Opening.{IsSecond};
 ghost use Rattle.fuse_store_tables.specs.Moves.{Makes, Serves, ServesAs, IsSafe};
-ghost use Rattle.fuse_store_tables.specs.inner.Performing.{Performs, IsSure, StaysWithin};
+ghost use Rattle.fuse_store_tables.specs.inner.Performing.{Transacts, IsSure, StaysWithin};
 ghost use Rattle.fuse_store_tables.specs.inner.Performing.{CommitsNothing};
-ghost use Rattle.fuse_store_tables.specs.Moves.{StaysOpen, LeavesAlone, RollsBack};
+ghost use Rattle.fuse_store_tables.specs.Moves.{StaysOpen, LeavesAlone, RollsBack, CommitsOnce};
 ghost use Rattle.fuse_store_tables.specs.Saying.{IsRefusal};
 
 use crate::blocks::remove_blocks_from;
@@ -30,7 +30,7 @@ use sqlite::{Alter, Connection, Error, Row};
 
 // Deletes the blocks of these nodes.
 fn delete_blocks_of<S: Alter>(conn: &mut Connection<S>, nodes: &[Row]) -> Result<(), StoreFault>
-    ensures made { Makes (without_blocks_of (map number_of nodes.now)) (state S.Store conn.old)
+    ensures made { Makes (without_blocks_of (map number_of_row nodes.now)) (state S.Store conn.old)
         (state S.Store conn.new) result }
     ensures fault { IfErr result (λ f. (ns : List ℕ) → nodes.now ≡ map shown_number ns
         → IsOutside f) }
@@ -133,7 +133,7 @@ pub(crate) fn clear<S: Alter>(conn: &mut Connection<S>) -> Result<(), StoreFault
 
 // The transaction. A fault may leave it open.
 fn transact<S: Alter>(conn: &mut Connection<S>) -> Result<(), StoreFault>
-    ensures performs { Performs cleared (state S.Store conn.old) (state S.Store conn.new) result }
+    ensures performs { Transacts cleared (state S.Store conn.old) (state S.Store conn.new) result }
     ensures open { StaysOpen (state S.Store conn.old) (state S.Store conn.new) result }
     ensures fault { IsSafe Holds (state S.Store conn.old) (state S.Store conn.new) result }
     ensures plain { IfErr result IsPlain }
@@ -141,6 +141,7 @@ fn transact<S: Alter>(conn: &mut Connection<S>) -> Result<(), StoreFault>
         → CommitsNothing (state S.Store conn.old) (state S.Store conn.new)) }
     ensures keeps { OnErr result (HasCleanDisk (state S.Store conn.new)
         → KeepsCommit (state S.Store conn.old) (state S.Store conn.new)) }
+    ensures once { CommitsOnce (state S.Store conn.old) (state S.Store conn.new) result }
     ensures ended { OnOk result (HasCleanDisk (state S.Store conn.new)
         → (state S.Store conn.new).in_transaction ≡ false) }
 {
@@ -171,6 +172,8 @@ pub fn begin_mount<S: Alter>(conn: &mut Connection<S>) -> Result<(), StoreFault>
         → (state S.Store conn.new).in_transaction ≡ false }
     // Where the call fails, what was committed before is seen, whatever the database.
     ensures undone { OnErr result (RollsBack (state S.Store conn.old) (state S.Store conn.new)) }
+    // It commits once at most: after a crash all of it is seen, or nothing.
+    ensures once { CommitsOnce (state S.Store conn.old) (state S.Store conn.new) result }
 {
     match transact(conn) {
         Ok(()) => Ok(()),

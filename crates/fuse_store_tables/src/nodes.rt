@@ -1,12 +1,13 @@
 // The table of nodes.
-ghost use Rattle.std.specs.Prelude.{◌≡◌, ◌<◌, ◌^◌, [], ◌∷◌, map, IfOk, IfErr, OnOk, OnErr};
+ghost use Rattle.std.specs.Prelude.{◌≡◌, ◌<◌, ◌^◌, [], ◌∷◌, map, None, IfOk, IfErr, OnOk};
+ghost use Rattle.std.specs.Prelude.{OnErr};
 ghost use Rattle.std.specs.Option.{is_some, option_to_list};
 ghost use Rattle.std.specs.List.{sum_by};
 ghost use Rattle.sqlite.specs.State.{HasCleanDisk};
 ghost use Rattle.sqlite.specs.Held.{state};
 ghost use Rattle.sqlite.specs.Values.{bound};
-ghost use Rattle.fuse_tree.specs.Columns.{FitsNode};
-ghost use Rattle.fuse_store_tables.specs.Moves.{Inside, Rests, Makes, Looked, Stays, Serves};
+ghost use Rattle.fuse_rows.specs.Columns.{FitsNode};
+ghost use Rattle.fuse_store_tables.specs.Moves.{Inside, Rests, Makes, LookedInside, Stays, Serves};
 ghost use Rattle.fuse_store_tables.specs.Moves.{StaysOpen, IsSafe, OnlyReads};
 ghost use Rattle.fuse_store_tables.specs.inner.Performing.{IsSure, StaysWithin};
 ghost use Rattle.fuse_store_tables.specs.Content.{Content, Holds, node_columns, node_key};
@@ -20,7 +21,7 @@ use crate::columns::the_number;
 use crate::statements::{run, run_any};
 use crate::values::number;
 use fuse_keeper::StoreFault;
-use fuse_tree::NodeRow;
+use fuse_rows::NodeRow;
 use sqlite::types::{ToSql, ValueRef};
 use sqlite::{Alter, Connection, Error, Row};
 
@@ -75,6 +76,9 @@ pub(crate) fn write_node<S: Alter>(conn: &mut Connection<S>, row: &NodeRow) -> R
     requires { FitsNode row.now }
     ensures made { Makes (with_node row.now) (state S.Store conn.old) (state S.Store conn.new)
         result }
+    // It fails where there is a node of this number.
+    ensures fresh { HasCleanDisk (state S.Store conn.new) → OnOk result ((c : Content)
+        → Inside c (state S.Store conn.old) → at_by node_key row.now.node c.nodes ≡ None) }
     ensures within { StaysWithin (state S.Store conn.old) (state S.Store conn.new) result }
 {
     let values = node_values(row);
@@ -84,7 +88,11 @@ pub(crate) fn write_node<S: Alter>(conn: &mut Connection<S>, row: &NodeRow) -> R
 /// Adds a node with a new number.
 pub fn insert_node<S: Alter>(conn: &mut Connection<S>, row: &NodeRow) -> Result<(), Error>
     requires { FitsNode row.now }
-    ensures { Makes (with_node row.now) (state S.Store conn.old) (state S.Store conn.new) result }
+    ensures made { Makes (with_node row.now) (state S.Store conn.old) (state S.Store conn.new)
+        result }
+    // It fails where there is a node of this number.
+    ensures fresh { HasCleanDisk (state S.Store conn.new) → OnOk result ((c : Content)
+        → Inside c (state S.Store conn.old) → at_by node_key row.now.node c.nodes ≡ None) }
 {
     write_node(conn, row)
 }
@@ -126,7 +134,7 @@ pub fn delete_node<S: Alter>(conn: &mut Connection<S>, node: u64) -> Result<(), 
 /// The nodes of this number: one row or none.
 pub fn select_node<S: Alter>(conn: &mut Connection<S>, number_of: u64) -> Result<Vec<Row>, Error>
     requires { number_of < 2 ^ 63 }
-    ensures looks { OnOk result (Looked (state S.Store conn.old) (state S.Store conn.new)) }
+    ensures looks { OnOk result (LookedInside (state S.Store conn.old) (state S.Store conn.new)) }
     ensures fails { OnErr result (Stays (state S.Store conn.old) (state S.Store conn.new)) }
     ensures found { HasCleanDisk (state S.Store conn.new) → IfOk result (λ rows. (c : Content)
         → Inside c (state S.Store conn.old)

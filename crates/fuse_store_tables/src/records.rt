@@ -1,16 +1,17 @@
 // The tables of records and of lots.
 ghost use Rattle.std.specs.Prelude.{◌≡◌, ◌<◌, ◌≤◌, ◌^◌, [], ◌∷◌, pos, map, length, IfOk, IfErr};
-ghost use Rattle.std.specs.Prelude.{OnOk, OnErr};
+ghost use Rattle.std.specs.Prelude.{None, OnOk, OnErr};
 ghost use Rattle.std.specs.Option.{option_to_list};
 ghost use Rattle.sqlite.specs.declared.types.Value.TheVariants.{Int, Blob};
 ghost use Rattle.sqlite.specs.State.{HasCleanDisk};
 ghost use Rattle.sqlite.specs.Held.{state};
 ghost use Rattle.sqlite.specs.Values.{bound};
-ghost use Rattle.fuse_store_tables.specs.Moves.{Inside, Rests, Makes, Looked, Stays, Serves, IsSafe};
+ghost use Rattle.fuse_store_tables.specs.Moves.{Inside, Rests, Makes, LookedInside, Stays, Serves};
+ghost use Rattle.fuse_store_tables.specs.Moves.{IsSafe};
 ghost use Rattle.fuse_store_tables.specs.Moves.{StaysOpen, OnlyReads};
 ghost use Rattle.fuse_store_tables.specs.Clearing.{counted_to};
 ghost use Rattle.fuse_store_tables.specs.inner.Columns.{shown_number};
-ghost use Rattle.fuse_store_tables.specs.Content.{Content, Holds, kept_key, at_by, with_kept};
+ghost use Rattle.fuse_store_tables.specs.Content.{Content, Holds, kept_key, at_by, put_kept};
 ghost use Rattle.fuse_store_tables.specs.Content.{without_kept, without_four};
 ghost use Rattle.fuse_store_tables.specs.Content.{with_lot};
 ghost use Rattle.fuse_store_tables.specs.inner.Steps.{without_all_kept, without_lots};
@@ -75,8 +76,11 @@ pub fn insert_kept<S: Alter>(
 ) -> Result<(), Error>
     requires id { id < 2 ^ 63 }
     requires lot { lot < 2 ^ 63 }
-    ensures { Makes (with_kept (record { id = id; lot = lot; said = answer.now }))
+    ensures made { Makes (put_kept (record { id = id; lot = lot; said = answer.now }))
         (state S.Store conn.old) (state S.Store conn.new) result }
+    // It fails where there is a record of this id.
+    ensures fresh { HasCleanDisk (state S.Store conn.new) → OnOk result ((c : Content)
+        → Inside c (state S.Store conn.old) → at_by kept_key id c.kept ≡ None) }
 {
     let values = kept_values(id, lot, answer);
     run(conn, INSERT, &values)
@@ -86,6 +90,9 @@ pub fn insert_kept<S: Alter>(
 pub(crate) fn write_lot<S: Alter>(conn: &mut Connection<S>, lot: u64) -> Result<(), Error>
     requires { lot < 2 ^ 63 }
     ensures made { Makes (with_lot lot) (state S.Store conn.old) (state S.Store conn.new) result }
+    // It fails where there is this lot.
+    ensures fresh { HasCleanDisk (state S.Store conn.new) → OnOk result ((c : Content)
+        → Inside c (state S.Store conn.old) → at_by (λ n. n) lot c.lots ≡ None) }
     ensures within { StaysWithin (state S.Store conn.old) (state S.Store conn.new) result }
 {
     let values = number(lot);
@@ -95,7 +102,10 @@ pub(crate) fn write_lot<S: Alter>(conn: &mut Connection<S>, lot: u64) -> Result<
 /// Adds a new lot.
 pub fn insert_lot<S: Alter>(conn: &mut Connection<S>, lot: u64) -> Result<(), Error>
     requires { lot < 2 ^ 63 }
-    ensures { Makes (with_lot lot) (state S.Store conn.old) (state S.Store conn.new) result }
+    ensures made { Makes (with_lot lot) (state S.Store conn.old) (state S.Store conn.new) result }
+    // It fails where there is this lot.
+    ensures fresh { HasCleanDisk (state S.Store conn.new) → OnOk result ((c : Content)
+        → Inside c (state S.Store conn.old) → at_by (λ n. n) lot c.lots ≡ None) }
 {
     write_lot(conn, lot)
 }
@@ -164,7 +174,7 @@ pub(crate) fn delete_all_lots<S: Alter>(conn: &mut Connection<S>) -> Result<(), 
 /// The records of this id: one row or none.
 pub fn select_kept<S: Alter>(conn: &mut Connection<S>, id: u64) -> Result<Vec<Row>, Error>
     requires { id < 2 ^ 63 }
-    ensures looks { OnOk result (Looked (state S.Store conn.old) (state S.Store conn.new)) }
+    ensures looks { OnOk result (LookedInside (state S.Store conn.old) (state S.Store conn.new)) }
     ensures fails { OnErr result (Stays (state S.Store conn.old) (state S.Store conn.new)) }
     ensures found { HasCleanDisk (state S.Store conn.new) → IfOk result (λ rows. (c : Content)
         → Inside c (state S.Store conn.old)

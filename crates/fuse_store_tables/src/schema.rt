@@ -1,6 +1,6 @@
 // The schema of a database, compared with that of a store of each version.
-ghost use Rattle.std.specs.Prelude.{◌≡◌, [], Decides};
-ghost use Rattle.fuse_store_tables.specs.Layout.{with_answers, with_kept, store_schema};
+ghost use Rattle.std.specs.Prelude.{◌≡◌, ◌↔◌, [], IsTrue, Decides};
+ghost use Rattle.fuse_store_tables.specs.Layout.{no_schema, with_answers, with_kept, store_schema};
 ghost use Rattle.fuse_store_tables.specs.inner.Shapes.{first_tables, all_tables, first_indexes};
 ghost use Rattle.fuse_store_tables.specs.inner.Shapes.{all_indexes};
 
@@ -53,4 +53,11 @@ pub(crate) fn is_second(schema: &Schema) -> bool
     ensures { Decides result (schema.now ≡ store_schema) }
 {
     spells_second(schema)
+}
+
+/// Whether there is no table, index or view.
+pub fn is_empty(schema: &Schema) -> bool
+    ensures { IsTrue result ↔ schema.now ≡ no_schema }
+{
+    schema.tables.is_empty() && schema.indexes.is_empty() && schema.views.is_empty()
 }

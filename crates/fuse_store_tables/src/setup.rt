@@ -1,17 +1,17 @@
 // The opening of a store. A store of version 1 is migrated to version 2, and a missing index is
 // made.
-ghost use Rattle.std.specs.Prelude.{◌≡◌, false, IsTrue, IfOk, OnOk, OnErr, IfErr};
+ghost use Rattle.std.specs.Prelude.{◌≡◌, ◌↔◌, false, IsTrue, IfOk, OnOk, OnErr, IfErr};
 ghost use Rattle.sqlite.specs.State.{HasCleanDisk, KeepsCommit};
 ghost use Rattle.sqlite.specs.Held.{state};
 ghost use Rattle.fuse_store_tables.specs.Faults.{IsPlain};
 ghost use Rattle.fuse_store_tables.specs.Saying.{Says, IsTabled, IsRefusal, IsToMigrate};
 ghost use Rattle.fuse_store_tables.specs.Content.{Content};
 ghost use Rattle.fuse_store_tables.specs.Moves.{RestsAs, InsideAs, Takes, ServesAs, IsSafe};
-ghost use Rattle.fuse_store_tables.specs.Moves.{LeavesAlone};
-ghost use Rattle.fuse_store_tables.specs.inner.Performing.{PerformsAs, IsSure, CommitsNothing};
+ghost use Rattle.fuse_store_tables.specs.Moves.{LeavesAlone, RollsBack, CommitsOnce};
+ghost use Rattle.fuse_store_tables.specs.inner.Performing.{TransactsAs, IsSure, CommitsNothing};
 ghost use Rattle.fuse_store_tables.specs.inner.Performing.{OnlyReads};
 ghost use Rattle.fuse_store_tables.specs.Opening.{IsStored, IsFirst, IsSecond, IsUnindexed};
-ghost use Rattle.fuse_store_tables.specs.Opening.{IsOpened, IsLaid};
+ghost use Rattle.fuse_store_tables.specs.Opening.{IsOpened, IsLaid, IsWanted, IsWantedStore};
 ghost use Rattle.fuse_store_tables.specs.Opening.{HasMeta, HasFirstMeta, HasSecondMeta, profile_in};
 ghost use Rattle.fuse_store_tables.specs.inner.Steps.{Tests};
 ghost use Rattle.fuse_store_tables.specs.inner.Performing.{StaysWithin};
@@ -115,6 +115,52 @@ pub(crate) fn work<S: Alter>(conn: &mut Connection<S>) -> Result<Profile, StoreF
     }
 }
 
+// Whether a store of this profile is wanted.
+fn is_wanted(wanted: Option<Profile>, profile: Profile) -> bool
+    ensures { IsTrue result ↔ IsWanted wanted profile }
+{
+    match (wanted, profile) {
+        (None, _) => true,
+        (Some(Profile::Plain), Profile::Plain) => true,
+        (Some(Profile::Everyday), Profile::Everyday) => true,
+        (Some(_), _) => false,
+    }
+}
+
+// The same of a store of the profile that is wanted. Another one is damage.
+fn work_for<S: Alter>(
+    conn: &mut Connection<S>,
+    wanted: Option<Profile>,
+) -> Result<Profile, StoreFault>
+    ensures opened { Takes IsStored IsOpened (state S.Store conn.old) (state S.Store conn.new)
+        result }
+    ensures fault { IsSure (IsWantedStore wanted) (state S.Store conn.old) (state S.Store conn.new)
+        result }
+    ensures says { HasCleanDisk (state S.Store conn.new)
+        → IfErr result (Says (state S.Store conn.old).now) }
+    ensures whole { Tests HasMeta (state S.Store conn.old) (state S.Store conn.new) result }
+    ensures profile { HasCleanDisk (state S.Store conn.new) → IfOk result (λ p. (c : Content)
+        → InsideAs (IsLaid c) (state S.Store conn.old) → p ≡ profile_in c) }
+    ensures wanted { IfOk result (IsWanted wanted) }
+    ensures tabled { HasCleanDisk (state S.Store conn.new)
+        → OnOk result (IsTabled (state S.Store conn.old).now) }
+    ensures alone { (HasCleanDisk (state S.Store conn.new)
+        → IsToMigrate (state S.Store conn.old).now → ⊥)
+        → OnlyReads (state S.Store conn.old) (state S.Store conn.new) result }
+    ensures within { StaysWithin (state S.Store conn.old) (state S.Store conn.new) result }
+{
+    match work(conn) {
+        Ok(profile) => {
+            if is_wanted(wanted, profile) {
+                Ok(profile)
+            } else {
+                Err(StoreFault::Damaged)
+            }
+        }
+        Err(fault) => Err(fault),
+    }
+}
+
 /// Outside a transaction, what is seen is what was committed.
 pub(crate) fn law_of_rest<S: Alter>(conn: &Connection<S>)
     ensures { (state S.Store conn.now).in_transaction ≡ false
@@ -125,10 +171,15 @@ pub(crate) fn law_of_rest<S: Alter>(conn: &Connection<S>)
 }
 
 // The transaction. A fault may leave it open.
-fn transact<S: Alter>(conn: &mut Connection<S>) -> Result<Profile, StoreFault>
-    ensures performs { PerformsAs IsStored IsOpened (state S.Store conn.old)
+fn transact<S: Alter>(
+    conn: &mut Connection<S>,
+    wanted: Option<Profile>,
+) -> Result<Profile, StoreFault>
+    ensures performs { TransactsAs IsStored IsOpened (state S.Store conn.old)
         (state S.Store conn.new) result }
-    ensures fault { IsSafe IsStored (state S.Store conn.old) (state S.Store conn.new) result }
+    ensures fault { IsSafe (IsWantedStore wanted) (state S.Store conn.old) (state S.Store conn.new)
+        result }
+    ensures wanted { IfOk result (IsWanted wanted) }
     ensures was { HasCleanDisk (state S.Store conn.new)
         → OnOk result (IsTrue (state S.Store conn.old).is_open) }
     ensures says { HasCleanDisk (state S.Store conn.new)
@@ -145,13 +196,14 @@ fn transact<S: Alter>(conn: &mut Connection<S>) -> Result<Profile, StoreFault>
         → CommitsNothing (state S.Store conn.old) (state S.Store conn.new)) }
     ensures keeps { OnErr result (HasCleanDisk (state S.Store conn.new)
         → KeepsCommit (state S.Store conn.old) (state S.Store conn.new)) }
+    ensures once { CommitsOnce (state S.Store conn.old) (state S.Store conn.new) result }
     ensures ended { OnOk result (HasCleanDisk (state S.Store conn.new)
         → ((state S.Store conn.new).in_transaction ≡ false)
         × ((state S.Store conn.new).now ≡ (state S.Store conn.new).committed)) }
 {
     law_of_rest(conn);
     begin(conn)?;
-    match work(conn) {
+    match work_for(conn, wanted) {
         Ok(profile) => {
             commit(conn)?;
             Ok(profile)
@@ -161,11 +213,17 @@ fn transact<S: Alter>(conn: &mut Connection<S>) -> Result<Profile, StoreFault>
 }
 
 /// Tests `meta`, migrates a store of version 1, and makes the index of version 2 where that is
-/// missing. The profile is the store's. The commit is its last call of the database.
-pub fn set_up<S: Alter>(conn: &mut Connection<S>) -> Result<Profile, StoreFault>
+/// missing. The profile is the store's. Where one is wanted, a store of another is `Damaged`, and is
+/// left as it was. The commit is its last call of the database.
+pub fn set_up<S: Alter>(
+    conn: &mut Connection<S>,
+    wanted: Option<Profile>,
+) -> Result<Profile, StoreFault>
     ensures serves { ServesAs IsStored IsOpened (state S.Store conn.old) (state S.Store conn.new)
         result }
-    ensures fault { IsSafe IsStored (state S.Store conn.old) (state S.Store conn.new) result }
+    ensures fault { IsSafe (IsWantedStore wanted) (state S.Store conn.old) (state S.Store conn.new)
+        result }
+    ensures wanted { IfOk result (IsWanted wanted) }
     ensures was { HasCleanDisk (state S.Store conn.new)
         → OnOk result (IsTrue (state S.Store conn.old).is_open) }
     ensures says { HasCleanDisk (state S.Store conn.new)
@@ -187,12 +245,11 @@ pub fn set_up<S: Alter>(conn: &mut Connection<S>) -> Result<Profile, StoreFault>
     ensures ended { HasCleanDisk (state S.Store conn.new)
         → (state S.Store conn.new).in_transaction ≡ false }
     // Where the call fails, what was committed before is seen, whatever the database.
-    ensures undone { OnErr result (HasCleanDisk (state S.Store conn.new)
-        → IsTrue (state S.Store conn.new).is_open
-        → ((state S.Store conn.new).now ≡ (state S.Store conn.old).committed)
-        × ((state S.Store conn.new).committed ≡ (state S.Store conn.old).committed)) }
+    ensures undone { OnErr result (RollsBack (state S.Store conn.old) (state S.Store conn.new)) }
+    // It commits once at most: after a crash all of it is seen, or nothing.
+    ensures once { CommitsOnce (state S.Store conn.old) (state S.Store conn.new) result }
 {
-    match transact(conn) {
+    match transact(conn, wanted) {
         Ok(profile) => Ok(profile),
         Err(fault) => {
             undo(conn);

@@ -3,7 +3,8 @@ ghost use Rattle.std.specs.Prelude.{◌≡◌, [], ◌∷◌, true, false, Some,
 ghost use Rattle.sqlite_value.specs.declared.value.Value.TheVariants.{Null};
 ghost use Rattle.sqlite_value.specs.Keys.{plain};
 ghost use Rattle.sqlite_schema.specs.declared.schema.Action.TheVariants.{NoAction};
-ghost use Rattle.fuse_store_tables.specs.Layout.{strict, key, number, bytes, refers, to_nodes};
+ghost use Rattle.fuse_store_tables.specs.Layout.{strict, key, number_column, bytes_column, refers};
+ghost use Rattle.fuse_store_tables.specs.Layout.{to_nodes};
 ghost use Rattle.fuse_store_tables.specs.Layout.{keyed_table};
 ghost use Rattle.fuse_store_tables.specs.inner.Shapes.{plain_index};
 
@@ -48,14 +49,14 @@ pub(crate) fn is_key(c: &Column, name: &[u8]) -> bool
 
 /// Whether the column is one of numbers, under this name.
 pub(crate) fn is_number(c: &Column, name: &[u8]) -> bool
-    ensures { Decides result (c.now ≡ number name.now) }
+    ensures { Decides result (c.now ≡ number_column name.now) }
 {
     is_column(c, name, Kind::Integer, true)
 }
 
 /// Whether the column is one of bytes, under this name.
 pub(crate) fn is_bytes(c: &Column, name: &[u8]) -> bool
-    ensures { Decides result (c.now ≡ bytes name.now) }
+    ensures { Decides result (c.now ≡ bytes_column name.now) }
 {
     is_column(c, name, Kind::Blob, true)
 }

@@ -5,13 +5,14 @@ use Rattle.std.specs.List.{AllByRecursion}
 use Rattle.std.proofs.lemmas.Bool.{cases_Bool}
 use Rattle.std.proofs.lemmas.Bool.Decides.{nat_tests}
 use Rattle.sqlite.specs.State.{State, HasCleanDisk}
-use Rattle.fuse_tree.specs.declared.rows.Full.{Full}
-use Rattle.fuse_tree.specs.declared.rows.NodeRow.{NodeRow}
-use Rattle.fuse_tree.specs.declared.rows.Change.TheVariants as changes
+use Rattle.fuse_rows.specs.declared.rows.Full.{Full}
+use Rattle.fuse_rows.specs.declared.rows.NodeRow.{NodeRow}
+use Rattle.fuse_rows.specs.declared.rows.Change.TheVariants as changes
 use Rattle.fuse_tree.specs.State.{State as TreeState, Tree}
-use Rattle.fuse_tree.specs.Rows.{IsRowed, rowed, at_node, sized}
+use Rattle.fuse_rows.specs.Rows.{at_node, sized}
+use Rattle.fuse_tree.specs.Rowed.{IsRowed, rowed}
 use Rattle.fuse_store_tables.specs.Content.{Content, node_key, at_by}
-use Rattle.fuse_store_tables.specs.Moves.{Inside, InsideAs, Looked}
+use Rattle.fuse_store_tables.specs.Moves.{Inside, InsideAs, LookedInside}
 use Rattle.fuse_store_tables.specs.inner.Following.{earlier, inside_then}
 use Rattle.fuse_store_tree.specs.Fits.{Fits}
 use Rattle.fuse_store_tree.specs.Store.{Store, Held}
@@ -57,12 +58,12 @@ store_same x node row is_rowed found =
 
 -- ---- the steps
 
-looked_held : (a b : State) → Looked a b → HasCleanDisk b → (x : Store) → InsideAs (Held x) a → InsideAs (Held x) b
+looked_held : (a b : State) → LookedInside a b → HasCleanDisk b → (x : Store) → InsideAs (Held x) a → InsideAs (Held x) b
 looked_held a b p clean x at =
     let now = p.same clean at.holds.0 (inside_of x a at) in
     record { is_open = now.is_open; in_transaction = now.in_transaction; holds = (at.holds.0, now.holds, at.holds.2) }
 
-pub looked_trees : (a b : State) → Looked a b → LeavesTrees a b
+pub looked_trees : (a b : State) → LookedInside a b → LeavesTrees a b
 looked_trees a b p = record {
   stays = p.stays;
   within = p.within;
@@ -70,7 +71,7 @@ looked_trees a b p = record {
   same = λ clean x is_rowed at. looked_held a b p clean x at;
 }
 
-pub sized_trees : (a b d : State) (node : ℕ) (row : NodeRow) (o : Option NodeRow) → Looked a b
+pub sized_trees : (a b d : State) (node : ℕ) (row : NodeRow) (o : Option NodeRow) → LookedInside a b
     → (HasCleanDisk b → (c : Content) → Inside c a → Fits c → o ≡ at_by node_key node c.nodes) → o ≡ Some row
     → Changed (with_change (changes.Sized node row.size)) b d → LeavesTrees a d
 sized_trees a b d node row o p value is q = record {
@@ -87,7 +88,7 @@ sized_trees a b d node row o p value is q = record {
       (q.turns clean x (looked_held a b p mid x at));
 }
 
-pub trees_then : (a b d : State) → Looked a b → LeavesTrees b d → LeavesTrees a d
+pub trees_then : (a b d : State) → LookedInside a b → LeavesTrees b d → LeavesTrees a d
 trees_then a b d p q = record {
   stays = looked_fails a b d p q.stays;
   within = inside_then a b d p.within q.stays.survives q.within;

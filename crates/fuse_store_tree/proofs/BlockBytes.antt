@@ -5,10 +5,10 @@ use Rattle.std.specs.List.{AllByRecursion}
 use Rattle.std.specs.Option.{is_some}
 use Rattle.std.proofs.lemmas.Bool.{cases_Bool}
 use Rattle.std.proofs.lemmas.Bool.Decides.{nat_tests}
-use Rattle.fuse_tree.specs.Bounds.{block_bytes}
+use Rattle.fuse_rows.specs.Bounds.{block_bytes}
 use Rattle.fuse_store_tables.specs.Blocks.{Block, block_at, is_at, new_block, next_slot, rewritten, set_at}
 use Rattle.fuse_store_tables.specs.Content.{put_by, put_at}
-use Rattle.fuse_store_tree.specs.Store.{byte_at, bytes_of, byte_in}
+use Rattle.fuse_store_tree.specs.Store.{byte_at, bytes_of_block, byte_in}
 use Rattle.std.proofs.lemmas.List.{get_or-take, get_or-drop}
 use Rattle.std.proofs.Math.ListN.{get_or-append}
 use Rattle.std.proofs.Math.Seq.{get_or-append_right}
@@ -87,7 +87,7 @@ same_place node block n k b apart is =
 
 -- the block at its place, once its bytes are changed
 set_here : (node block : ℕ) (bytes : List ℕ) (bs : List Block) → is_some (block_at node block bs) ≡ true
-    → bytes_of (block_at node block (set_at node block bytes bs)) ≡ bytes
+    → bytes_of_block (block_at node block (set_at node block bytes bs)) ≡ bytes
 set_here node block bytes [] there = absurd cc
 set_here node block bytes (b ∷ bs) there = elim (cases_Bool (is_at node block b)) [
   | inl here ↦ rw here (rw here refl)
@@ -95,38 +95,38 @@ set_here node block bytes (b ∷ bs) there = elim (cases_Bool (is_at node block 
 ]
 
 set_apart : (node block : ℕ) (bytes : List ℕ) (n k : ℕ) → ((node == n) && (block == k)) ≡ false → (bs : List Block)
-    → bytes_of (block_at n k (set_at node block bytes bs)) ≡ bytes_of (block_at n k bs)
+    → bytes_of_block (block_at n k (set_at node block bytes bs)) ≡ bytes_of_block (block_at n k bs)
 set_apart node block bytes n k apart [] = refl
 set_apart node block bytes n k apart (b ∷ bs) = elim (cases_Bool (is_at n k b)) [
   | inl its ↦ rw (its, same_place node block n k b apart its) (rw its refl)
   | inr other ↦ rw other (by (is_at node block b) other (set_apart node block bytes n k apart bs))
 ]
   where
-    by : (t : Bool) → is_at n k b ≡ false → bytes_of (block_at n k (set_at node block bytes bs)) ≡ bytes_of (block_at n k bs) → bytes_of (cond (is_at n k (cond t (rewritten bytes b) b)) (Some (cond t (rewritten bytes b) b)) (block_at n k
-        (set_at node block bytes bs))) ≡ bytes_of (block_at n k bs)
+    by : (t : Bool) → is_at n k b ≡ false → bytes_of_block (block_at n k (set_at node block bytes bs)) ≡ bytes_of_block (block_at n k bs) → bytes_of_block (cond (is_at n k (cond t (rewritten bytes b) b)) (Some (cond t (rewritten bytes b) b)) (block_at n k
+        (set_at node block bytes bs))) ≡ bytes_of_block (block_at n k bs)
     by true other more = rw other more
     by false other more = rw other more
 
 -- the block at any place, once one is written
 pub block_put : (node block : ℕ) (bytes : List ℕ) (bs : List Block) → Rises slot bs → (n k : ℕ)
-    → bytes_of (block_at n k (put_at node block bytes bs)) ≡ cond ((node == n) && (block == k)) bytes (bytes_of (block_at n k bs))
+    → bytes_of_block (block_at n k (put_at node block bytes bs)) ≡ cond ((node == n) && (block == k)) bytes (bytes_of_block (block_at n k bs))
 block_put node block bytes bs rises n k = elim (cases_Bool (is_some (block_at node block bs))) [
   | inl there ↦ rw there (elim (cases_Bool ((node == n) && (block == k))) [
     | inl here ↦
         let at = same_both node block n k here in
-        rw here (subst (λ m. bytes_of (block_at m k (set_at node block bytes bs)) ≡ bytes) at.0
-        (subst (λ m. bytes_of (block_at node m (set_at node block bytes bs)) ≡ bytes) at.1 (set_here node block bytes bs there)))
+        rw here (subst (λ m. bytes_of_block (block_at m k (set_at node block bytes bs)) ≡ bytes) at.0
+        (subst (λ m. bytes_of_block (block_at node m (set_at node block bytes bs)) ≡ bytes) at.1 (set_here node block bytes bs there)))
     | inr not_here ↦ rw not_here (set_apart node block bytes n k not_here bs)
   ])
-  | inr missing ↦ rw missing (ap (λ l. bytes_of (block_at n k l)) (put_new node block bytes bs rises)
+  | inr missing ↦ rw missing (ap (λ l. bytes_of_block (block_at n k l)) (put_new node block bytes bs rises)
       ∙ elim (cases_Bool ((node == n) && (block == k))) [
         | inl here ↦
             let at = same_both node block n k here in
             let none = no_block (block_at node block bs) missing in
-            rw here (ap bytes_of (find_last (is_at n k) bs (new_block node block bytes bs) (subst (λ m. block_at m k bs ≡ None) at.0
+            rw here (ap bytes_of_block (find_last (is_at n k) bs (new_block node block bytes bs) (subst (λ m. block_at m k bs ≡ None) at.0
             (subst (λ m. block_at node m bs ≡ None) at.1 none)) (place_test node block n k bytes bs ∙ here)))
         | inr not_here ↦
-            rw not_here (ap bytes_of (find_before (is_at n k) bs (new_block node block bytes bs) (place_test node block n k bytes bs ∙ not_here)))
+            rw not_here (ap bytes_of_block (find_before (is_at n k) bs (new_block node block bytes bs) (place_test node block n k bytes bs ∙ not_here)))
       ])
 ]
   where
@@ -251,8 +251,8 @@ part_put node here part bs old rises is whole within n i =
             let gap : i % block_bytes - here % block_bytes ≡ i - here = omega (arith, place, whole_place here) in
             let was : byte_at old (i % block_bytes) ≡ byte_in bs n i =
             ap (λ l. byte_at l (i % block_bytes)) is ∙ whole_byte (block_at node (here / block_bytes) bs) (i % block_bytes)
-            ∙ ap (λ b. byte_at (bytes_of (block_at node b bs)) (i % block_bytes)) k
-            ∙ ap (λ m. byte_at (bytes_of (block_at m (i / block_bytes) bs)) (i % block_bytes)) (equal_to node n here_node) in
+            ∙ ap (λ b. byte_at (bytes_of_block (block_at node b bs)) (i % block_bytes)) k
+            ∙ ap (λ m. byte_at (bytes_of_block (block_at m (i / block_bytes) bs)) (i % block_bytes)) (equal_to node n here_node) in
             rw here_block (byte_spliced old part (here % block_bytes) (i % block_bytes) (omega (arith, whole, within))
             ∙ ap (λ t. cond (not t && nat_lt (i % block_bytes) (here % block_bytes + length part)) (byte_at part (i % block_bytes - here % block_bytes))
             (byte_at old (i % block_bytes))) lows

@@ -1,10 +1,11 @@
 -- One change after another, and a plan whose changes are made.
 use Rattle.std.proofs.Common.{◌≡◌, List, [], ◌∷◌, ◌++◌, Option, refl, sym, ap, subst, ◌∙◌}
 use Rattle.fuse_tree.specs.State.{State as TreeState, Tree}
-use Rattle.fuse_tree.specs.Rows.{rowed, apply, Rows, IsRowed}
+use Rattle.fuse_rows.specs.Rows.{apply, Rows}
+use Rattle.fuse_tree.specs.Rowed.{rowed, IsRowed}
 use Rattle.fuse_tree.specs.Done.{Done}
-use Rattle.fuse_tree.specs.Plan.{Meets}
-use Rattle.fuse_tree.specs.declared.rows.Planned.{Planned}
+use Rattle.fuse_plan.specs.Plan.{Meets}
+use Rattle.fuse_plan.specs.declared.planned.Planned.{Planned}
 use Rattle.fuse_store_tree.specs.inner.Acting.{ActsInside}
 use Rattle.fuse_keeper.specs.declared.fault.StoreFault.{StoreFault}
 use Rattle.fuse_store_tables.specs.Faults.{IsOutside}
@@ -15,7 +16,7 @@ use Rattle.fuse_store_tree.specs.Holding.{store_of}
 use Rattle.fuse_store_tree.specs.Knowing.{Knows, HeldForKnown}
 use Rattle.fuse_store_tree.specs.inner.Knowing.{ChangedKnown, HeldKnown}
 use Rattle.fuse_store_tree.specs.inner.Writing.{made_one, made_all, with_changes, with_change}
-use Rattle.fuse_tree.specs.declared.rows.Change.{Change}
+use Rattle.fuse_rows.specs.declared.rows.Change.{Change}
 use Rattle.sqlite.specs.State.{State, HasCleanDisk}
 use Rattle.fuse_store_tables.specs.Moves.{InsideAs, IsReady, Stays}
 use Rattle.fuse_store_tree.specs.inner.Changing.{LeavesTrees}

@@ -4,10 +4,11 @@ use Rattle.std.specs.List.{AllByRecursion}
 use Rattle.std.specs.Option.{option_to_list}
 use Rattle.sqlite.specs.Order.{Row, column}
 use Rattle.sqlite.specs.declared.types.Value.TheVariants.{Int, Blob}
-use Rattle.fuse_tree.specs.declared.rows.NodeRow.{NodeRow}
-use Rattle.fuse_tree.specs.declared.rows.EntryRow.{EntryRow}
-use Rattle.fuse_tree.specs.declared.rows.Child.{Child}
-use Rattle.fuse_tree.specs.Rows.{with_child, IsRowed}
+use Rattle.fuse_rows.specs.declared.rows.NodeRow.{NodeRow}
+use Rattle.fuse_rows.specs.declared.rows.EntryRow.{EntryRow}
+use Rattle.fuse_rows.specs.declared.rows.Child.{Child}
+use Rattle.fuse_rows.specs.Rows.{with_child}
+use Rattle.fuse_tree.specs.Rowed.{IsRowed}
 use Rattle.fuse_store_tables.specs.Content.{Content, node_key, node_columns, columns_of, shown_entry, shown_child}
 use Rattle.fuse_store_tree.specs.Fits.{Fits, KeepsNode}
 use Rattle.fuse_store_tree.specs.Store.{Store}

@@ -8,17 +8,17 @@ use Rattle.std.proofs.lemmas.Bool.Decides.{nat_tests}
 use Rattle.std.proofs.lemmas.List.{length-replicate}
 use Rattle.sqlite.specs.declared.error.Error.{Error}
 use Rattle.sqlite.specs.State.{State}
-use Rattle.fuse_tree.specs.Bounds.{block_bytes}
-use Rattle.fuse_tree.specs.Rows.{sized, full_at, content_of}
-use Rattle.fuse_tree.specs.declared.rows.Change.TheVariants as changes
+use Rattle.fuse_rows.specs.Bounds.{block_bytes}
+use Rattle.fuse_rows.specs.Rows.{sized, full_at, content_of}
+use Rattle.fuse_rows.specs.declared.rows.Change.TheVariants as changes
 use Rattle.fuse_store_tables.specs.Blocks.{Block, block_at, is_at, is_from}
 use Rattle.fuse_store_tables.specs.Content.{Content, without_blocks_from, node_key}
 use Rattle.fuse_store_tables.specs.Moves.{Makes, Stays}
 use Rattle.fuse_store_tables.specs.inner.Following.{earlier, inside_then, stays_then}
 use Rattle.fuse_store_tree.specs.Fits.{IsWhole}
-use Rattle.fuse_store_tree.specs.Store.{Store, DescribesAs, byte_at, bytes_of, byte_in, rows_bytes, rows_ends, bodies_of, AreWithin, in_order}
+use Rattle.fuse_store_tree.specs.Store.{Store, DescribesAs, byte_at, bytes_of_block, byte_in, rows_bytes, rows_ends, bodies_of, AreWithin, in_order}
 use Rattle.fuse_store_tree.specs.inner.Reading.{Describes}
-use Rattle.fuse_store_tree.specs.inner.Writing.{cut, overlay, cut_in, zeros_in, shortened, with_change}
+use Rattle.fuse_store_tree.specs.inner.Writing.{zeroed_from, overlay, cut_in, zeros_in, shortened, with_change}
 use Rattle.fuse_store_tree.specs.inner.Changing.{Changed, Cut, Zeroed}
 use Rattle.fuse_store_tree.proofs.Orders.{all_filter}
 use Rattle.fuse_store_tree.proofs.Within.{within_more, within_left, left_short, shorter}
@@ -50,12 +50,12 @@ outside : (node k n j a x : ℕ) → ((n == node) && not (nat_lt j k)) ≡ false
 outside node k n j a x apart is = grind (arith, nat_tests)
 
 cut_block : (node k : ℕ) (bs : List Block) (n j : ℕ)
-    → bytes_of (block_at n j (filter (λ b. not (is_from node k b)) bs)) ≡ cond ((n == node) && not (nat_lt j k)) [] (bytes_of (block_at n j bs))
+    → bytes_of_block (block_at n j (filter (λ b. not (is_from node k b)) bs)) ≡ cond ((n == node) && not (nat_lt j k)) [] (bytes_of_block (block_at n j bs))
 cut_block node k bs n j = elim (cases_Bool ((n == node) && not (nat_lt j k))) [
   | inl here ↦
-      rw here (ap bytes_of (none_from (is_at n j) (is_from node k) (λ b is. inside node k n j b.node b.block here is) bs))
+      rw here (ap bytes_of_block (none_from (is_at n j) (is_from node k) (λ b is. inside node k n j b.node b.block here is) bs))
   | inr apart ↦
-      rw apart (ap bytes_of (others_left (is_at n j) (is_from node k) (λ b is. outside node k n j b.node b.block apart is) bs))
+      rw apart (ap bytes_of_block (others_left (is_at n j) (is_from node k) (λ b is. outside node k n j b.node b.block apart is) bs))
 ]
 
 same_half : (i k : ℕ) → nat_lt (i / block_bytes) k ≡ nat_lt i (k * block_bytes)
@@ -69,13 +69,13 @@ byte_if true l i = refl
 byte_if false l i = refl
 
 cut_bytes : (node k : ℕ) (bs : List Block) (n i : ℕ)
-    → byte_in (filter (λ b. not (is_from node k b)) bs) n i ≡ cut node (k * block_bytes) (byte_in bs) n i
+    → byte_in (filter (λ b. not (is_from node k b)) bs) n i ≡ zeroed_from node (k * block_bytes) (byte_in bs) n i
 cut_bytes node k bs n i =
     ap (λ l. byte_at l (i % block_bytes)) (cut_block node k bs n (i / block_bytes))
-    ∙ byte_if ((n == node) && not (nat_lt (i / block_bytes) k)) (bytes_of (block_at n (i / block_bytes) bs)) (i % block_bytes)
+    ∙ byte_if ((n == node) && not (nat_lt (i / block_bytes) k)) (bytes_of_block (block_at n (i / block_bytes) bs)) (i % block_bytes)
     ∙ ap (λ b. cond ((n == node) && not b) 0 (byte_in bs n i)) (same_half i k)
 
-same_cut : (node at : ℕ) (g h : ℕ → ℕ → ℕ) → ((n i : ℕ) → g n i ≡ h n i) → (n i : ℕ) → cut node at g n i ≡ cut node at h n i
+same_cut : (node at : ℕ) (g h : ℕ → ℕ → ℕ) → ((n i : ℕ) → g n i ≡ h n i) → (n i : ℕ) → zeroed_from node at g n i ≡ zeroed_from node at h n i
 same_cut node at g h same n i = ap (λ b. cond ((n == node) && not (nat_lt i at)) 0 b) (same n i)
 
 pub blocks_cut : {X : Type 0} (a b : State) (x : X) (node k : ℕ) → Makes {X = X} {E = Error} (without_blocks_from node k) a b (Ok x)
@@ -123,7 +123,7 @@ cut_keeps node at a b d p q = stays_then a b d p.stays p.within q
 -- ---- the rest of a block set to 0
 
 zeroed : (node size end : ℕ) (g : ℕ → ℕ → ℕ) (n i : ℕ) → size ≤ end
-    → overlay node size (replicate (end - size) 0) (cut node end g) n i ≡ cut node size g n i
+    → overlay node size (replicate (end - size) 0) (zeroed_from node end g) n i ≡ zeroed_from node size g n i
 zeroed node size end g n i high = elim (cases_Bool (n == node)) [
   | inr other ↦ rw other refl
   | inl here ↦ rw here (elim (cases_Bool (nat_lt i size)) [

@@ -6,13 +6,13 @@ use Rattle.std.proofs.lemmas.Int.{of_z-to_z}
 use Rattle.sqlite.specs.Order.{Row, column}
 use Rattle.fuse_wire.specs.declared.access_mode.AccessMode.{AccessMode}
 use Rattle.fuse_wire.specs.declared.access_mode.AccessMode.TheVariants.{ReadOnly, WriteOnly, ReadWrite}
-use Rattle.fuse_tree.specs.declared.rows.NodeRow.{NodeRow}
-use Rattle.fuse_tree.specs.declared.rows.EntryRow.{EntryRow}
-use Rattle.fuse_tree.specs.declared.rows.HandleRow.{HandleRow}
+use Rattle.fuse_rows.specs.declared.rows.NodeRow.{NodeRow}
+use Rattle.fuse_rows.specs.declared.rows.EntryRow.{EntryRow}
+use Rattle.fuse_rows.specs.declared.rows.HandleRow.{HandleRow}
 use Rattle.fuse_store_tables.specs.Blocks.{Block, block_row}
 use Rattle.fuse_store_tables.specs.Content.{Counter, Kept, counter_row, node_row, entry_row, handle_row, lot_row, kept_row, access_code}
 use Rattle.fuse_store_tree.specs.Fits.{KeepsNode}
-use Rattle.fuse_store_tree.specs.Lots.{int_in, number, bytes, lot_in, kept_in}
+use Rattle.fuse_store_tree.specs.Lots.{int_in, number_in_row, bytes_in_row, lot_in, record_in_row}
 
 -- ---- columns
 
@@ -27,31 +27,31 @@ mode_of (suc (suc n)) = ReadWrite
 -- ---- rows
 
 abbrev counter_in : Row → Counter
-counter_in r = record { key = number r 0; value = number r 2 }
+counter_in r = record { key = number_in_row r 0; value = number_in_row r 2 }
 
 abbrev node_in : Row → NodeRow
 node_in r = record {
-  node = number r 0;
-  mode = number r 2;
-  uid = number r 3;
-  gid = number r 4;
-  rdev = number r 5;
-  size = number r 6;
-  atime = record { secs = bits r 7; nanos = number r 8 };
-  mtime = record { secs = bits r 9; nanos = number r 10 };
-  ctime = record { secs = bits r 11; nanos = number r 12 };
-  up = number r 13;
-  subdirs = number r 14;
+  node = number_in_row r 0;
+  mode = number_in_row r 2;
+  uid = number_in_row r 3;
+  gid = number_in_row r 4;
+  rdev = number_in_row r 5;
+  size = number_in_row r 6;
+  atime = record { secs = bits r 7; nanos = number_in_row r 8 };
+  mtime = record { secs = bits r 9; nanos = number_in_row r 10 };
+  ctime = record { secs = bits r 11; nanos = number_in_row r 12 };
+  up = number_in_row r 13;
+  subdirs = number_in_row r 14;
 }
 
 abbrev entry_in : Row → EntryRow
-entry_in r = record { cookie = number r 0; dir = number r 2; name = bytes r 3; child = number r 4 }
+entry_in r = record { cookie = number_in_row r 0; dir = number_in_row r 2; name = bytes_in_row r 3; child = number_in_row r 4 }
 
 abbrev handle_in : Row → HandleRow
-handle_in r = record { fh = number r 0; node = number r 2; access = mode_of (number r 3) }
+handle_in r = record { fh = number_in_row r 0; node = number_in_row r 2; access = mode_of (number_in_row r 3) }
 
 abbrev block_in : Row → Block
-block_in r = record { slot = number r 0; node = number r 1; block = number r 2; bytes = bytes r 3 }
+block_in r = record { slot = number_in_row r 0; node = number_in_row r 1; block = number_in_row r 2; bytes = bytes_in_row r 3 }
 
 mode_back : (m : AccessMode) → mode_of (access_code m) ≡ m
 mode_back ReadOnly = refl
@@ -112,10 +112,10 @@ pub same_lots : (xs ys : List ℕ) → map lot_row xs ≡ map lot_row ys → xs 
 same_lots = one_list lot_row lot_in (λ x. refl)
 
 pub same_kept : (xs ys : List Kept) → map kept_row xs ≡ map kept_row ys → xs ≡ ys
-same_kept = one_list kept_row kept_in (λ x. refl)
+same_kept = one_list kept_row record_in_row (λ x. refl)
 
 pub lots_back : (xs : List ℕ) → map lot_in (map lot_row xs) ≡ xs
 lots_back = list_back lot_row lot_in (λ x. refl)
 
-pub kept_back : (xs : List Kept) → map kept_in (map kept_row xs) ≡ xs
-kept_back = list_back kept_row kept_in (λ x. refl)
+pub kept_back : (xs : List Kept) → map record_in_row (map kept_row xs) ≡ xs
+kept_back = list_back kept_row record_in_row (λ x. refl)

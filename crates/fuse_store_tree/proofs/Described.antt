@@ -7,19 +7,20 @@ use Rattle.std.proofs.lemmas.Bool.{cases_Bool}
 use Rattle.std.proofs.lemmas.Bool.Decides.{nat_tests}
 use Rattle.std.proofs.lemmas.Map.Text.{is_eq-slice_cmp}
 use Rattle.sqlite_trees.specs.Tree.{IsAscending}
-use Rattle.fuse_tree.specs.declared.rows.Full.{Full}
-use Rattle.fuse_tree.specs.declared.rows.EntryRow.{EntryRow}
-use Rattle.fuse_tree.specs.declared.rows.HandleRow.{HandleRow}
+use Rattle.fuse_rows.specs.declared.rows.Full.{Full}
+use Rattle.fuse_rows.specs.declared.rows.EntryRow.{EntryRow}
+use Rattle.fuse_rows.specs.declared.rows.HandleRow.{HandleRow}
 use Rattle.fuse_init.specs.Profile.{Terms, terms}
 use Rattle.fuse_init.specs.declared.profile.Profile.{Profile}
 use Rattle.fuse_init.specs.declared.profile.Profile.TheVariants.{Plain, Everyday}
-use Rattle.fuse_tree.specs.State.{State, Node, IsNode, Apart, AreApart, is_entry, terms_of, profile_of}
+use Rattle.fuse_rows.specs.Rows.{is_entry, full_at, content_of, bytes_at, Rows, row_at, entry_at, entries_after, handle_at, handles_of, is_after}
+use Rattle.fuse_tree.specs.State.{State, Node, IsNode, Apart, AreApart, terms_of, profile_of}
 use Rattle.std.proofs.Common.{◌≤◌, ◌+◌, ◌-◌, inl, inr, length, min, drop, IfSome}
-use Rattle.fuse_tree.specs.Bounds.{file_limit}
+use Rattle.fuse_rows.specs.Bounds.{file_limit}
 use Rattle.fuse_store_tree.specs.Store.{byte_at, byte_in}
 use Rattle.fuse_store_tree.specs.inner.Reading.{range_of, bytes_told, Describes}
 use Rattle.fuse_store_tree.proofs.Ranges.{range_same, part_is, take_least, none_behind}
-use Rattle.fuse_tree.specs.Rows.{full_at, content_of, bytes_at, Rows, IsRowed, rowed, full_of, row_at, entry_at, entries_after, handle_at, handles_of, is_after}
+use Rattle.fuse_tree.specs.Rowed.{IsRowed, rowed, full_of}
 use Rattle.fuse_store_tables.specs.Content.{Content, put_by, at_by, node_key, cookie_of, fh_of, has_name, stands_after, is_handle_of}
 use Rattle.sqlite.specs.State.{State as Connected}
 use Rattle.fuse_store_tables.specs.Moves.{Inside, InsideAs}

@@ -3,11 +3,11 @@ use Rattle.std.proofs.Common.{◌≡◌, ◌≤◌, ◌<◌, ◌+◌, ◌^◌, i
 use Rattle.std.specs.List.{AllByRecursion}
 use Rattle.std.proofs.lemmas.Bool.{cases_Bool}
 use Rattle.sqlite.specs.Effect.{Database}
-use Rattle.fuse_tree.specs.Bounds.{file_limit}
+use Rattle.fuse_rows.specs.Bounds.{file_limit}
 use Rattle.fuse_tree.specs.State.{State, Tree, Node, Apart, AreApart, IsEntry}
-use Rattle.fuse_tree.specs.Rows.{IsRowed, rowed}
-use Rattle.fuse_tree.specs.declared.rows.EntryRow.{EntryRow}
-use Rattle.fuse_tree.specs.declared.rows.Full.{Full}
+use Rattle.fuse_tree.specs.Rowed.{IsRowed, rowed}
+use Rattle.fuse_rows.specs.declared.rows.EntryRow.{EntryRow}
+use Rattle.fuse_rows.specs.declared.rows.Full.{Full}
 use Rattle.fuse_store_tables.specs.Content.{Counter, at_by, node_key}
 use Rattle.fuse_store_tree.specs.inner.Reading.{value_of}
 use Rattle.fuse_store_tree.specs.Holding.{Holding, HeldFor, store_of}

@@ -5,17 +5,17 @@ use Rattle.std.proofs.lemmas.Bool.{cases_Bool}
 use Rattle.std.proofs.lemmas.Bool.Decides.{nat_tests}
 use Rattle.sqlite.specs.declared.error.Error.{Error}
 use Rattle.sqlite.specs.State.{State}
-use Rattle.fuse_tree.specs.Bounds.{block_bytes}
-use Rattle.fuse_tree.specs.declared.rows.Full.{Full}
-use Rattle.fuse_tree.specs.declared.rows.Change.TheVariants as changes
-use Rattle.fuse_tree.specs.Rows.{content_of}
+use Rattle.fuse_rows.specs.Bounds.{block_bytes}
+use Rattle.fuse_rows.specs.declared.rows.Full.{Full}
+use Rattle.fuse_rows.specs.declared.rows.Change.TheVariants as changes
+use Rattle.fuse_rows.specs.Rows.{content_of}
 use Rattle.fuse_store_tables.specs.Content.{Content, node_key, without_by, without_node}
 use Rattle.fuse_store_tables.specs.Moves.{Makes}
 use Rattle.fuse_store_tables.specs.inner.Following.{earlier, inside_then}
 use Rattle.fuse_store_tree.specs.Fits.{KeepsNode}
 use Rattle.fuse_store_tree.specs.Store.{Store, DescribesAs, byte_at, rows_bytes, rows_ends, bodies_of, in_order}
 use Rattle.fuse_store_tree.specs.inner.Reading.{Describes}
-use Rattle.fuse_store_tree.specs.inner.Writing.{cut, cut_in, shortened, with_change}
+use Rattle.fuse_store_tree.specs.inner.Writing.{zeroed_from, cut_in, shortened, with_change}
 use Rattle.fuse_store_tree.specs.inner.Changing.{Changed, Cut}
 use Rattle.fuse_store_tree.proofs.Described.{same_test, filter_same}
 use Rattle.fuse_store_tree.proofs.Orders.{all_filter, one_gone}
@@ -65,7 +65,7 @@ module _ (node : ℕ) where
     abbrev after : Store
     after = with_change (changes.NodeGone node) x
 
-    gone_byte : (n i : ℕ) → cut node 0 (rows_bytes x.rows) n i ≡ rows_bytes after.rows n i
+    gone_byte : (n i : ℕ) → zeroed_from node 0 (rows_bytes x.rows) n i ≡ rows_bytes after.rows n i
     gone_byte n i = elim (cases_Bool (n == node)) [
       | inl here ↦ rw (here, none_before i) (sym (ap (λ o. byte_at (content_of o) i) (none_left n here x.rows.nodes)))
       | inr other ↦ rw other (sym (ap (λ o. byte_at (content_of o) i) (others_left n other x.rows.nodes)))

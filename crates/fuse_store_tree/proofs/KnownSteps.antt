@@ -2,12 +2,13 @@
 use Rattle.std.proofs.Common.{◌≡◌, Option, Some, None, Result, Ok, Err, OnOk, OnErr, refl, sym, subst}
 use Rattle.sqlite.specs.State.{State, HasCleanDisk}
 use Rattle.sqlite.specs.declared.error.Error.{Error}
-use Rattle.fuse_tree.specs.Rows.{Rows, rowed}
-use Rattle.fuse_tree.specs.declared.rows.Change.{Change}
-use Rattle.fuse_tree.specs.declared.rows.Change.TheVariants as changes
+use Rattle.fuse_rows.specs.Rows.{Rows}
+use Rattle.fuse_tree.specs.Rowed.{rowed}
+use Rattle.fuse_rows.specs.declared.rows.Change.{Change}
+use Rattle.fuse_rows.specs.declared.rows.Change.TheVariants as changes
 use Rattle.fuse_keeper.specs.declared.fault.StoreFault.{StoreFault}
 use Rattle.fuse_store_tables.specs.Content.{Content}
-use Rattle.fuse_store_tables.specs.Moves.{InsideAs, IsReady, Looked, Makes, Stays}
+use Rattle.fuse_store_tables.specs.Moves.{InsideAs, IsReady, LookedInside, Makes, Stays}
 use Rattle.fuse_store_tables.specs.inner.Following.{earlier, inside_then, stays_then}
 use Rattle.fuse_store_tables.specs.inner.Performing.{IsSure}
 use Rattle.fuse_store_tree.specs.declared.meta.Meta.{Meta}
@@ -131,7 +132,7 @@ turned_so m f a b same p = record {
       known_for m (f y) b (p.turns clean y (held_for m y a at)) (subst (λ t. Knows m (rowed t)) (sym (same y)) at.holds.1);
 }
 
-pub looked_known : (m : Option Meta) (a b : State) → Looked a b → TurnedKnown m m (λ y. y) a b
+pub looked_known : (m : Option Meta) (a b : State) → LookedInside a b → TurnedKnown m m (λ y. y) a b
 looked_known m a b p = turned_so m (λ y. y) a b (λ y. refl) (looked_for a b p)
 
 -- a fault after a step

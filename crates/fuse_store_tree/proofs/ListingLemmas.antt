@@ -9,10 +9,10 @@ use Rattle.std.proofs.lemmas.List.{take_more}
 use Rattle.std.proofs.Math.ListN.{get_or-map}
 use Rattle.sqlite.specs.Order.{Row}
 use Rattle.fuse_wire.specs.declared.access_mode.AccessMode.TheVariants.{ReadOnly}
-use Rattle.fuse_tree.specs.declared.rows.EntryRow.{EntryRow}
-use Rattle.fuse_tree.specs.declared.rows.HandleRow.{HandleRow}
+use Rattle.fuse_rows.specs.declared.rows.EntryRow.{EntryRow}
+use Rattle.fuse_rows.specs.declared.rows.HandleRow.{HandleRow}
 use Rattle.fuse_store_tables.specs.Content.{stands_after, is_handle_of}
-use Rattle.fuse_tree.specs.Columns.{FitsEntry, FitsHandle}
+use Rattle.fuse_rows.specs.Columns.{FitsEntry, FitsHandle}
 use Rattle.fuse_store_tree.proofs.Looks.{key_is, key_differs, both_are}
 
 pub nothing : {X : Type 0} (n : ℕ) → ◌≡◌ {A = List X} [] (take n [])

@@ -7,9 +7,9 @@ use Rattle.std.specs.Ordering.{is_eq, nat_cmp}
 use Rattle.std.specs.Option.{option_to_list, is_some}
 use Rattle.std.proofs.lemmas.Map.Lookups.{exact_bytes}
 use Rattle.sqlite.specs.Order.{Row}
-use Rattle.fuse_tree.specs.declared.rows.EntryRow.{EntryRow}
+use Rattle.fuse_rows.specs.declared.rows.EntryRow.{EntryRow}
 use Rattle.fuse_store_tree.specs.Fits.{IsWhole}
-use Rattle.fuse_tree.specs.Columns.{FitsEntry}
+use Rattle.fuse_rows.specs.Columns.{FitsEntry}
 use Rattle.fuse_store_tables.specs.Blocks.{Block, block_at, is_at, shown_block}
 use Rattle.std.proofs.lemmas.Bool.{cases_Bool}
 use Rattle.std.proofs.lemmas.Bool.Decides.{nat_tests}

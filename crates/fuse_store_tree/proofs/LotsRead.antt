@@ -3,7 +3,7 @@ use Rattle.std.proofs.Common.{◌≡◌, ℕ, map, Option, refl, ap, ◌∙◌}
 use Rattle.sqlite.specs.Effect.{Database}
 use Rattle.fuse_keeper.specs.Lots.{SameLots}
 use Rattle.fuse_store_tree.specs.Holding.{Holding, HeldFor, lots_as, lots_of}
-use Rattle.fuse_store_tree.specs.Lots.{lot_in, kept_in, lots_read, kept_read, lots_in}
+use Rattle.fuse_store_tree.specs.Lots.{lot_in, record_in_row, lots_read, kept_read, lots_in}
 use Rattle.fuse_store_tree.proofs.Decoding.{lots_back, kept_back}
 
 module _ (current : Option ℕ) (y : Holding) (d : Database) (at : HeldFor y d) where
@@ -11,7 +11,7 @@ module _ (current : Option ℕ) (y : Holding) (d : Database) (at : HeldFor y d) 
   numbers_are = ap (map lot_in) at.held.1.rows.1.1.1.1.1.1.0.0 ∙ lots_back at.held.0.lots ∙ at.held.2.lots
 
   kept_is : kept_read d ≡ y.kept
-  kept_is = ap (map kept_in) at.held.1.rows.1.1.1.1.1.1.1.0.0 ∙ kept_back at.held.0.kept ∙ at.held.2.kept
+  kept_is = ap (map record_in_row) at.held.1.rows.1.1.1.1.1.1.1.0.0 ∙ kept_back at.held.0.kept ∙ at.held.2.kept
 
   pub lots_are_read : lots_in current d ≡ lots_of current y
   lots_are_read = ap (λ l. lots_as current l (kept_read d)) numbers_are ∙ ap (λ ks. lots_as current y.lots ks) kept_is

@@ -3,12 +3,12 @@ use Rattle.std.proofs.Common.{◌≡◌, ℕ, ◌==◌, true, inl, inr, List, Op
 use Rattle.std.proofs.lemmas.Bool.{cases_Bool}
 use Rattle.std.proofs.lemmas.Bool.Decides.{nat_tests}
 use Rattle.fuse_init.specs.declared.settings.Settings.{Settings}
-use Rattle.fuse_tree.specs.declared.rows.Counters.{Counters as CountersRow}
-use Rattle.fuse_tree.specs.declared.rows.Room.{Room}
-use Rattle.fuse_tree.specs.declared.rows.Change.TheVariants as changes
+use Rattle.fuse_rows.specs.declared.rows.Counters.{Counters as CountersRow}
+use Rattle.fuse_rows.specs.declared.rows.Room.{Room}
+use Rattle.fuse_rows.specs.declared.rows.Change.TheVariants as changes
 use Rattle.fuse_store_tables.specs.Content.{Content, Counter, counter_key, set_by, valued}
 use Rattle.fuse_store_tree.specs.declared.meta.Meta.{Meta}
-use Rattle.fuse_store_tree.specs.Store.{Store, counters_of}
+use Rattle.fuse_store_tree.specs.Store.{Store, meta_rows_of}
 use Rattle.fuse_store_tree.specs.Knowing.{Knows}
 use Rattle.fuse_store_tree.specs.inner.Reading.{Describes}
 use Rattle.fuse_store_tree.specs.inner.Writing.{with_change, room_over}
@@ -27,52 +27,52 @@ moved_as key old new cs to was set = elim (cases_Bool (old == new)) [
 ]
 
 module _ (s : Option Settings) (lot : ℕ) where
-  node_moved : (o : CountersRow) (v : ℕ) → moved_in 2 o.next_node v (counters_of o s lot) ≡ counters_of (record o { next_node = v }) s lot
-  node_moved o v = moved_as 2 o.next_node v (counters_of o s lot) (λ k. counters_of (record o { next_node = k }) s lot) refl (by o.room)
+  node_moved : (o : CountersRow) (v : ℕ) → moved_in 2 o.next_node v (meta_rows_of o s lot) ≡ meta_rows_of (record o { next_node = v }) s lot
+  node_moved o v = moved_as 2 o.next_node v (meta_rows_of o s lot) (λ k. meta_rows_of (record o { next_node = k }) s lot) refl (by o.room)
     where
-      by : (r : Option Room) → set_by counter_key 2 (valued v) (counters_of (record o { room = r }) s lot) ≡ counters_of (record o { next_node = v; room = r }) s lot
+      by : (r : Option Room) → set_by counter_key 2 (valued v) (meta_rows_of (record o { room = r }) s lot) ≡ meta_rows_of (record o { next_node = v; room = r }) s lot
       by None = refl
       by (Some r) = refl
 
-  fh_moved : (o : CountersRow) (v : ℕ) → moved_in 3 o.next_fh v (counters_of o s lot) ≡ counters_of (record o { next_fh = v }) s lot
-  fh_moved o v = moved_as 3 o.next_fh v (counters_of o s lot) (λ k. counters_of (record o { next_fh = k }) s lot) refl (by o.room)
+  fh_moved : (o : CountersRow) (v : ℕ) → moved_in 3 o.next_fh v (meta_rows_of o s lot) ≡ meta_rows_of (record o { next_fh = v }) s lot
+  fh_moved o v = moved_as 3 o.next_fh v (meta_rows_of o s lot) (λ k. meta_rows_of (record o { next_fh = k }) s lot) refl (by o.room)
     where
-      by : (r : Option Room) → set_by counter_key 3 (valued v) (counters_of (record o { room = r }) s lot) ≡ counters_of (record o { next_fh = v; room = r }) s lot
+      by : (r : Option Room) → set_by counter_key 3 (valued v) (meta_rows_of (record o { room = r }) s lot) ≡ meta_rows_of (record o { next_fh = v; room = r }) s lot
       by None = refl
       by (Some r) = refl
 
-  cookie_moved : (o : CountersRow) (v : ℕ) → moved_in 4 o.next_cookie v (counters_of o s lot) ≡ counters_of (record o { next_cookie = v }) s lot
-  cookie_moved o v = moved_as 4 o.next_cookie v (counters_of o s lot) (λ k. counters_of (record o { next_cookie = k }) s lot) refl (by o.room)
+  cookie_moved : (o : CountersRow) (v : ℕ) → moved_in 4 o.next_cookie v (meta_rows_of o s lot) ≡ meta_rows_of (record o { next_cookie = v }) s lot
+  cookie_moved o v = moved_as 4 o.next_cookie v (meta_rows_of o s lot) (λ k. meta_rows_of (record o { next_cookie = k }) s lot) refl (by o.room)
     where
-      by : (r : Option Room) → set_by counter_key 4 (valued v) (counters_of (record o { room = r }) s lot) ≡ counters_of (record o { next_cookie = v; room = r }) s lot
+      by : (r : Option Room) → set_by counter_key 4 (valued v) (meta_rows_of (record o { room = r }) s lot) ≡ meta_rows_of (record o { next_cookie = v; room = r }) s lot
       by None = refl
       by (Some r) = refl
 
-  nodes_moved : (o : CountersRow) (v : ℕ) → moved_in 5 o.nodes v (counters_of o s lot) ≡ counters_of (record o { nodes = v }) s lot
-  nodes_moved o v = moved_as 5 o.nodes v (counters_of o s lot) (λ k. counters_of (record o { nodes = k }) s lot) refl (by o.room)
+  nodes_moved : (o : CountersRow) (v : ℕ) → moved_in 5 o.nodes v (meta_rows_of o s lot) ≡ meta_rows_of (record o { nodes = v }) s lot
+  nodes_moved o v = moved_as 5 o.nodes v (meta_rows_of o s lot) (λ k. meta_rows_of (record o { nodes = k }) s lot) refl (by o.room)
     where
-      by : (r : Option Room) → set_by counter_key 5 (valued v) (counters_of (record o { room = r }) s lot) ≡ counters_of (record o { nodes = v; room = r }) s lot
+      by : (r : Option Room) → set_by counter_key 5 (valued v) (meta_rows_of (record o { room = r }) s lot) ≡ meta_rows_of (record o { nodes = v; room = r }) s lot
       by None = refl
       by (Some r) = refl
 
-  handles_moved : (o : CountersRow) (v : ℕ) → moved_in 6 o.handles v (counters_of o s lot) ≡ counters_of (record o { handles = v }) s lot
-  handles_moved o v = moved_as 6 o.handles v (counters_of o s lot) (λ k. counters_of (record o { handles = k }) s lot) refl (by o.room)
+  handles_moved : (o : CountersRow) (v : ℕ) → moved_in 6 o.handles v (meta_rows_of o s lot) ≡ meta_rows_of (record o { handles = v }) s lot
+  handles_moved o v = moved_as 6 o.handles v (meta_rows_of o s lot) (λ k. meta_rows_of (record o { handles = k }) s lot) refl (by o.room)
     where
-      by : (r : Option Room) → set_by counter_key 6 (valued v) (counters_of (record o { room = r }) s lot) ≡ counters_of (record o { handles = v; room = r }) s lot
+      by : (r : Option Room) → set_by counter_key 6 (valued v) (meta_rows_of (record o { room = r }) s lot) ≡ meta_rows_of (record o { handles = v; room = r }) s lot
       by None = refl
       by (Some r) = refl
 
-  used_is_moved : (o : CountersRow) (old new : Option Room) → used_moved_in old new (counters_of (record o { room = old }) s lot)
-      ≡ counters_of (record o { room = room_over old new }) s lot
+  used_is_moved : (o : CountersRow) (old new : Option Room) → used_moved_in old new (meta_rows_of (record o { room = old }) s lot)
+      ≡ meta_rows_of (record o { room = room_over old new }) s lot
   used_is_moved o None None = refl
   used_is_moved o None (Some r) = refl
   used_is_moved o (Some r) None = refl
   used_is_moved o (Some r) (Some n) =
-      moved_as 14 r.used n.used (counters_of (record o { room = Some r }) s lot) (λ k. counters_of (record o { room = Some (record r { used = k }) }) s lot) refl refl
+      moved_as 14 r.used n.used (meta_rows_of (record o { room = Some r }) s lot) (λ k. meta_rows_of (record o { room = Some (record r { used = k }) }) s lot) refl refl
 
   -- the counters that differ are changed, where the others are as they are known
-  all_moved : (o n : CountersRow) (c : Content) → (counters_moved o n (record c { counters = counters_of o s lot })).counters
-      ≡ counters_of (record n { room = room_over o.room n.room }) s lot
+  all_moved : (o n : CountersRow) (c : Content) → (counters_moved o n (record c { counters = meta_rows_of o s lot })).counters
+      ≡ meta_rows_of (record n { room = room_over o.room n.room }) s lot
   all_moved o n c =
       let one = record o { next_node = n.next_node } in
       let two = record one { next_fh = n.next_fh } in

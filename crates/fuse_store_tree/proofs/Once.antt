@@ -6,18 +6,19 @@ use Rattle.std.proofs.lemmas.Bool.{cases_Bool}
 use Rattle.std.proofs.lemmas.Bool.Decides.{nat_tests}
 use Rattle.sqlite.specs.Effect.{Database}
 use Rattle.fuse_init.specs.declared.settings.Settings.{Settings}
-use Rattle.fuse_tree.specs.declared.rows.Full.{Full}
-use Rattle.fuse_tree.specs.declared.rows.Counters.{Counters as CountersRow}
-use Rattle.fuse_tree.specs.declared.rows.Room.{Room}
+use Rattle.fuse_rows.specs.declared.rows.Full.{Full}
+use Rattle.fuse_rows.specs.declared.rows.Counters.{Counters as CountersRow}
+use Rattle.fuse_rows.specs.declared.rows.Room.{Room}
 use Rattle.fuse_tree.specs.State.{State, Tree}
-use Rattle.fuse_tree.specs.Bounds.{file_limit}
+use Rattle.fuse_rows.specs.Bounds.{file_limit}
 use Rattle.fuse_tree.specs.Space.{room_of}
-use Rattle.fuse_tree.specs.Rows.{Rows, IsRowed, rowed, content_of}
-use Rattle.fuse_tree.specs.Plan.{RowsTellState}
+use Rattle.fuse_rows.specs.Rows.{Rows, content_of}
+use Rattle.fuse_tree.specs.Rowed.{IsRowed, rowed}
+use Rattle.fuse_tree.specs.Laws.{RowsTellState}
 use Rattle.fuse_store_tables.specs.Content.{Content, node_key, cookie_of, fh_of}
-use Rattle.fuse_store_tree.specs.Store.{counters_of, byte_at, byte_in}
+use Rattle.fuse_store_tree.specs.Store.{meta_rows_of, byte_at, byte_in}
 use Rattle.fuse_store_tree.specs.inner.Knowing.{meta_in}
-use Rattle.fuse_store_tree.specs.inner.Reading.{counted_in, room_in, agreed_in, value_of}
+use Rattle.fuse_store_tree.specs.inner.Reading.{counted_in, room_of_counters, agreed_in, value_of}
 use Rattle.fuse_store_tree.specs.Knowing.{meta_of}
 use Rattle.fuse_store_tree.proofs.Described.{Rises, order_kept, rows_rise, rows_full}
 use Rattle.fuse_store_tree.specs.Holding.{Holding, HeldFor, TreesAreInOrder}
@@ -76,27 +77,27 @@ same_full (f ∷ fs) (g ∷ gs) rises sized fit same each =
 
 -- ---- settings
 
-pub agreed_back : (c : CountersRow) (s : Option Settings) (lot : ℕ) → agreed_in (counters_of c s lot) ≡ s
+pub agreed_back : (c : CountersRow) (s : Option Settings) (lot : ℕ) → agreed_in (meta_rows_of c s lot) ≡ s
 agreed_back c None lot = refl
 agreed_back c (Some s) lot = refl
 
-room_back : (c : CountersRow) (s : Option Settings) (lot : ℕ) → room_in (counters_of c s lot) ≡ c.room
+room_back : (c : CountersRow) (s : Option Settings) (lot : ℕ) → room_of_counters (meta_rows_of c s lot) ≡ c.room
 room_back c s lot = by c.room
   where
-    by : (o : Option Room) → room_in (counters_of (record c { room = o }) s lot) ≡ o
+    by : (o : Option Room) → room_of_counters (meta_rows_of (record c { room = o }) s lot) ≡ o
     by None = refl
     by (Some r) = refl
 
-pub counted_back : (c : CountersRow) (s : Option Settings) (lot : ℕ) → counted_in (counters_of c s lot) ≡ c
+pub counted_back : (c : CountersRow) (s : Option Settings) (lot : ℕ) → counted_in (meta_rows_of c s lot) ≡ c
 counted_back c s lot = ap (λ o. record c { room = o }) (room_back c s lot)
 
-pub room_told : (s : State) (lot : ℕ) → room_in (counters_of (rowed s).counters (rowed s).settings lot) ≡ room_of s
+pub room_told : (s : State) (lot : ℕ) → room_of_counters (meta_rows_of (rowed s).counters (rowed s).settings lot) ≡ room_of s
 unfolding rowed
 room_told s lot = room_back (rowed s).counters (rowed s).settings lot
 
-pub meta_back : (rows : Rows) (lot : ℕ) → meta_in (counters_of rows.counters rows.settings lot) ≡ meta_of rows
+pub meta_back : (rows : Rows) (lot : ℕ) → meta_in (meta_rows_of rows.counters rows.settings lot) ≡ meta_of rows
 meta_back rows lot =
-    ap (λ n. record { counters = n; settings = agreed_in (counters_of rows.counters rows.settings lot) }) (counted_back rows.counters rows.settings lot)
+    ap (λ n. record { counters = n; settings = agreed_in (meta_rows_of rows.counters rows.settings lot) }) (counted_back rows.counters rows.settings lot)
     ∙ ap (λ o. record { counters = rows.counters; settings = o }) (agreed_back rows.counters rows.settings lot)
 
 -- ---- rows
@@ -133,7 +134,7 @@ module _ (x y : Holding) (d : Database) (one : HeldFor x d) (two : HeldFor y d) 
   counters_same : c.counters ≡ k.counters
   counters_same = same_counters c.counters k.counters (sym one.held.1.rows.0.0 ∙ two.held.1.rows.0.0)
 
-  all_counters : counters_of (rowed x.tree).counters (rowed x.tree).settings x.next_lot ≡ counters_of (rowed y.tree).counters (rowed y.tree).settings y.next_lot
+  all_counters : meta_rows_of (rowed x.tree).counters (rowed x.tree).settings x.next_lot ≡ meta_rows_of (rowed y.tree).counters (rowed y.tree).settings y.next_lot
   all_counters = sym one.held.2.counters ∙ counters_same ∙ two.held.2.counters
 
   nodes_same : c.nodes ≡ k.nodes

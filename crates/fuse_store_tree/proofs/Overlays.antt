@@ -7,7 +7,7 @@ use Rattle.std.proofs.lemmas.List.{get_or-take, get_or-drop, length-append}
 use Rattle.std.proofs.Math.ListN.{get_or-append}
 use Rattle.std.proofs.Math.Seq.{get_or-append_right}
 use Rattle.std.proofs.lemmas.List.{length-take-le, length-replicate}
-use Rattle.fuse_tree.specs.Rows.{sized, written}
+use Rattle.fuse_rows.specs.Rows.{sized, written}
 use Rattle.fuse_store_tree.specs.Store.{byte_at}
 use Rattle.fuse_store_tree.specs.inner.Writing.{overlay}
 use Rattle.fuse_store_tree.proofs.BlockBytes.{lower, upper}

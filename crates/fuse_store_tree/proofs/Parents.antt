@@ -10,7 +10,7 @@ use Rattle.sqlite_schema.specs.Names.{same_name}
 use Rattle.sqlite_schema.specs.declared.schema.Constraint.TheVariants.{ForeignKey}
 use Rattle.sqlite_schema.specs.Rules.{Keeps, passes, parent_key, agree}
 use Rattle.sqlite.specs.Effect.{Database}
-use Rattle.fuse_tree.specs.declared.rows.NodeRow.{NodeRow}
+use Rattle.fuse_rows.specs.declared.rows.NodeRow.{NodeRow}
 use Rattle.fuse_store_tables.specs.Layout.{blocks, to_nodes, store_schema}
 use Rattle.fuse_store_tables.specs.Blocks.{Block, block_row}
 use Rattle.fuse_store_tables.specs.Content.{Content, Holds, node_row, node_key, has_by}

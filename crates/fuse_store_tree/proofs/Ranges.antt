@@ -1,13 +1,13 @@
 -- Ranges of bytes, in a list and in blocks.
 use Rattle.std.proofs.Common.{◌≡◌, ◌<◌, ◌≤◌, ◌+◌, ◌-◌, ◌/◌, ◌%◌, inl, inr, ℕ, zero, suc, List, [], ◌∷◌, ◌++◌, take, drop, length, replicate}
 use Rattle.std.proofs.Common.{Some, None, Option, refl, sym, ap, arith, ◌∙◌}
-use Rattle.fuse_tree.specs.Bounds.{block_bytes}
+use Rattle.fuse_rows.specs.Bounds.{block_bytes}
 use Rattle.std.specs.Option.{option_to_list}
 use Rattle.std.proofs.Common.{map, min}
 use Rattle.std.proofs.lemmas.Bool.Decides.{leb_tells}
 use Rattle.sqlite.specs.Order.{Row}
 use Rattle.fuse_store_tables.specs.Blocks.{Block, block_at, shown_block}
-use Rattle.fuse_store_tree.specs.Store.{byte_at, bytes_of, byte_in}
+use Rattle.fuse_store_tree.specs.Store.{byte_at, bytes_of_block, byte_in}
 use Rattle.fuse_store_tree.specs.inner.Reading.{range_of, whole_of}
 
 pub range_same : (f g : ℕ → ℕ) (a b n : ℕ) → ((j : ℕ) → j < n → f (a + j) ≡ g (b + j)) → range_of f a n ≡ range_of g b n
@@ -45,7 +45,7 @@ no_byte zero j = refl
 no_byte (suc n) zero = refl
 no_byte (suc n) (suc j) = no_byte n j
 
-pub whole_byte : (o : Option Block) (j : ℕ) → byte_at (whole_of o) j ≡ byte_at (bytes_of o) j
+pub whole_byte : (o : Option Block) (j : ℕ) → byte_at (whole_of o) j ≡ byte_at (bytes_of_block o) j
 whole_byte None j = no_byte block_bytes j
 whole_byte (Some b) j = refl
 
@@ -64,8 +64,8 @@ piece_is blocks node here n bytes is whole within =
     part_is bytes (here % block_bytes) n (omega (arith, whole, within))
     ∙ range_same (byte_at bytes) (byte_in blocks node) (here % block_bytes) here n (λ j low.
     ap (λ l. byte_at l (here % block_bytes + j)) is ∙ whole_byte (block_at node (here / block_bytes) blocks) (here % block_bytes + j)
-    ∙ ap (λ k. byte_at (bytes_of (block_at node k blocks)) (here % block_bytes + j)) (sym (same_block here j (omega (arith, low, within))))
-    ∙ ap (byte_at (bytes_of (block_at node ((here + j) / block_bytes) blocks))) (sym (same_start here j (omega (arith, low, within)))))
+    ∙ ap (λ k. byte_at (bytes_of_block (block_at node k blocks)) (here % block_bytes + j)) (sym (same_block here j (omega (arith, low, within))))
+    ∙ ap (byte_at (bytes_of_block (block_at node ((here + j) / block_bytes) blocks))) (sym (same_start here j (omega (arith, low, within)))))
 
 -- nothing was found
 pub none_block : (rows : List Row) (o : Option Block) → length rows ≤ 0 → rows ≡ map shown_block (option_to_list o) → replicate block_bytes 0 ≡ whole_of o

@@ -5,19 +5,19 @@ use Rattle.sqlite.specs.State.{State, HasCleanDisk}
 use Rattle.sqlite.specs.declared.error.Error.{Error}
 use Rattle.fuse_answer.specs.Said.{Said, FitsAnswer}
 use Rattle.fuse_init.specs.declared.settings.Settings.{Settings}
-use Rattle.fuse_tree.specs.declared.rows.Counters.{Counters as CountersRow}
-use Rattle.fuse_tree.specs.declared.rows.Room.{Room}
+use Rattle.fuse_rows.specs.declared.rows.Counters.{Counters as CountersRow}
+use Rattle.fuse_rows.specs.declared.rows.Room.{Room}
 use Rattle.fuse_tree.specs.State.{State as TreeState, Tree}
 use Rattle.fuse_tree.specs.Do.{done}
 use Rattle.fuse_wire.specs.declared.id.Id.{Id}
 use Rattle.fuse_keeper.specs.History.{Entry, entry_id}
 use Rattle.fuse_keeper.specs.Group.{ids_of}
 use Rattle.fuse_keeper.specs.declared.keeper.Done.{Done}
-use Rattle.fuse_store_tables.specs.Content.{Content, Kept, kept_key, put_by, without_by, with_kept, without_kept, without_four, with_lot, set_counter}
-use Rattle.fuse_store_tables.specs.Moves.{Makes, Inside, Looked, Stays, StaysInside}
+use Rattle.fuse_store_tables.specs.Content.{Content, Kept, kept_key, put_by, without_by, put_kept, without_kept, without_four, with_lot, set_counter}
+use Rattle.fuse_store_tables.specs.Moves.{Makes, Inside, LookedInside, Stays, StaysInside}
 use Rattle.fuse_store_tables.specs.inner.Following.{earlier}
 use Rattle.fuse_store_tree.specs.Fits.{Fits, KeepsRecord}
-use Rattle.fuse_store_tree.specs.Store.{Store, records_of, counters_of}
+use Rattle.fuse_store_tree.specs.Store.{Store, records_of, meta_rows_of}
 use Rattle.fuse_store_tree.specs.inner.Reading.{Describes, value_of}
 use Rattle.fuse_store_tree.specs.inner.Acting.{ActsInside}
 use Rattle.fuse_store_tree.specs.declared.meta.Meta.{Meta}
@@ -29,8 +29,8 @@ use Rattle.fuse_store_tree.proofs.Looks.{key_differs, all_map}
 use Rattle.fuse_store_tree.proofs.Orders.{all_put, all_filter}
 use Rattle.fuse_store_tree.proofs.Overlays.{take_plus}
 use Rattle.fuse_store_tree.specs.Holding.{Holding, AreBelow, store_of}
-use Rattle.fuse_store_tree.specs.Group.{without_record, without_settled, with_record, with_new_lot, with_act, said_of, acted_on, taken, taken_by, answered}
-use Rattle.fuse_store_tree.specs.Group.{repeats}
+use Rattle.fuse_store_tree.specs.Group.{without_record, without_settled, with_record, with_new_lot, with_act, said_of, acted_on, taken, taken_by, done_newly}
+use Rattle.fuse_store_tree.specs.Group.{done_again}
 use Rattle.fuse_store_tree.proofs.Turning.{lifted, looked_for, turned_known, turned_then, turned_same, told_in, content_in}
 use Rattle.fuse_store_tree.proofs.KnownSteps.{held_for, looked_known, turned_so, turned_known_same, turned_known_then}
 
@@ -82,7 +82,7 @@ none_forgot id a high = turned_known (λ y. y) (without_record id) a a (λ clean
 
 -- ---- a record comes
 
-record_comes : (k : Kept) → KeepsRecord k → (x : Store) (c : Content) → Describes x c → Describes (record x { kept = put_by kept_key k x.kept }) (with_kept k c)
+record_comes : (k : Kept) → KeepsRecord k → (x : Store) (c : Content) → Describes x c → Describes (record x { kept = put_by kept_key k x.kept }) (put_kept k c)
 record_comes k fits x c at = record {
   counters = at.counters;
   nodes = at.nodes;
@@ -104,12 +104,12 @@ record_comes k fits x c at = record {
 }
 
 pub recorded : {X : Type 0} (id lot : ℕ) (said : Said) (a b : State) (x : X) → id < 2 ^ 63 → FitsAnswer said → said.errno < 2 ^ 32
-    → Makes {X = X} {E = Error} (with_kept (record { id = id; lot = lot; said = said })) a b (Ok x) → Turned (with_record id lot said) a b
+    → Makes {X = X} {E = Error} (put_kept (record { id = id; lot = lot; said = said })) a b (Ok x) → Turned (with_record id lot said) a b
 recorded id lot said a b x low fits small p =
     let k : Kept = record { id = id; lot = lot; said = said } in
     lifted (λ s. record s { kept = put_by kept_key k s.kept }) (with_record id lot said) a b (λ clean y at.
     (refl, at.holds.tree, at.holds.below, at.holds.next))
-    (made (with_kept k) (λ s. record s { kept = put_by kept_key k s.kept }) a b x (record_comes k (record { id = low; said = fits; errno = small })) p)
+    (made (put_kept k) (λ s. record s { kept = put_by kept_key k s.kept }) a b x (record_comes k (record { id = low; said = fits; errno = small })) p)
 
 -- ---- a request acts
 
@@ -149,11 +149,11 @@ below_more next lots below =
     all_put (λ n. n) (λ n. n < next + 1) next lots (omega arith) (all_map (λ n. n < next) (λ n. n < next + 1) lots (λ n low. omega (arith, low)) below)
 
 lot_set : (m : ℕ) (n : CountersRow) (s : Option Settings) (lot : ℕ) (c : Content)
-    → (set_counter 11 m (record c { counters = counters_of n s lot })).counters ≡ counters_of n s m
+    → (set_counter 11 m (record c { counters = meta_rows_of n s lot })).counters ≡ meta_rows_of n s m
 lot_set m n s lot c = by n.room
   where
-    by : (o : Option Room) → (set_counter 11 m (record c { counters = counters_of (record n { room = o }) s lot })).counters
-        ≡ counters_of (record n { room = o }) s m
+    by : (o : Option Room) → (set_counter 11 m (record c { counters = meta_rows_of (record n { room = o }) s lot })).counters
+        ≡ meta_rows_of (record n { room = o }) s m
     by None = refl
     by (Some r) = refl
 
@@ -163,7 +163,7 @@ lot_comes n x c at is =
     let same : n ≡ x.next_lot = is ∙ ap (λ cs. value_of cs 10) at.counters in
     record {
       counters = ap (λ cs. (set_counter 11 (n + 1) (record c { counters = cs })).counters) at.counters
-          ∙ lot_set (n + 1) x.rows.counters x.rows.settings x.next_lot c ∙ ap (λ m. counters_of x.rows.counters x.rows.settings (m + 1)) same;
+          ∙ lot_set (n + 1) x.rows.counters x.rows.settings x.next_lot c ∙ ap (λ m. meta_rows_of x.rows.counters x.rows.settings (m + 1)) same;
       nodes = at.nodes;
       entries = at.entries;
       handles = at.handles;
@@ -182,7 +182,7 @@ lot_is n a value y at = value at.holds.held.0 (content_in y a at) ∙ ap (λ cs.
 one_more : (n m : ℕ) → n ≡ m → n < 2 ^ 62 → m + 1 ≤ 2 ^ 62
 one_more n m is low = omega (arith, is, low)
 
-pub lot_taken : {X : Type 0} (n : ℕ) (a b d : State) (x : X) → n < 2 ^ 62 → Looked a b
+pub lot_taken : {X : Type 0} (n : ℕ) (a b d : State) (x : X) → n < 2 ^ 62 → LookedInside a b
     → (HasCleanDisk b → (c : Content) → Inside c a → n ≡ value_of c.counters 10)
     → Makes {X = X} {E = Error} (λ c. set_counter 11 (n + 1) (with_lot n c)) b d (Ok x) → Turned with_new_lot a d
 lot_taken n a b d x low looks value p =
@@ -210,25 +210,25 @@ IsFound id e a r o = IsKnown id a r × (id ≡ entry_id e) × (r ≡ o)
 found_is : (id : ℕ) (e : Entry) (a : State) (r o : Option Said) → IsFound id e a r o → (y : Holding) → InsideFor y a → o ≡ records_of y.kept (entry_id e)
 found_is id e a r o f y at = sym f.2 ∙ known_is id a r f.0 y at ∙ ap (records_of y.kept) f.1
 
-pub took_known : (m : Option Meta) (id lot : ℕ) (e : Entry) (a b : State) (r : Option Said) (known : Said) → Looked a b
+pub took_known : (m : Option Meta) (id lot : ℕ) (e : Entry) (a b : State) (r : Option Said) (known : Said) → LookedInside a b
     → (HasCleanDisk b → IsFound id e a r (Some known)) → TurnedKnown m m (λ y. (taken lot e y).holding) a b
 took_known m id lot e a b r known looks found = turned_known_same m m (λ y. y) (λ y. (taken lot e y).holding) a b
     (λ clean y at. ap (λ o. (taken_by o lot e y).holding) (found_is id e a r (Some known) (found clean) y (held_for m y a at))) (looked_known m a b looks)
 
 pub done_known : (id lot : ℕ) (e : Entry) (a : State) (r : Option Said) (known : Said) → IsFound id e a r (Some known) → (y : Holding) → InsideFor y a
-    → repeats known ≡ (taken lot e y).done
+    → done_again known ≡ (taken lot e y).done
 done_known id lot e a r known found y at = ap (λ o. (taken_by o lot e y).done) (found_is id e a r (Some known) found y at)
 
-pub took_new : (m n : Option Meta) (id lot : ℕ) (e : Entry) (a b d : State) (r : Option Said) → Looked a b → (HasCleanDisk b → IsFound id e a r None)
+pub took_new : (m n : Option Meta) (id lot : ℕ) (e : Entry) (a b d : State) (r : Option Said) → LookedInside a b → (HasCleanDisk b → IsFound id e a r None)
     → TurnedKnown m n (acted_on lot e) b d → TurnedKnown m n (λ y. (taken lot e y).holding) a d
 took_new m n id lot e a b d r looks found p = turned_known_same m n (acted_on lot e) (λ y. (taken lot e y).holding) a d
     (λ clean y at. ap (λ o. (taken_by o lot e y).holding) (found_is id e a r None (found (earlier b d _ p.stays.survives clean)) y (held_for m y a at)))
     (turned_known_then m m n (λ y. y) (acted_on lot e) a b d (looked_known m a b looks) p)
 
 -- the request that is executed comes after a read, whether it succeeds or not
-pub done_new : (m n : Option Meta) (id lot : ℕ) (e : Entry) (a b d : State) (r : Option Said) (done : Done) → Looked a b
+pub done_new : (m n : Option Meta) (id lot : ℕ) (e : Entry) (a b d : State) (r : Option Said) (done : Done) → LookedInside a b
     → (HasCleanDisk b → IsFound id e a r None) → TurnedKnown m n (acted_on lot e) b d → HasCleanDisk d
-    → ((y : Holding) → InsideKnown m y b → done ≡ answered (said_of e y)) → (y : Holding) → InsideKnown m y a → done ≡ (taken lot e y).done
+    → ((y : Holding) → InsideKnown m y b → done ≡ done_newly (said_of e y)) → (y : Holding) → InsideKnown m y a → done ≡ (taken lot e y).done
 done_new m n id lot e a b d r done looks found p clean told y at =
     let mid = earlier b d _ p.stays.survives clean in
     told y ((looked_known m a b looks).turns mid y at)
@@ -254,5 +254,5 @@ acted_recorded m n id lot e a b d answer same keeps within acted p =
 
 pub answer_told : (m n : Option Meta) (id lot : ℕ) (e : Entry) (a b d : State) (answer : Said)
     → ((s : TreeState) → Tree s → ActsInside m n a b s (done s e.asked e.moment) answer) → Turned (with_record id lot answer) b d → HasCleanDisk d
-    → (y : Holding) → InsideKnown m y a → answered answer ≡ answered (said_of e y)
-answer_told m n id lot e a b d answer acted p clean y at = ap answered (said_is m n e a b answer acted (earlier b d _ p.stays.survives clean) y at)
+    → (y : Holding) → InsideKnown m y a → done_newly answer ≡ done_newly (said_of e y)
+answer_told m n id lot e a b d answer acted p clean y at = ap done_newly (said_is m n e a b answer acted (earlier b d _ p.stays.survives clean) y at)

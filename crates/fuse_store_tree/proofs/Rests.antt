@@ -8,14 +8,14 @@ use Rattle.sqlite.specs.Effect.{Database}
 use Rattle.sqlite.specs.declared.error.Error.{Error}
 use Rattle.sqlite.specs.State.{State, HasCleanDisk}
 use Rattle.fuse_keeper.specs.declared.fault.StoreFault.{StoreFault}
-use Rattle.fuse_tree.specs.Rows.{rowed}
-use Rattle.fuse_tree.specs.declared.rows.NodeRow.{NodeRow}
-use Rattle.fuse_tree.specs.declared.rows.Full.{Full}
+use Rattle.fuse_tree.specs.Rowed.{rowed}
+use Rattle.fuse_rows.specs.declared.rows.NodeRow.{NodeRow}
+use Rattle.fuse_rows.specs.declared.rows.Full.{Full}
 use Rattle.fuse_store_tables.specs.Content.{Content, Kept, Counter, Holds, kept_key, at_by, shown_counter}
 use Rattle.fuse_store_tables.specs.Moves.{Rests, RestsAs, Serves, ServesAs, IsSafe}
 use Rattle.fuse_store_tables.specs.inner.Following.{rests_less, rests_also, rests_told, rests_failed, safe_also}
 use Rattle.fuse_store_tree.specs.Fits.{KeepsRecord}
-use Rattle.fuse_store_tree.specs.Store.{records_of, counters_of}
+use Rattle.fuse_store_tree.specs.Store.{records_of, meta_rows_of}
 use Rattle.fuse_store_tree.specs.Holding.{Holding, HeldFor, ReportsAfter, TreesAreInOrder}
 use Rattle.fuse_store_tree.proofs.Looks.{all_map, none_found}
 
@@ -65,7 +65,7 @@ none_kept id y a high at =
 
 -- the counters of what is held
 abbrev pub counters_held : Holding → List Counter
-counters_held y = counters_of (rowed y.tree).counters (rowed y.tree).settings y.next_lot
+counters_held y = meta_rows_of (rowed y.tree).counters (rowed y.tree).settings y.next_lot
 
 pub counters_shown : (y : Holding) (a : State) (rows : List Row) → ((c : Content) → Rests c a → rows ≡ map shown_counter c.counters) → RestsAs (HeldFor y) a
     → rows ≡ map shown_counter (counters_held y)

@@ -1,10 +1,11 @@
 -- The tables keep their capacity. Changes that end with the capacity they began with are made as they are.
 use Rattle.std.proofs.Common.{◌≡◌, ℕ, List, [], ◌∷◌, Option, Some, None, option_map, refl, sym, ap, ◌∙◌}
-use Rattle.fuse_tree.specs.declared.rows.Room.{Room}
-use Rattle.fuse_tree.specs.declared.rows.Change.{Change}
-use Rattle.fuse_tree.specs.declared.rows.Change.TheVariants as changes
+use Rattle.fuse_rows.specs.declared.rows.Room.{Room}
+use Rattle.fuse_rows.specs.declared.rows.Change.{Change}
+use Rattle.fuse_rows.specs.declared.rows.Change.TheVariants as changes
 use Rattle.fuse_tree.specs.State.{State, used_of}
-use Rattle.fuse_tree.specs.Rows.{Rows, rowed, apply, apply_one}
+use Rattle.fuse_rows.specs.Rows.{Rows, apply, apply_one}
+use Rattle.fuse_tree.specs.Rowed.{rowed}
 use Rattle.fuse_store_tree.specs.inner.Writing.{room_over, made_one, made_all}
 
 abbrev capacity_of : Option Room → Option ℕ

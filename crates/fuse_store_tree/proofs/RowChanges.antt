@@ -4,21 +4,21 @@ use Rattle.std.proofs.Common.{not, cond, Option, Some, None, refl, sym, ap, subs
 use Rattle.std.specs.List.{list_any}
 use Rattle.std.proofs.lemmas.Bool.{cases_Bool}
 use Rattle.std.proofs.lemmas.Bool.Decides.{nat_tests}
-use Rattle.fuse_tree.specs.Bounds.{block_bytes}
-use Rattle.fuse_tree.specs.declared.rows.Full.{Full}
-use Rattle.fuse_tree.specs.declared.rows.NodeRow.{NodeRow}
-use Rattle.fuse_tree.specs.Rows.{with_row, put_node, content_of}
+use Rattle.fuse_rows.specs.Bounds.{block_bytes}
+use Rattle.fuse_rows.specs.declared.rows.Full.{Full}
+use Rattle.fuse_rows.specs.declared.rows.NodeRow.{NodeRow}
+use Rattle.fuse_rows.specs.Rows.{with_row, put_node, content_of}
 use Rattle.fuse_init.specs.declared.settings.Settings.{Settings}
-use Rattle.fuse_tree.specs.declared.rows.EntryRow.{EntryRow}
-use Rattle.fuse_tree.specs.declared.rows.HandleRow.{HandleRow}
-use Rattle.fuse_tree.specs.declared.rows.Counters.{Counters as CountersRow}
-use Rattle.fuse_tree.specs.declared.rows.Room.{Room}
-use Rattle.fuse_tree.specs.declared.rows.Change.TheVariants as changes
+use Rattle.fuse_rows.specs.declared.rows.EntryRow.{EntryRow}
+use Rattle.fuse_rows.specs.declared.rows.HandleRow.{HandleRow}
+use Rattle.fuse_rows.specs.declared.rows.Counters.{Counters as CountersRow}
+use Rattle.fuse_rows.specs.declared.rows.Room.{Room}
+use Rattle.fuse_rows.specs.declared.rows.Change.TheVariants as changes
 use Rattle.fuse_store_tables.specs.Content.{node_key, with_node, has_by, Content, put_by}
 use Rattle.fuse_store_tables.specs.Content.{without_by, cookie_of, fh_of, with_entry, with_entry_gone, with_handle, without_handle, set_counter}
 use Rattle.fuse_store_tree.specs.Fits.{KeepsNode}
-use Rattle.fuse_tree.specs.Columns.{FitsEntry, FitsHandle}
-use Rattle.fuse_store_tree.specs.Store.{Store, in_order, byte_at, counters_of, FitsSettings}
+use Rattle.fuse_rows.specs.Columns.{FitsEntry, FitsHandle}
+use Rattle.fuse_store_tree.specs.Store.{Store, in_order, byte_at, meta_rows_of, FitsSettings}
 use Rattle.fuse_store_tree.specs.inner.Reading.{Describes}
 use Rattle.fuse_store_tree.specs.inner.Knowing.{counters_set}
 use Rattle.fuse_store_tree.specs.inner.Writing.{room_over, with_change}
@@ -215,12 +215,12 @@ handle_goes fh s c at = record {
 
 -- ---- counters and settings
 
-numbers_set : (n old : CountersRow) (s : Option Settings) (lot : ℕ) (c : Content) → (counters_set n (record c { counters = counters_of old s lot })).counters
-    ≡ counters_of (record n { room = room_over old.room n.room }) s lot
+numbers_set : (n old : CountersRow) (s : Option Settings) (lot : ℕ) (c : Content) → (counters_set n (record c { counters = meta_rows_of old s lot })).counters
+    ≡ meta_rows_of (record n { room = room_over old.room n.room }) s lot
 numbers_set n old s lot c = by old.room n.room
   where
-    by : (o r : Option Room) → (counters_set (record n { room = r }) (record c { counters = counters_of (record old { room = o }) s lot })).counters
-        ≡ counters_of (record n { room = room_over o r }) s lot
+    by : (o r : Option Room) → (counters_set (record n { room = r }) (record c { counters = meta_rows_of (record old { room = o }) s lot })).counters
+        ≡ meta_rows_of (record n { room = room_over o r }) s lot
     by None None = refl
     by None (Some r) = refl
     by (Some o) None = refl
@@ -243,11 +243,11 @@ counters_change n s c at = record {
 
 agreed_set : (v : Settings) (old : CountersRow) (s : Option Settings) (lot : ℕ) (c : Content)
     → (set_counter 10 v.flags.0 (set_counter 9 v.max_readahead (set_counter 8 v.minor (set_counter 7 1
-    (record c { counters = counters_of old s lot }))))).counters ≡ counters_of old (Some v) lot
+    (record c { counters = meta_rows_of old s lot }))))).counters ≡ meta_rows_of old (Some v) lot
 agreed_set v old s lot c = by old.room
   where
     by : (o : Option Room) → (set_counter 10 v.flags.0 (set_counter 9 v.max_readahead (set_counter 8 v.minor (set_counter 7 1
-        (record c { counters = counters_of (record old { room = o }) s lot }))))).counters ≡ counters_of (record old { room = o }) (Some v) lot
+        (record c { counters = meta_rows_of (record old { room = o }) s lot }))))).counters ≡ meta_rows_of (record old { room = o }) (Some v) lot
     by None = refl
     by (Some r) = refl
 

@@ -3,7 +3,8 @@ use Rattle.std.proofs.Common.{◌≡◌, ℕ, List, [], ◌∷◌, Bool, true, f
 use Rattle.std.proofs.Common.{refl, sym, ap, subst, ◌∙◌}
 use Rattle.fuse_answer.specs.Said.{Said}
 use Rattle.fuse_tree.specs.State.{State, Tree}
-use Rattle.fuse_tree.specs.Rows.{Rows, rowed}
+use Rattle.fuse_rows.specs.Rows.{Rows}
+use Rattle.fuse_tree.specs.Rowed.{rowed}
 use Rattle.fuse_keeper.specs.History.{Entry, History, IsUnsettled, Includes, is_in}
 use Rattle.fuse_keeper.specs.Stands.{Records, Stands, AreThese, without}
 use Rattle.fuse_keeper.specs.Taking.{TakesAll}
@@ -13,7 +14,7 @@ use Rattle.fuse_init.specs.declared.profile.Profile.{Profile}
 use Rattle.fuse_tree.specs.TheTree.{tree_of}
 use Rattle.fuse_store_tree.specs.Group.{without_record, without_settled, with_lot_for, lot_for, performed, all_dones}
 use Rattle.fuse_store_tree.proofs.Finds.{found_settled}
-use Rattle.fuse_store_tree.specs.Performing.{content_of, HasPerformed}
+use Rattle.fuse_store_tree.specs.Performing.{keeper_content_of, HasPerformed}
 use Rattle.fuse_store_tree.proofs.Took.{Below, group_tree, group_good, group_performed, group_taken, kept_for}
 
 -- ---- settled ids
@@ -77,11 +78,11 @@ call_performed {p} g lot ids es y s h t tree within each so =
 -- the entries of the group are taken over the records that aren't settled
 pub call_taken : {p : Profile} → Below p → (lot : Option ℕ) (ids : List ℕ) (es : List Entry) (y : Holding) (rows : Rows) (records : Records) → Tree y.tree
     → AreThese (tree_of p) (rowed y.tree) (records_of y.kept) rows records
-    → TakesAll (tree_of p) (record { rows = rows; records = without ids records }) es (content_of p (performed lot ids es y)) (all_dones lot ids es y)
+    → TakesAll (tree_of p) (record { rows = rows; records = without ids records }) es (keeper_content_of p (performed lot ids es y)) (all_dones lot ids es y)
 call_taken {p} g lot ids es y rows records tree are =
     let z = without_settled ids y in
     let before = with_lot_for lot z in
-    (g.grow).same_taken (content_of p before) (record { rows = rows; records = without ids records }) es (content_of p (performed lot ids es y))
+    (g.grow).same_taken (keeper_content_of p before) (record { rows = rows; records = without ids records }) es (keeper_content_of p (performed lot ids es y))
     (all_dones lot ids es y) (
       are.0 ∙ sym (ap rowed (lotted_tree lot z ∙ same_tree ids y)),
       λ i. ap (λ o. cond (is_in ids i) None o) (are.1 i) ∙ sym (ap (λ ks. records_of ks i) (kept_for lot z) ∙ found_settled (λ k. k.said) ids y i),

@@ -5,7 +5,7 @@ use Rattle.fuse_store_tree.specs.inner.Reading.{Describes}
 use Rattle.sqlite.specs.State.{State, HasCleanDisk}
 use Rattle.sqlite.specs.declared.error.Error.{Error}
 use Rattle.fuse_store_tables.specs.Content.{Content}
-use Rattle.fuse_store_tables.specs.Moves.{Inside, Makes, Looked}
+use Rattle.fuse_store_tables.specs.Moves.{Inside, Makes, LookedInside}
 use Rattle.fuse_store_tree.specs.inner.Changing.{Changed}
 use Rattle.fuse_store_tree.specs.inner.Laws.{looked_still, looked_fails}
 use Rattle.fuse_store_tables.specs.inner.Following.{earlier, inside_then}
@@ -28,7 +28,7 @@ made f g a b x tells p = record {
 }
 
 -- the same after a read
-pub made_known : {X : Type 0} (f : Content → Content) (g : Store → Store) (a b d : State) (x : X) → Looked a b → Makes {X = X} {E = Error} f b d (Ok x)
+pub made_known : {X : Type 0} (f : Content → Content) (g : Store → Store) (a b d : State) (x : X) → LookedInside a b → Makes {X = X} {E = Error} f b d (Ok x)
     → (HasCleanDisk b → (s : Store) (c : Content) → Inside c a → Describes s c → Describes (g s) (f c)) → Changed g a d
 made_known f g a b d x p q tells = record {
   stays = looked_fails a b d p q.stays;

@@ -6,11 +6,11 @@ use Rattle.sqlite.specs.Effect.{Database}
 use Rattle.sqlite.specs.State.{State, HasCleanDisk}
 use Rattle.fuse_keeper.specs.declared.fault.StoreFault.{StoreFault}
 use Rattle.fuse_tree.specs.State.{State as TreeState, Tree}
-use Rattle.fuse_tree.specs.Rows.{rowed}
-use Rattle.fuse_tree.specs.Plan.{look_fault as answered_fault}
-use Rattle.fuse_tree.specs.declared.rows.Planned.{Planned}
-use Rattle.fuse_tree.specs.declared.planning.fault.PlanFault.{PlanFault}
-use Rattle.fuse_tree.specs.declared.planning.fault.PlanFault.TheVariants as plans
+use Rattle.fuse_tree.specs.Rowed.{rowed}
+use Rattle.fuse_plan.specs.Plan.{look_fault as answered_fault}
+use Rattle.fuse_plan.specs.declared.planned.Planned.{Planned}
+use Rattle.fuse_plan.specs.declared.planning.fault.PlanFault.{PlanFault}
+use Rattle.fuse_plan.specs.declared.planning.fault.PlanFault.TheVariants as plans
 use Rattle.fuse_store_tables.specs.Faults.{IsOutside, IsPlain}
 use Rattle.fuse_store_tables.specs.Content.{Content}
 use Rattle.fuse_store_tables.specs.Moves.{Inside, IsReady, Stays}
@@ -20,7 +20,7 @@ use Rattle.fuse_store_tree.specs.Fits.{Fits}
 use Rattle.fuse_store_tree.specs.Store.{Held, HeldAs, bodies_of}
 use Rattle.fuse_store_tree.specs.declared.meta.Meta.{Meta}
 use Rattle.fuse_store_tree.specs.Knowing.{HeldForKnown}
-use Rattle.fuse_store_tree.specs.Looking.{look_fault, sees_known, MayFail}
+use Rattle.fuse_store_tree.specs.Looking.{as_look_fault, sees_known, MayFail}
 use Rattle.fuse_store_tree.specs.inner.Acting.{why_no_plan}
 use Rattle.fuse_store_tree.specs.Holding.{Holding, HeldFor, store_of}
 use Rattle.fuse_store_tree.specs.inner.Changing.{InsideFor, Turned, IsSureFor}
@@ -58,7 +58,7 @@ one_of P (y ∷ ys) (suc i) x all low = one_of P ys i x all.1 (omega (arith, low
 
 -- ---- looks
 
-none_before : (o : Option StoreFault) → look_fault o ≡ None → o ≡ None
+none_before : (o : Option StoreFault) → as_look_fault o ≡ None → o ≡ None
 none_before None is = refl
 none_before (Some f) is = absurd cc
 
@@ -72,8 +72,8 @@ failed_so a b was is f same stays plain sure = record {
 }
 
 -- nothing was planned: the rows being a tree's, and what is known of them right, its fault is outside
-pub no_plan : (fault : PlanFault) (m : Option Meta) (was is : Option StoreFault) (a b : State) → look_fault was ≡ None
-    → look_fault is ≡ answered_fault {X = Planned} (Err fault) → MayFail a b was is
+pub no_plan : (fault : PlanFault) (m : Option Meta) (was is : Option StoreFault) (a b : State) → as_look_fault was ≡ None
+    → as_look_fault is ≡ answered_fault {X = Planned} (Err fault) → MayFail a b was is
     → (fault ≡ plans.NotATree → HasCleanDisk b → (s : TreeState) → Tree s → sees_known m a (rowed s) → ⊥) → HasCleanDisk b → IsReady (HeldForKnown m) a
     → IsOutside (why_no_plan fault is)
 no_plan plans.Memory m was is a b none told fails not_a_tree clean ready = tt
@@ -95,7 +95,7 @@ no_plan (plans.Look f) m was (Some g) a b none told fails not_a_tree clean (y, a
     fails.sure (none_before was none) clean (y, record { is_open = at.is_open; in_transaction = at.in_transaction; holds = at.holds.0 })
 
 -- whatever is held, it is plain
-pub no_plan_plain : (fault : PlanFault) (was is : Option StoreFault) (a b : State) → look_fault was ≡ None → MayFail a b was is
+pub no_plan_plain : (fault : PlanFault) (was is : Option StoreFault) (a b : State) → as_look_fault was ≡ None → MayFail a b was is
     → IsPlain (why_no_plan fault is)
 no_plan_plain plans.Memory was is a b none fails = tt
 no_plan_plain plans.NotATree was is a b none fails = tt

@@ -1,10 +1,11 @@
 -- What a group makes of rows and records, in the words of a keeper.
 use Rattle.std.proofs.Common.{◌≡◌, ℕ, ◌==◌, suc, zero, List, [], ◌∷◌, ◌++◌, Bool, true, false, cond, All, Option, Some, None, refl, sym, ap, subst, arith, ◌∙◌}
 use Rattle.fuse_answer.specs.Said.{Said}
-use Rattle.fuse_tree.specs.State.{State, Tree, profile_for}
-use Rattle.fuse_tree.specs.Rows.{rowed}
+use Rattle.fuse_rows.specs.Rows.{profile_for}
+use Rattle.fuse_tree.specs.State.{State, Tree}
+use Rattle.fuse_tree.specs.Rowed.{rowed}
 use Rattle.fuse_tree.specs.Do.{done}
-use Rattle.fuse_tree.specs.Plan.{TreeKept, RowsTellState}
+use Rattle.fuse_tree.specs.Laws.{TreeKept, RowsTellState}
 use Rattle.fuse_keeper.specs.History.{Entry, entry_id, History, IsUnsettled, is_in, ids_in}
 use Rattle.fuse_keeper.specs.Stands.{Stands, OthersStay}
 use Rattle.fuse_keeper.specs.Taking.{Took, TookBy, TakesAll, Acts, ActedOn, GroupsGrow}
@@ -14,7 +15,7 @@ use Rattle.fuse_store_tree.proofs.Described.{grouped}
 use Rattle.fuse_store_tree.specs.Holding.{Holding}
 use Rattle.fuse_init.specs.declared.profile.Profile.{Profile}
 use Rattle.fuse_tree.specs.TheTree.{tree_of}
-use Rattle.fuse_store_tree.specs.Performing.{content_of, HasPerformed}
+use Rattle.fuse_store_tree.specs.Performing.{keeper_content_of, HasPerformed}
 use Rattle.fuse_store_tree.specs.Group.{said_of, taken, taken_by, with_group, dones_of, without_settled, with_lot_for, lot_for, performed}
 use Rattle.fuse_store_tree.proofs.Finds.{found_put, found_settled}
 
@@ -40,12 +41,12 @@ acts_so {p} g e y s good is =
     (record { answer_is = refl; rows_are = refl; tree = good_next g e y.tree (subst (tree_of p).IsGood (sym same) good) })
 
 took_by : {p : Profile} → Below p → (r : Option Said) (lot : ℕ) (e : Entry) (y : Holding)
-    → TookBy (tree_of p) r (content_of p y) e (content_of p (taken_by r lot e y).holding) (taken_by r lot e y).done
+    → TookBy (tree_of p) r (keeper_content_of p y) e (keeper_content_of p (taken_by r lot e y).holding) (taken_by r lot e y).done
 took_by g (Some known) lot e y = (refl, λ i. refl, refl, refl)
 took_by g None lot e y = (acts_so g e y, λ i. found_put (λ k. k.said) (record { id = entry_id e; lot = lot; said = said_of e y }) y.kept i, refl)
 
 pub took : {p : Profile} → Below p → (lot : ℕ) (e : Entry) (y : Holding)
-    → Took (tree_of p) (content_of p y) e (content_of p (taken lot e y).holding) (taken lot e y).done
+    → Took (tree_of p) (keeper_content_of p y) e (keeper_content_of p (taken lot e y).holding) (taken lot e y).done
 took g lot e y = took_by g (records_of y.kept (entry_id e)) lot e y
 
 tree_by : {p : Profile} → Below p → (r : Option Said) (lot : ℕ) (e : Entry) (y : Holding) → Tree y.tree → Tree (taken_by r lot e y).holding.tree
@@ -69,11 +70,11 @@ group_good g lot [] y good = good
 group_good g lot (e ∷ es) y good = group_good g lot es (taken lot e y).holding (good_by g (records_of y.kept (entry_id e)) lot e y good)
 
 pub group_taken : {p : Profile} → Below p → (lot : ℕ) (es : List Entry) (y : Holding)
-    → TakesAll (tree_of p) (content_of p y) es (content_of p (with_group lot es y)) (dones_of lot es y)
+    → TakesAll (tree_of p) (keeper_content_of p y) es (keeper_content_of p (with_group lot es y)) (dones_of lot es y)
 group_taken g lot [] y = (refl, λ i. refl)
 group_taken {p} g lot (e ∷ es) y =
     let z = (taken lot e y).holding in
-    (content_of p z, took g lot e y, group_taken g lot es z)
+    (keeper_content_of p z, took g lot e y, group_taken g lot es z)
 
 no_more : {X : Type 0} (xs : List X) → xs ≡ xs ++ []
 no_more [] = refl
@@ -87,7 +88,7 @@ group_took {p} g lot (e ∷ es) y s h t so_far dones each does =
     let z = (taken lot e y).holding in
     let d = (taken lot e y).done in
     let more : HasPerformed p z s h t (so_far ++ e ∷ []) (dones ++ d ∷ []) =
-    (g.grow).one_more (content_of p y) e (content_of p z) d (record { state = s; history = h; settled = t }) so_far dones (each zero e (omega arith))
+    (g.grow).one_more (keeper_content_of p y) e (keeper_content_of p z) d (record { state = s; history = h; settled = t }) so_far dones (each zero e (omega arith))
     (took g lot e y) does in
     let all = group_took g lot es z s h t (so_far ++ e ∷ []) (dones ++ d ∷ []) (λ k x below. each (suc k) x (omega (arith, below))) more in
     subst (λ l. HasPerformed p (with_group lot es z) s h t l (dones ++ d ∷ dones_of lot es z)) (grouped so_far (e ∷ []) es)
@@ -96,7 +97,7 @@ group_took {p} g lot (e ∷ es) y s h t so_far dones each does =
 pub group_performed : {p : Profile} → Below p → (lot : ℕ) (es : List Entry) (y : Holding) (s : State) (h : History) (t : List ℕ) → All (IsUnsettled t) es
     → Stands (tree_of p) (rowed y.tree) (records_of y.kept) s h t → HasPerformed p (with_group lot es y) s h t es (dones_of lot es y)
 group_performed {p} g lot es y s h t each so =
-    group_took g lot es y s h t [] [] each ((g.grow).none_yet (content_of p y) (record { state = s; history = h; settled = t }) so)
+    group_took g lot es y s h t [] [] each ((g.grow).none_yet (keeper_content_of p y) (record { state = s; history = h; settled = t }) so)
 
 -- ---- the records of other ids
 

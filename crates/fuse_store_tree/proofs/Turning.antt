@@ -2,7 +2,7 @@
 use Rattle.std.proofs.Common.{◌≡◌, ◌≤◌, ◌^◌, subst, Ok, Err, Result, OnOk, IfOk}
 use Rattle.sqlite.specs.State.{State, HasCleanDisk}
 use Rattle.fuse_tree.specs.State.{Tree}
-use Rattle.fuse_store_tables.specs.Moves.{Inside, InsideAs, Looked, Stays}
+use Rattle.fuse_store_tables.specs.Moves.{Inside, InsideAs, LookedInside, Stays}
 use Rattle.fuse_store_tables.specs.inner.Following.{earlier, inside_then, stays_then}
 use Rattle.fuse_store_tree.specs.Store.{Store, Held}
 use Rattle.fuse_store_tree.specs.inner.Changing.{Changed, InsideFor, Turned}
@@ -53,7 +53,7 @@ pub turned_known : (f g : Holding → Holding) (a b : State) → (HasCleanDisk b
 turned_known f g a b same p = record { stays = p.stays; within = p.within; turns = λ clean y at. subst (λ z. InsideFor z b) (same clean y at) (p.turns clean y at) }
 
 -- a look
-pub looked_for : (a b : State) → Looked a b → Turned (λ y. y) a b
+pub looked_for : (a b : State) → LookedInside a b → Turned (λ y. y) a b
 looked_for a b p = record {
   stays = p.stays;
   within = p.within;

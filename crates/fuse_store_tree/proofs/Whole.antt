@@ -11,8 +11,8 @@ use Rattle.fuse_store_tables.specs.Moves.{RestsAs, Begins, Ends, Takes, ServesAs
 use Rattle.fuse_store_tables.specs.Saying.{IsRefusal}
 use Rattle.fuse_store_tables.specs.inner.Performing.{CommitsNothing}
 use Rattle.fuse_store_tables.specs.inner.Following.{earlier}
+pub use Rattle.fuse_store_tables.specs.inner.Transaction.{begins_nothing, once_none, once_failed, once_committed, once_undone}
 use Rattle.sqlite.specs.Effect.{Database}
-use Rattle.fuse_store_tree.specs.Committing.{CommitsOnce}
 use Rattle.fuse_store_tree.specs.Holding.{Holding, HeldFor, ReportsAfter}
 use Rattle.fuse_store_tree.specs.declared.meta.Meta.{Meta}
 use Rattle.fuse_store_tree.specs.Knowing.{HeldForKnown, ReportsKnown}
@@ -95,35 +95,6 @@ undone_for a b d kept u clean is_open =
     let back = u.undone clean is_open in
     let same = (kept (earlier b d _ u.survives clean)).committed back.0 in
     (back.1 ∙ same, back.2 ∙ same)
-
--- ---- what a crash leaves
-
-pub once_first : {X Y : Type 0} (a b : State) (e : Error) (f : StoreFault) → Begins {X = X} a b (Err e) → CommitsOnce {X = Y} a b (Err f)
-once_first a b e f p = record { trees = a.now.trees; survives = survives_weaker a b _ _ (λ _ db none. absurd none) p.survives; made = tt }
-
-pub once_inside : {X Y : Type 0} (a b d : State) (x : X) (f : StoreFault) → Begins {E = Error} a b (Ok x) → Stays b d → CommitsOnce {X = Y} a d (Err f)
-once_inside a b d x f p stays =
-    record { trees = a.now.trees; survives = survives_weaker a d _ _ (λ _ db none. absurd none) (nothing_for a b d x p stays).survives; made = tt }
-
-pub once_failed : {X Y Z : Type 0} (a b d e : State) (x : X) (f : Error) (h : StoreFault) → Begins {E = Error} a b (Ok x) → Stays b d → Ends {X = Y} d e (Err f)
-    → CommitsOnce {X = Z} a e (Err h)
-once_failed a b d e x f h p stays q = record {
-  trees = d.now.trees;
-  survives = survives_then a d e _ _ _ (λ _ db none. absurd none) (λ clean db is. is) (nothing_for a b d x p stays).survives q.survives;
-  made = tt;
-}
-
-pub once_committed : {X Y Z : Type 0} (a b d e : State) (x : X) (y : Y) (z : Z) → Begins {E = Error} a b (Ok x) → Stays b d → Ends {E = Error} d e (Ok y)
-    → CommitsOnce {E = StoreFault} a e (Ok z)
-once_committed a b d e x y z p stays q = record {
-  trees = d.now.trees;
-  survives = survives_then a d e _ _ _ (λ _ db none. absurd none) (λ clean db is. is) (nothing_for a b d x p stays).survives q.survives;
-  made = λ clean. ap (λ (k : Database). k.trees) (sym (q.ended clean).2);
-}
-
-pub once_undone : {X Y : Type 0} (a b d : State) (e f : StoreFault) → CommitsOnce {X = X} a b (Err e) → Undoes b d → CommitsOnce {X = Y} a d (Err f)
-once_undone a b d e f p u =
-    record { trees = p.trees; survives = survives_then a b d _ _ _ (λ _ db is. is) (λ _ db none. absurd none) p.survives u.survives; made = tt }
 
 -- ---- what is known
 

@@ -5,10 +5,10 @@ use Rattle.std.specs.Option.{is_some}
 use Rattle.std.specs.Ordering.{is_eq, is_ge, nat_cmp}
 use Rattle.std.proofs.lemmas.Bool.{cases_Bool}
 use Rattle.std.proofs.lemmas.Bool.Decides.{nat_tests}
-use Rattle.fuse_tree.specs.Bounds.{block_bytes}
+use Rattle.fuse_rows.specs.Bounds.{block_bytes}
 use Rattle.fuse_store_tables.specs.Blocks.{Block, block_at, is_at, is_from}
 use Rattle.fuse_store_tree.specs.Store.{AreWithin}
-use Rattle.fuse_store_tree.specs.inner.Writing.{grown, shortened}
+use Rattle.fuse_store_tree.specs.inner.Writing.{ends_grown, shortened}
 use Rattle.fuse_store_tree.proofs.Looks.{key_is, both_are}
 
 -- ---- other ends
@@ -46,20 +46,20 @@ within_found e node k (b ∷ bs) all found = elim (cases_Bool (is_at node k b)) 
 
 -- ---- ends that grow
 
-pub grown_more : (node end : ℕ) (e : ℕ → ℕ) (n k : ℕ) → k < e n → k < grown node end e n
+pub grown_more : (node end : ℕ) (e : ℕ → ℕ) (n k : ℕ) → k < e n → k < ends_grown node end e n
 grown_more node end e n k low = by (n == node) (e n) low
   where
     by : (b : Bool) (y : ℕ) → k < y → k < cond b (max y end) y
     by true y low = omega (arith, low)
     by false y low = low
 
-pub grown_here : (node end : ℕ) (e : ℕ → ℕ) (k : ℕ) → k < end → k < grown node end e node
+pub grown_here : (node end : ℕ) (e : ℕ → ℕ) (k : ℕ) → k < end → k < ends_grown node end e node
 grown_here node end e k low = rw (same node) (omega (arith, low))
   where
     same : (n : ℕ) → (n == n) ≡ true
     same n = grind (arith, nat_tests)
 
-pub grown_twice : (node a b d : ℕ) (e : ℕ → ℕ) (n k : ℕ) → a ≤ d → b ≤ d → k < grown node b (grown node a e) n → k < grown node d e n
+pub grown_twice : (node a b d : ℕ) (e : ℕ → ℕ) (n k : ℕ) → a ≤ d → b ≤ d → k < ends_grown node b (ends_grown node a e) n → k < ends_grown node d e n
 grown_twice node a b d e n k first second low = by (n == node) (e n) low
   where
     by : (t : Bool) (y : ℕ) → k < cond t (max (cond t (max y a) y) b) (cond t (max y a) y) → k < cond t (max y d) y

@@ -7,12 +7,12 @@ use Rattle.std.specs.Prelude.{IfSome, Option, Result, OnOk, OnErr, Err}
 use Rattle.fuse_keeper.specs.declared.fault.StoreFault.{StoreFault}
 use Rattle.std.proofs.lemmas.List.{length-take-le, length-append, length-replicate, drop_all, append-nil}
 use Rattle.sqlite_trees.specs.Tree.{IsTable}
-use Rattle.fuse_tree.specs.Bounds.{block_bytes}
+use Rattle.fuse_rows.specs.Bounds.{block_bytes}
 use Rattle.fuse_store_tables.specs.Blocks.{Block, block_at, is_at}
 use Rattle.fuse_store_tree.specs.Fits.{IsWhole, Fits}
 use Rattle.fuse_store_tables.specs.Content.{put_block, node_key, has_by, Content, Holds}
-use Rattle.fuse_store_tree.specs.Store.{byte_in, bytes_of, rows_bytes, rows_ends, bodies_of, Bodies, AreWithin}
-use Rattle.fuse_store_tree.specs.inner.Writing.{overlay, overlay_in, grown, spliced, put_found, with_change}
+use Rattle.fuse_store_tree.specs.Store.{byte_in, bytes_of_block, rows_bytes, rows_ends, bodies_of, Bodies, AreWithin}
+use Rattle.fuse_store_tree.specs.inner.Writing.{overlay, overlay_in, ends_grown, spliced, put_found, with_change}
 use Rattle.fuse_store_tree.specs.inner.Reading.{whole_of, Describes}
 use Rattle.fuse_store_tree.specs.Store.{Store, DescribesAs, in_order, byte_at}
 use Rattle.fuse_store_tree.specs.inner.Changing.{Overlaid, Changed}
@@ -21,18 +21,18 @@ use Rattle.fuse_store_tree.proofs.BlockBytes.{part_put, all_put_at}
 use Rattle.fuse_store_tree.proofs.Overlays.{overlay_none, overlay_more, byte_written, written_length}
 use Rattle.fuse_store_tree.proofs.Looks.{key_is, both_are, block_is}
 use Rattle.fuse_store_tree.proofs.Parents.{blocks_owned}
-use Rattle.fuse_tree.specs.Rows.{at_node, written, content_of, full_at}
+use Rattle.fuse_rows.specs.Rows.{at_node, written, content_of, full_at}
 use Rattle.fuse_store_tree.specs.inner.Laws.{looked_still, looked_fails}
 use Rattle.fuse_store_tree.proofs.Ranges.{drop_length}
 use Rattle.sqlite.specs.Effect.{Database}
 use Rattle.std.proofs.lemmas.Bool.{cases_Bool}
 use Rattle.std.proofs.lemmas.Bool.Decides.{nat_tests}
-use Rattle.fuse_tree.specs.declared.rows.Full.{Full}
-use Rattle.fuse_tree.specs.declared.rows.NodeRow.{NodeRow}
+use Rattle.fuse_rows.specs.declared.rows.Full.{Full}
+use Rattle.fuse_rows.specs.declared.rows.NodeRow.{NodeRow}
 use Rattle.sqlite.specs.State.{State, HasCleanDisk}
 use Rattle.sqlite.specs.declared.error.Error.{Error}
-use Rattle.fuse_tree.specs.declared.rows.Change.TheVariants as changes
-use Rattle.fuse_store_tables.specs.Moves.{Inside, Makes, Looked, Stays}
+use Rattle.fuse_rows.specs.declared.rows.Change.TheVariants as changes
+use Rattle.fuse_store_tables.specs.Moves.{Inside, Makes, LookedInside, Stays}
 use Rattle.fuse_store_tables.specs.inner.Following.{earlier, inside_then, stays_then}
 use Rattle.fuse_store_tree.proofs.Described.{Rises, same_test}
 use Rattle.fuse_store_tree.proofs.Orders.{all_in_order}
@@ -78,9 +78,9 @@ described_over node here part old made_bytes x g c rises found whole is within s
       bytes = λ n i.
           ap (λ l. byte_in (put_block node (here / block_bytes) l c).blocks n i) is ∙ part_put node here part c.blocks old rises found whole within n i
           ∙ same_overlay node here part (byte_in c.blocks) g.byte was.bytes n i;
-      within = all_put_at (λ b. b.block * block_bytes < grown node (here + length part) g.ends b.node) node (here / block_bytes) made_bytes c.blocks
+      within = all_put_at (λ b. b.block * block_bytes < ends_grown node (here + length part) g.ends b.node) node (here / block_bytes) made_bytes c.blocks
           (grown_here node (here + length part) g.ends (here / block_bytes * block_bytes) (omega (arith, some))) (λ b low. low)
-          (within_more g.ends (grown node (here + length part) g.ends) (λ n k low. grown_more node (here + length part) g.ends n (k * block_bytes) low)
+          (within_more g.ends (ends_grown node (here + length part) g.ends) (λ n k low. grown_more node (here + length part) g.ends n (k * block_bytes) low)
           c.blocks was.within);
       settings = was.settings;
       fits = record {
@@ -98,7 +98,7 @@ put_as_found true node block bytes c is = rw (sym is) refl
 put_as_found false node block bytes c is = rw (sym is) refl
 
 -- after a read of the block: it is changed where it was there, and else added
-pub piece_written : {X : Type 0} (a b d : State) (r : Result X StoreFault) (node here : ℕ) (part old : List ℕ) (stored : Bool) → Looked a b
+pub piece_written : {X : Type 0} (a b d : State) (r : Result X StoreFault) (node here : ℕ) (part old : List ℕ) (stored : Bool) → LookedInside a b
     → Makes (put_found stored node (here / block_bytes) (spliced old (here % block_bytes) part)) b d r
     → (HasCleanDisk b → (c : Content) → Inside c a → Fits c → old ≡ whole_of (block_at node (here / block_bytes) c.blocks))
     → (HasCleanDisk b → (c : Content) → Inside c a → stored ≡ is_some (block_at node (here / block_bytes) c.blocks)) → length old ≡ block_bytes
@@ -125,7 +125,7 @@ piece_written a b d (Ok x) node here part old stored p q found there whole withi
       };
 }
 
-pub piece_keeps : {X : Type 0} (f : Content → Content) (a b d : State) (r : Result X StoreFault) → Looked a b → Makes f b d r → OnErr r (Stays a d)
+pub piece_keeps : {X : Type 0} (f : Content → Content) (a b d : State) (r : Result X StoreFault) → LookedInside a b → Makes f b d r → OnErr r (Stays a d)
 piece_keeps f a b d (Ok x) p q = tt
 piece_keeps f a b d (Err e) p q = looked_fails a b d p q.stays
 
@@ -312,7 +312,7 @@ written_byte x node at bytes c d holds told n i = elim (cases_Bool (n == node)) 
             ∙ ap (λ z. rows_bytes (with_change (changes.Written node at bytes) x).rows z i) (sym m)))
         | inr none ↦
             let gone = none_held x node (overlay_in node at bytes (bodies_of x.rows)) c told none in
-            ap (λ z. byte_in c.blocks z i) m ∙ ap (λ o. byte_at (bytes_of o) (i % block_bytes)) (no_block c.nodes node (i / block_bytes) c.blocks
+            ap (λ z. byte_in c.blocks z i) m ∙ ap (λ o. byte_at (bytes_of_block o) (i % block_bytes)) (no_block c.nodes node (i / block_bytes) c.blocks
             (blocks_owned c d holds) gone)
             ∙ sym (ap (λ o. byte_at (content_of o) i) (none_changed node (written at bytes) x.rows.nodes none))
             ∙ ap (λ z. rows_bytes (with_change (changes.Written node at bytes) x).rows z i) (sym m)
@@ -323,13 +323,13 @@ written_byte x node at bytes c d holds told n i = elim (cases_Bool (n == node)) 
 written_within : (x : Store) (node at : ℕ) (bytes : List ℕ) (c : Content) (d : Database) → Holds c d
     → DescribesAs x (overlay_in node at bytes (bodies_of x.rows)) c → AreWithin (rows_ends (with_change (changes.Written node at bytes) x).rows) c.blocks
 written_within x node at bytes c d holds told =
-    within_known (λ b. list_any (has_by node_key b.node) c.nodes ≡ true) (grown node (at + length bytes) (rows_ends x.rows)) after
+    within_known (λ b. list_any (has_by node_key b.node) c.nodes ≡ true) (ends_grown node (at + length bytes) (rows_ends x.rows)) after
     (λ b owned low. each b.node (b.block * block_bytes) owned low) c.blocks (blocks_owned c d holds) told.within
   where
     after : ℕ → ℕ
     after = rows_ends (with_change (changes.Written node at bytes) x).rows
 
-    here : (k : ℕ) → list_any (has_by node_key node) c.nodes ≡ true → k < grown node (at + length bytes) (rows_ends x.rows) node → k < after node
+    here : (k : ℕ) → list_any (has_by node_key node) c.nodes ≡ true → k < ends_grown node (at + length bytes) (rows_ends x.rows) node → k < after node
     here k owned low = elim (cases_Bool (list_any (λ f. f.row.node == node) x.rows.nodes)) [
       | inl there ↦
           let was = content_of (full_at x.rows node) in
@@ -345,12 +345,12 @@ written_within x node at bytes c d holds told =
             by true low = low
             by false low = omega (arith, low)
 
-    each : (n k : ℕ) → list_any (has_by node_key n) c.nodes ≡ true → k < grown node (at + length bytes) (rows_ends x.rows) n → k < after n
+    each : (n k : ℕ) → list_any (has_by node_key n) c.nodes ≡ true → k < ends_grown node (at + length bytes) (rows_ends x.rows) n → k < after n
     each n k owned low = elim (cases_Bool (n == node)) [
       | inl its ↦
           let m = same_number n node its in
           subst (λ z. k < after z) (sym m) (here k (subst (λ z. list_any (has_by node_key z) c.nodes ≡ true) m owned)
-          (subst (λ z. k < grown node (at + length bytes) (rows_ends x.rows) z) m low))
+          (subst (λ z. k < ends_grown node (at + length bytes) (rows_ends x.rows) z) m low))
       | inr other ↦
           subst (λ l. k < length l) (sym (content_other node (written at bytes) n x.rows.nodes other)) (rw other at low)
     ]

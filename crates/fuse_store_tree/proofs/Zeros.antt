@@ -4,13 +4,13 @@ use Rattle.std.proofs.Common.{Option, Some, None, refl, sym, ap, subst, arith, �
 use Rattle.std.specs.Option.{is_some}
 use Rattle.std.proofs.lemmas.Bool.{cases_Bool}
 use Rattle.sqlite.specs.State.{State, HasCleanDisk}
-use Rattle.fuse_tree.specs.Bounds.{block_bytes}
+use Rattle.fuse_rows.specs.Bounds.{block_bytes}
 use Rattle.fuse_store_tables.specs.Blocks.{Block, block_at}
 use Rattle.fuse_store_tables.specs.Content.{Content}
-use Rattle.fuse_store_tables.specs.Moves.{Inside, Looked}
+use Rattle.fuse_store_tables.specs.Moves.{Inside, LookedInside}
 use Rattle.fuse_store_tree.specs.inner.Changing.{Overlaid, Zeroed}
-use Rattle.fuse_store_tree.specs.Store.{byte_at, bytes_of, byte_in}
-use Rattle.fuse_store_tree.specs.inner.Writing.{overlay, overlay_in, zeros_in, grown}
+use Rattle.fuse_store_tree.specs.Store.{byte_at, bytes_of_block, byte_in}
+use Rattle.fuse_store_tree.specs.inner.Writing.{overlay, overlay_in, zeros_in, ends_grown}
 use Rattle.fuse_store_tree.proofs.BlockBytes.{lower, upper}
 use Rattle.fuse_store_tree.proofs.Overlays.{zero_at}
 use Rattle.fuse_store_tree.proofs.RowChanges.{same_number}
@@ -20,7 +20,7 @@ use Rattle.fuse_store_tree.proofs.Writes.{same_overlay, describes_same}
 pub all_zero : (zeros : List ℕ) (n : ℕ) → zeros ≡ replicate n 0 → (i : ℕ) → byte_at zeros i ≡ 0
 all_zero zeros n are i = ap (λ l. byte_at l i) are ∙ zero_at n i
 
-no_block : (o : Option Block) → false ≡ is_some o → (i : ℕ) → byte_at (bytes_of o) i ≡ 0
+no_block : (o : Option Block) → false ≡ is_some o → (i : ℕ) → byte_at (bytes_of_block o) i ≡ 0
 no_block None none i = refl
 no_block (Some b) none i = absurd cc
 
@@ -46,13 +46,13 @@ unchanged node here zeros bs none zero within n i = elim (cases_Bool (n == node)
     | inr outside ↦ rw outside refl
     | inl inside ↦
         let block = in_its_block here (length zeros) i within inside in
-        rw inside (ap (λ k. byte_at (bytes_of (block_at n k bs)) (i % block_bytes)) block
-        ∙ ap (λ m. byte_at (bytes_of (block_at m (here / block_bytes) bs)) (i % block_bytes)) (same_number n node its)
+        rw inside (ap (λ k. byte_at (bytes_of_block (block_at n k bs)) (i % block_bytes)) block
+        ∙ ap (λ m. byte_at (bytes_of_block (block_at m (here / block_bytes) bs)) (i % block_bytes)) (same_number n node its)
         ∙ no_block (block_at node (here / block_bytes) bs) none (i % block_bytes) ∙ sym (zero (i - here)))
   ])
 ]
 
-pub zeros_there : (node here : ℕ) (zeros : List ℕ) (a b : State) → Looked a b
+pub zeros_there : (node here : ℕ) (zeros : List ℕ) (a b : State) → LookedInside a b
     → (HasCleanDisk b → (c : Content) → Inside c a → false ≡ is_some (block_at node (here / block_bytes) c.blocks)) → ((i : ℕ) → byte_at zeros i ≡ 0)
     → here % block_bytes + length zeros ≤ block_bytes → Zeroed node here zeros a b
 zeros_there node here zeros a b p none zero within = record {
@@ -103,7 +103,7 @@ zeros_over node here zeros a d found within q = record {
       };
 }
   where
-    ends_same : (e : ℕ → ℕ) → here / block_bytes * block_bytes < e node → (n k : ℕ) → k * block_bytes < grown node (here + length zeros) e n
+    ends_same : (e : ℕ → ℕ) → here / block_bytes * block_bytes < e node → (n k : ℕ) → k * block_bytes < ends_grown node (here + length zeros) e n
         → k * block_bytes < e n
     ends_same e there n k low = elim (cases_Bool (n == node)) [
       | inl its ↦

@@ -2,9 +2,9 @@
 use Rattle.std.specs.Prelude.{◌≡◌, ◌<◌, ◌^◌, length}
 use Rattle.std.specs.List.{AllByRecursion}
 use Rattle.fuse_answer.specs.Said.{FitsAnswer}
-use Rattle.fuse_tree.specs.Bounds.{block_bytes}
-use Rattle.fuse_tree.specs.Columns.{FitsEntry, FitsHandle}
-use Rattle.fuse_tree.specs.declared.rows.NodeRow.{NodeRow}
+use Rattle.fuse_rows.specs.Bounds.{block_bytes}
+use Rattle.fuse_rows.specs.Columns.{FitsEntry, FitsHandle}
+use Rattle.fuse_rows.specs.declared.rows.NodeRow.{NodeRow}
 use Rattle.fuse_store_tables.specs.Blocks.{Block}
 use Rattle.fuse_store_tables.specs.Content.{Content, Kept, HasWidths}
 

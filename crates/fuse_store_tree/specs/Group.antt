@@ -37,11 +37,11 @@ HasLotLeft lot y = lot ≡ None → y.next_lot < 2 ^ 62
 
 -- ---- one request
 
-abbrev pub answered : Said → Done
-answered said = record { answer = said; repeated = false }
+abbrev pub done_newly : Said → Done
+done_newly said = record { answer = said; repeated = false }
 
-abbrev pub repeats : Said → Done
-repeats said = record { answer = said; repeated = true }
+abbrev pub done_again : Said → Done
+done_again said = record { answer = said; repeated = true }
 
 -- the answer to an entry
 abbrev pub said_of : Entry → Holding → Said
@@ -64,8 +64,8 @@ pub record Taken : Type 0 where
 
 -- an id with a record is a repeat
 abbrev pub taken_by : Option Said → ℕ → Entry → Holding → Taken
-taken_by (Some known) lot e y = record { holding = y; done = repeats known }
-taken_by None lot e y = record { holding = acted_on lot e y; done = answered (said_of e y) }
+taken_by (Some known) lot e y = record { holding = y; done = done_again known }
+taken_by None lot e y = record { holding = acted_on lot e y; done = done_newly (said_of e y) }
 
 abbrev pub taken : ℕ → Entry → Holding → Taken
 taken lot e y = taken_by (records_of y.kept (entry_id e)) lot e y

@@ -4,7 +4,8 @@ use Rattle.std.specs.List.{AllByRecursion}
 use Rattle.sqlite.specs.Effect.{Database}
 use Rattle.sqlite.specs.State.{State, HasCleanDisk}
 use Rattle.fuse_tree.specs.State.{State as TreeState, Tree}
-use Rattle.fuse_tree.specs.Rows.{Rows, rowed}
+use Rattle.fuse_rows.specs.Rows.{Rows}
+use Rattle.fuse_tree.specs.Rowed.{rowed}
 use Rattle.fuse_keeper.specs.Lots.{Lots}
 use Rattle.fuse_store_tables.specs.Content.{Kept, kept_key, node_key, cookie_of, fh_of, at_by}
 use Rattle.fuse_store_tables.specs.Moves.{RestsAs}

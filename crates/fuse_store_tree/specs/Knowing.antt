@@ -2,7 +2,8 @@
 use Rattle.std.specs.Prelude.{◌≡◌, ℕ, Option, IfSome, Result, IfErr}
 use Rattle.sqlite.specs.Effect.{Database}
 use Rattle.sqlite.specs.State.{State, HasCleanDisk}
-use Rattle.fuse_tree.specs.Rows.{Rows, IsRowed, rowed, row_at}
+use Rattle.fuse_rows.specs.Rows.{Rows, row_at}
+use Rattle.fuse_tree.specs.Rowed.{IsRowed, rowed}
 use Rattle.fuse_keeper.specs.declared.fault.StoreFault.{StoreFault}
 use Rattle.fuse_store_tables.specs.Faults.{IsOutside}
 use Rattle.fuse_store_tables.specs.Moves.{RestsAs}

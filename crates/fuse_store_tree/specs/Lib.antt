@@ -2,7 +2,6 @@ pub mod Fits
 pub mod Store
 pub mod Looking
 pub mod Holding
-pub mod Committing
 pub mod Group
 pub mod Knowing
 pub mod Lots

@@ -5,9 +5,9 @@ use Rattle.fuse_keeper.specs.declared.fault.StoreFault.{StoreFault}
 use Rattle.fuse_keeper.specs.declared.fault.StoreFault.TheVariants.{Memory as OutOfMemory}
 use Rattle.fuse_tree.specs.declared.look.LookFault.{LookFault}
 use Rattle.fuse_tree.specs.declared.look.LookFault.TheVariants.{Memory, Failed}
-use Rattle.fuse_tree.specs.Rows.{Rows}
+use Rattle.fuse_rows.specs.Rows.{Rows}
 use Rattle.fuse_store_tables.specs.Faults.{IsOutside, IsPlain}
-use Rattle.fuse_store_tables.specs.Moves.{InsideAs, IsReady, Looked, Stays}
+use Rattle.fuse_store_tables.specs.Moves.{InsideAs, IsReady, LookedInside, Stays}
 use Rattle.fuse_store_tree.specs.declared.look.LastNode.{LastNode}
 use Rattle.fuse_store_tree.specs.declared.meta.Meta.{Meta}
 use Rattle.fuse_store_tree.specs.Store.{Store, Held}
@@ -19,9 +19,9 @@ abbrev pub told_as : StoreFault → LookFault
 told_as OutOfMemory = Memory
 told_as _ = Failed
 
-abbrev pub look_fault : Option StoreFault → Option LookFault
-look_fault None = None
-look_fault (Some f) = Some (told_as f)
+abbrev pub as_look_fault : Option StoreFault → Option LookFault
+as_look_fault None = None
+as_look_fault (Some f) = Some (told_as f)
 
 -- a transaction is open, and its tables hold these rows
 abbrev pub sees_in : State → Rows → Type 0
@@ -37,7 +37,7 @@ sees_with known last s rows = sees_known known s rows × Recalls last rows
 
 -- only reads that succeeded lie between the two states, the fault is as it was, and what is known stays right
 pub record WentWell (old new : State) (was is : Option StoreFault) (before after : Option Meta) (first last : Option LastNode) : Type 0 where
-  pub looked : Looked old new
+  pub looked : LookedInside old new
   pub same : is ≡ was
   pub knows : HasCleanDisk new → (rows : Rows) → sees_in old rows → Knows before rows → Knows after rows
   pub recalls : HasCleanDisk new → (rows : Rows) → sees_in old rows → Recalls first rows → Recalls last rows

@@ -10,31 +10,31 @@ use Rattle.fuse_store_tree.specs.Holding.{Holding, HeldFor, lots_as, lots_of}
 
 -- ---- columns; 0 and no bytes where the value has another type
 
-abbrev pub number_in : ℤ → ℕ
-number_in (pos n) = n
-number_in _ = 0
+abbrev pub number_of_int : ℤ → ℕ
+number_of_int (pos n) = n
+number_of_int _ = 0
 
 abbrev pub int_in : Value → ℤ
 int_in (Int z) = z
 int_in _ = pos 0
 
-abbrev pub bytes_in : Value → List ℕ
-bytes_in (Blob b) = b
-bytes_in _ = []
+abbrev pub blob_in : Value → List ℕ
+blob_in (Blob b) = b
+blob_in _ = []
 
-abbrev pub number : Row → ℕ → ℕ
-number r at = number_in (int_in (column r at))
+abbrev pub number_in_row : Row → ℕ → ℕ
+number_in_row r at = number_of_int (int_in (column r at))
 
-abbrev pub bytes : Row → ℕ → List ℕ
-bytes r at = bytes_in (column r at)
+abbrev pub bytes_in_row : Row → ℕ → List ℕ
+bytes_in_row r at = blob_in (column r at)
 
 -- ---- rows
 
 abbrev pub lot_in : Row → ℕ
-lot_in r = number r 0
+lot_in r = number_in_row r 0
 
-abbrev pub kept_in : Row → Kept
-kept_in r = record { id = number r 0; lot = number r 2; said = record { errno = number r 3; body = bytes r 4 } }
+abbrev pub record_in_row : Row → Kept
+record_in_row r = record { id = number_in_row r 0; lot = number_in_row r 2; said = record { errno = number_in_row r 3; body = bytes_in_row r 4 } }
 
 -- ---- tables
 
@@ -42,7 +42,7 @@ abbrev pub lots_read : Database → List ℕ
 lots_read d = map lot_in (d.trees 9)
 
 abbrev pub kept_read : Database → List Kept
-kept_read d = map kept_in (d.trees 10)
+kept_read d = map record_in_row (d.trees 10)
 
 -- the lots of a database, and the one of this opening
 abbrev pub lots_in : Option ℕ → Database → Lots

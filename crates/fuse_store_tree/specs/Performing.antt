@@ -2,9 +2,10 @@
 use Rattle.std.specs.Prelude.{◌≡◌, ℕ, List, All, Option, Some}
 use Rattle.sqlite.specs.Effect.{Database}
 use Rattle.fuse_tree.specs.State.{State, Tree}
-use Rattle.fuse_tree.specs.Rows.{Rows, rowed}
+use Rattle.fuse_rows.specs.Rows.{Rows}
+use Rattle.fuse_tree.specs.Rowed.{rowed}
 use Rattle.fuse_keeper.specs.History.{Entry, History, Includes, IsUnsettled}
-use Rattle.fuse_keeper.specs.Stands.{Records, Content, Stands, AreThese, PerformedBy, OthersStay, without}
+use Rattle.fuse_keeper.specs.Stands.{Records, KeeperContent, Stands, AreThese, PerformedBy, OthersStay, without}
 use Rattle.fuse_keeper.specs.Taking.{TakesAll}
 use Rattle.fuse_keeper.specs.Lots.{RecordsUnder}
 use Rattle.fuse_keeper.specs.declared.keeper.Done.{Done}
@@ -19,8 +20,8 @@ abbrev pub OneHolding : Type 0
 OneHolding = (x y : Holding) (d : Database) → HeldFor x d → HeldFor y d → x ≡ y
 
 -- its rows and records, as those of a profile
-abbrev pub content_of : (p : Profile) → Holding → Content (tree_of p)
-content_of p y = record { rows = rowed y.tree; records = records_of y.kept }
+abbrev pub keeper_content_of : (p : Profile) → Holding → KeeperContent (tree_of p)
+keeper_content_of p y = record { rows = rowed y.tree; records = records_of y.kept }
 
 -- the holding stands for a history
 abbrev pub HoldingStands : Profile → Holding → State → History → List ℕ → Type 0
@@ -43,7 +44,7 @@ pub record CallsPerform (p : Profile) : Type 0 where
   -- the entries are taken one after the other over the records that aren't settled
   pub acts : (lot : Option ℕ) (ids : List ℕ) (es : List Entry) (y : Holding) (rows : Rows) (records : Records) → Tree y.tree
       → AreThese (tree_of p) (rowed y.tree) (records_of y.kept) rows records
-      → TakesAll (tree_of p) (record { rows = rows; records = without ids records }) es (content_of p (performed lot ids es y)) (all_dones lot ids es y)
+      → TakesAll (tree_of p) (record { rows = rows; records = without ids records }) es (keeper_content_of p (performed lot ids es y)) (all_dones lot ids es y)
   -- the records of other ids stay, without the settled ones
   pub others : (lot : Option ℕ) (ids : List ℕ) (es : List Entry) (y : Holding)
       → OthersStay (records_of y.kept) ids es (records_of (performed lot ids es y).kept)

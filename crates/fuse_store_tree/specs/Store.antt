@@ -4,10 +4,10 @@ use Rattle.std.specs.Prelude.{List, [], ◌∷◌, map, fold, option_map, Option
 use Rattle.std.specs.List.{AllByRecursion}
 use Rattle.sqlite.specs.Effect.{Database}
 use Rattle.fuse_init.specs.declared.settings.Settings.{Settings}
-use Rattle.fuse_tree.specs.Bounds.{block_bytes}
-use Rattle.fuse_tree.specs.declared.rows.Counters.{Counters as CountersRow}
-use Rattle.fuse_tree.specs.declared.rows.Room.{Room}
-use Rattle.fuse_tree.specs.Rows.{Rows, full_at, content_of}
+use Rattle.fuse_rows.specs.Bounds.{block_bytes}
+use Rattle.fuse_rows.specs.declared.rows.Counters.{Counters as CountersRow}
+use Rattle.fuse_rows.specs.declared.rows.Room.{Room}
+use Rattle.fuse_rows.specs.Rows.{Rows, full_at, content_of}
 use Rattle.fuse_keeper.specs.Stands.{Records}
 use Rattle.fuse_store_tables.specs.Blocks.{Block, block_at}
 use Rattle.fuse_store_tables.specs.Content.{Content, Counter, Kept, Holds, put_by, at_by, node_key, cookie_of, fh_of, kept_key}
@@ -52,8 +52,8 @@ abbrev pub counters_of_room : Option Room → List Counter
 counters_of_room None = []
 counters_of_room (Some r) = counter 12 2 ∷ counter 13 r.capacity ∷ counter 14 r.used ∷ []
 
-abbrev pub counters_of : CountersRow → Option Settings → ℕ → List Counter
-counters_of c s lot =
+abbrev pub meta_rows_of : CountersRow → Option Settings → ℕ → List Counter
+meta_rows_of c s lot =
     counter 1 2 ∷ counter 2 c.next_node ∷ counter 3 c.next_fh ∷ counter 4 c.next_cookie ∷ counter 5 c.nodes ∷ counter 6 c.handles ∷ counter 7 (is_there s)
     ∷ counter 8 (minor_of s) ∷ counter 9 (readahead_of s)
     ∷ counter 10 (flags_of s) ∷ counter 11 lot ∷ counters_of_room c.room
@@ -68,13 +68,13 @@ pub record FitsSettings (s : Option Settings) : Type 0 where
 abbrev pub byte_at : List ℕ → ℕ → ℕ
 byte_at bytes i = slice_index_or bytes i 0
 
-abbrev pub bytes_of : Option Block → List ℕ
-bytes_of None = []
-bytes_of (Some b) = b.bytes
+abbrev pub bytes_of_block : Option Block → List ℕ
+bytes_of_block None = []
+bytes_of_block (Some b) = b.bytes
 
 -- the byte at this place of a node's blocks, 0 where there is no block
 abbrev pub byte_in : List Block → ℕ → ℕ → ℕ
-byte_in blocks node i = byte_at (bytes_of (block_at node (i / block_bytes) blocks)) (i % block_bytes)
+byte_in blocks node i = byte_at (bytes_of_block (block_at node (i / block_bytes) blocks)) (i % block_bytes)
 
 -- the bytes of each node, and zeros after them
 abbrev pub rows_bytes : Rows → ℕ → ℕ → ℕ
@@ -98,7 +98,7 @@ bodies_of rows = record { byte = rows_bytes rows; ends = rows_ends rows }
 
 -- the tables describe these rows, and the blocks these bytes of each node
 pub record DescribesAs (x : Store) (bodies : Bodies) (c : Content) : Type 0 where
-  pub counters : c.counters ≡ counters_of x.rows.counters x.rows.settings x.next_lot
+  pub counters : c.counters ≡ meta_rows_of x.rows.counters x.rows.settings x.next_lot
   pub nodes : c.nodes ≡ in_order node_key (map (λ f. f.row) x.rows.nodes)
   pub entries : c.entries ≡ in_order cookie_of x.rows.entries
   pub handles : c.handles ≡ in_order fh_of x.rows.handles

@@ -8,7 +8,7 @@ ghost use Rattle.fuse_store_tables.specs.Faults.{IsPlain};
 ghost use Rattle.fuse_store_tables.specs.inner.Performing.{IsSure};
 ghost use Rattle.fuse_store_tree.specs.inner.Acting.{ActsInside, why_no_plan};
 ghost use Rattle.fuse_store_tree.specs.Knowing.{HeldForKnown};
-ghost use Rattle.fuse_store_tree.specs.Looking.{look_fault};
+ghost use Rattle.fuse_store_tree.specs.Looking.{as_look_fault};
 ghost use Rattle.fuse_store_tables.specs.Moves.{Stays, StaysInside};
 
 use crate::gaps::clear_gap;
@@ -16,8 +16,8 @@ use crate::look::TableLook;
 use crate::plan_changes::make_all;
 use fuse_answer::Answer;
 use fuse_keeper::StoreFault;
+use fuse_plan::{PlanFault, plan, tree_kept};
 use fuse_request::Request;
-use fuse_tree::{PlanFault, plan, tree_kept};
 use fuse_wire::Moment;
 use sqlite::Alter;
 use std::alloc::Global;
@@ -43,7 +43,7 @@ pub(crate) fn act<S: Alter>(
     request: &Request<'_>,
     now: Moment,
 ) -> Result<Answer, StoreFault>
-    requires { look_fault look.old.fault ≡ None }
+    requires { as_look_fault look.old.fault ≡ None }
     ensures acts { IfOk result (λ answer. (s : State) → Tree s
         → ActsInside look.old.known look.new.known (state S.Store look.old.conn)
         (state S.Store look.new.conn) s (done s (asked request.now) now) answer) }
@@ -52,7 +52,7 @@ pub(crate) fn act<S: Alter>(
     // And the transaction stays open where it succeeds.
     ensures within { OnOk result (StaysInside (state S.Store look.old.conn)
         (state S.Store look.new.conn)) }
-    ensures fault { look_fault look.new.fault ≡ None }
+    ensures fault { as_look_fault look.new.fault ≡ None }
     ensures sure { IsSure (HeldForKnown look.old.known) (state S.Store look.old.conn)
         (state S.Store look.new.conn) result }
     ensures plain { IfErr result IsPlain }

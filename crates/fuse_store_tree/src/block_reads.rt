@@ -5,20 +5,20 @@ ghost use Rattle.std.specs.Prelude.{OnOk, OnErr};
 ghost use Rattle.std.specs.Option.{is_some, option_to_list};
 ghost use Rattle.sqlite.specs.State.{HasCleanDisk};
 ghost use Rattle.sqlite.specs.Held.{state};
-ghost use Rattle.fuse_tree.specs.Bounds.{block_bytes, file_limit};
+ghost use Rattle.fuse_rows.specs.Bounds.{block_bytes, file_limit};
 ghost use Rattle.fuse_store_tables.specs.Blocks.{Block, block_at, shown_block};
 ghost use Rattle.fuse_store_tables.specs.Content.{Content, node_key, at_by};
 ghost use Rattle.fuse_store_tree.specs.Fits.{Fits, IsWhole};
 ghost use Rattle.fuse_store_tables.specs.Faults.{IsOutside, IsPlain};
-ghost use Rattle.fuse_store_tables.specs.Moves.{Inside, Looked, Stays};
+ghost use Rattle.fuse_store_tables.specs.Moves.{Inside, LookedInside, Stays};
 ghost use Rattle.fuse_store_tree.specs.Store.{byte_in};
 ghost use Rattle.fuse_store_tree.specs.inner.Reading.{range_of, whole_of, bytes_told, bytes_within};
 
 use crate::bounds::END;
 use crate::rows::find_node;
 use fuse_keeper::StoreFault;
+use fuse_rows::{BLOCK_SIZE, MAX_FILE};
 use fuse_store_tables::{bytes_at, select_block};
-use fuse_tree::{BLOCK_SIZE, MAX_FILE};
 use fuse_wire::ByteList;
 use sqlite::{Alter, Connection, Row};
 use std::alloc::Global;
@@ -72,7 +72,7 @@ pub(crate) fn find_block<S: Alter>(
 ) -> Result<FoundBlock, StoreFault>
     requires node { node < 2 ^ 63 }
     requires block { block < 2 ^ 63 }
-    ensures looks { OnOk result (Looked (state S.Store conn.old) (state S.Store conn.new)) }
+    ensures looks { OnOk result (LookedInside (state S.Store conn.old) (state S.Store conn.new)) }
     ensures fails { OnErr result (Stays (state S.Store conn.old) (state S.Store conn.new)) }
     ensures value { HasCleanDisk (state S.Store conn.new) → IfOk result (λ f. (c : Content)
         → Inside c (state S.Store conn.old) → Fits c
@@ -122,7 +122,7 @@ fn append_piece<S: Alter>(
     requires node { node < 2 ^ 63 }
     requires here { here < 2 ^ 63 }
     requires within { here % block_bytes + count ≤ block_bytes }
-    ensures looks { OnOk result (Looked (state S.Store conn.old) (state S.Store conn.new)) }
+    ensures looks { OnOk result (LookedInside (state S.Store conn.old) (state S.Store conn.new)) }
     ensures fails { OnErr result (Stays (state S.Store conn.old) (state S.Store conn.new)) }
     ensures value { HasCleanDisk (state S.Store conn.new) → OnOk result ((c : Content)
         → Inside c (state S.Store conn.old) → Fits c → out.new.items ≡ out.old.items
@@ -156,7 +156,7 @@ pub(crate) fn find_range<S: Alter>(
 ) -> Result<Vec<u8>, StoreFault>
     requires node { node < 2 ^ 63 }
     requires end { at + len < 2 ^ 63 }
-    ensures looks { OnOk result (Looked (state S.Store conn.old) (state S.Store conn.new)) }
+    ensures looks { OnOk result (LookedInside (state S.Store conn.old) (state S.Store conn.new)) }
     ensures fails { OnErr result (Stays (state S.Store conn.old) (state S.Store conn.new)) }
     ensures value { HasCleanDisk (state S.Store conn.new) → IfOk result (λ v. (c : Content)
         → Inside c (state S.Store conn.old) → Fits c → v.items ≡ range_of (byte_in c.blocks node) at
@@ -189,7 +189,7 @@ pub(crate) fn find_sized<S: Alter>(
 ) -> Result<ByteList, StoreFault>
     requires node { node < 2 ^ 63 }
     requires size { size ≤ file_limit }
-    ensures looks { OnOk result (Looked (state S.Store conn.old) (state S.Store conn.new)) }
+    ensures looks { OnOk result (LookedInside (state S.Store conn.old) (state S.Store conn.new)) }
     ensures fails { OnErr result (Stays (state S.Store conn.old) (state S.Store conn.new)) }
     ensures value { HasCleanDisk (state S.Store conn.new) → IfOk result (λ r. (c : Content)
         → Inside c (state S.Store conn.old) → Fits c → r ≡ bytes_within size c.blocks node offset
@@ -214,7 +214,7 @@ pub(crate) fn find_bytes<S: Alter>(
     offset: u64,
     len: u32,
 ) -> Result<ByteList, StoreFault>
-    ensures looks { OnOk result (Looked (state S.Store conn.old) (state S.Store conn.new)) }
+    ensures looks { OnOk result (LookedInside (state S.Store conn.old) (state S.Store conn.new)) }
     ensures fails { OnErr result (Stays (state S.Store conn.old) (state S.Store conn.new)) }
     ensures value { HasCleanDisk (state S.Store conn.new) → IfOk result (λ r. (c : Content)
         → Inside c (state S.Store conn.old) → Fits c → r ≡ bytes_told (at_by node_key node c.nodes)

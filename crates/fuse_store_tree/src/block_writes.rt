@@ -3,11 +3,11 @@ ghost use Rattle.std.specs.Prelude.{◌≡◌, ◌<◌, ◌≤◌, ◌^◌, ◌+
 ghost use Rattle.std.specs.Prelude.{IfOk, IfErr, OnOk, OnErr};
 ghost use Rattle.sqlite.specs.State.{HasCleanDisk};
 ghost use Rattle.sqlite.specs.Held.{state};
-ghost use Rattle.fuse_tree.specs.Bounds.{block_bytes};
+ghost use Rattle.fuse_rows.specs.Bounds.{block_bytes};
 ghost use Rattle.fuse_store_tables.specs.Faults.{IsOutside, IsPlain};
 ghost use Rattle.fuse_store_tree.specs.inner.Changing.{Changed};
 ghost use Rattle.fuse_store_tree.specs.inner.Changing.{Overlaid, Zeroed};
-ghost use Rattle.fuse_tree.specs.declared.rows.Change.TheVariants as changes;
+ghost use Rattle.fuse_rows.specs.declared.rows.Change.TheVariants as changes;
 ghost use Rattle.fuse_store_tables.specs.Content.{Content};
 ghost use Rattle.fuse_store_tree.specs.Fits.{Fits};
 ghost use Rattle.fuse_store_tables.specs.Moves.{Inside, Makes, Stays};
@@ -17,8 +17,8 @@ ghost use Rattle.fuse_store_tree.specs.inner.Writing.{spliced, put_found, with_c
 
 use crate::block_reads::{FoundBlock, find_block, first_count};
 use fuse_keeper::StoreFault;
+use fuse_rows::BLOCK_SIZE;
 use fuse_store_tables::{insert_block, update_block, write_block};
-use fuse_tree::BLOCK_SIZE;
 use sqlite::{Alter, Connection};
 use std::alloc::Global;
 

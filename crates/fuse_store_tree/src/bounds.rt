@@ -1,10 +1,10 @@
 // The bounds of the numbers that the tables store.
 ghost use Rattle.std.specs.Prelude.{◌↔◌, ◌+◌, ◌≤◌, IsTrue, IfSome};
-ghost use Rattle.fuse_tree.specs.Bounds.{file_limit};
-ghost use Rattle.fuse_tree.specs.Columns.{FitsNode, FitsEntry, FitsHandle, FitsCounters};
-ghost use Rattle.fuse_tree.specs.Columns.{FitsChange, FitsRoom};
+ghost use Rattle.fuse_rows.specs.Bounds.{file_limit};
+ghost use Rattle.fuse_rows.specs.Columns.{FitsNode, FitsEntry, FitsHandle, FitsCounters};
+ghost use Rattle.fuse_rows.specs.Columns.{FitsChange, FitsRoom};
 
-use fuse_tree::{CAPACITY_END, Change, Counters, EntryRow, HandleRow, MAX_FILE, NodeRow, Room};
+use fuse_rows::{CAPACITY_END, Change, Counters, EntryRow, HandleRow, MAX_FILE, NodeRow, Room};
 
 // All numbers of nodes, handles, cookies and ids in the tables are below it: an INTEGER of SQLite
 // has 63 bits and a sign.

@@ -5,16 +5,16 @@ ghost use Rattle.sqlite.specs.State.{HasCleanDisk};
 ghost use Rattle.sqlite.specs.Held.{state};
 ghost use Rattle.fuse_store_tables.specs.Content.{Content, Counter, shown_counter};
 ghost use Rattle.fuse_store_tables.specs.Faults.{IsOutside, IsPlain};
-ghost use Rattle.fuse_store_tables.specs.Moves.{Inside, Looked, Stays};
+ghost use Rattle.fuse_store_tables.specs.Moves.{Inside, LookedInside, Stays};
 ghost use Rattle.fuse_store_tree.specs.inner.Reading.{value_of, counted_in, agreed_in};
-ghost use Rattle.fuse_store_tree.specs.inner.Reading.{room_in};
+ghost use Rattle.fuse_store_tree.specs.inner.Reading.{room_of_counters};
 ghost use Rattle.fuse_store_tree.specs.inner.Knowing.{meta_in};
 
 use crate::meta::Meta;
 use fuse_init::Settings;
 use fuse_keeper::StoreFault;
+use fuse_rows::{Counters, Room};
 use fuse_store_tables::{number_at, select_counters};
-use fuse_tree::{Counters, Room};
 use fuse_wire::InitFlags;
 use sqlite::{Alter, Connection, Row};
 
@@ -53,7 +53,7 @@ const WITH_ROOM: usize = 14;
 // The room, where there is one.
 pub(crate) fn read_room(rows: &[Row]) -> Result<Option<Room>, StoreFault>
     ensures value { IfOk result (λ r. (cs : List Counter) → rows.now ≡ map shown_counter cs
-        → r ≡ room_in cs) }
+        → r ≡ room_of_counters cs) }
     ensures fault { IfErr result (λ f. (cs : List Counter) → rows.now ≡ map shown_counter cs
         → IsOutside f) }
     ensures plain { IfErr result IsPlain }
@@ -124,7 +124,7 @@ fn read_meta(rows: &[Row]) -> Result<Meta, StoreFault>
 
 /// The counters and the settings.
 pub(crate) fn find_meta<S: Alter>(conn: &mut Connection<S>) -> Result<Meta, StoreFault>
-    ensures looks { OnOk result (Looked (state S.Store conn.old) (state S.Store conn.new)) }
+    ensures looks { OnOk result (LookedInside (state S.Store conn.old) (state S.Store conn.new)) }
     ensures fails { OnErr result (Stays (state S.Store conn.old) (state S.Store conn.new)) }
     ensures value { HasCleanDisk (state S.Store conn.new) → IfOk result (λ r. (c : Content)
         → Inside c (state S.Store conn.old) → r ≡ meta_in c.counters) }

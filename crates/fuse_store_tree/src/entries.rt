@@ -4,18 +4,18 @@ ghost use Rattle.std.specs.Prelude.{take, filter, length, IfSome, IfOk, IfErr, O
 ghost use Rattle.std.specs.List.{AllByRecursion};
 ghost use Rattle.sqlite.specs.State.{HasCleanDisk};
 ghost use Rattle.sqlite.specs.Held.{state};
-ghost use Rattle.fuse_tree.specs.declared.rows.EntryRow.{EntryRow as Entry};
+ghost use Rattle.fuse_rows.specs.declared.rows.EntryRow.{EntryRow as Entry};
 ghost use Rattle.fuse_store_tables.specs.Content.{Content, shown_entry, stands_after};
-ghost use Rattle.fuse_tree.specs.declared.rows.Child.{Child as Beside};
+ghost use Rattle.fuse_rows.specs.declared.rows.Child.{Child as Beside};
 ghost use Rattle.fuse_store_tree.specs.Fits.{Fits, KeepsNode};
 ghost use Rattle.fuse_store_tree.specs.inner.Reading.{child_in, shown_beside, IsReadBack};
 ghost use Rattle.fuse_store_tables.specs.Faults.{IsOutside, IsPlain};
-ghost use Rattle.fuse_store_tables.specs.Moves.{Inside, Looked, Stays};
+ghost use Rattle.fuse_store_tables.specs.Moves.{Inside, LookedInside, Stays};
 
 use crate::bounds::END;
 use fuse_keeper::StoreFault;
+use fuse_rows::{Child, EntryRow};
 use fuse_store_tables::{bytes_at, node_if_any, number_at, select_after, select_children};
-use fuse_tree::{Child, EntryRow};
 use fuse_wire::ByteList;
 use sqlite::{Alter, Connection, Row};
 use std::alloc::Global;
@@ -81,7 +81,7 @@ pub(crate) fn find_after<S: Alter>(
     cookie: u64,
     limit: usize,
 ) -> Result<Vec<EntryRow>, StoreFault>
-    ensures looks { OnOk result (Looked (state S.Store conn.old) (state S.Store conn.new)) }
+    ensures looks { OnOk result (LookedInside (state S.Store conn.old) (state S.Store conn.new)) }
     ensures fails { OnErr result (Stays (state S.Store conn.old) (state S.Store conn.new)) }
     ensures value { HasCleanDisk (state S.Store conn.new) → IfOk result (λ v. (c : Content)
         → Inside c (state S.Store conn.old) → Fits c
@@ -153,7 +153,7 @@ pub(crate) fn find_children<S: Alter>(
     cookie: u64,
     limit: usize,
 ) -> Result<Vec<Child>, StoreFault>
-    ensures looks { OnOk result (Looked (state S.Store conn.old) (state S.Store conn.new)) }
+    ensures looks { OnOk result (LookedInside (state S.Store conn.old) (state S.Store conn.new)) }
     ensures fails { OnErr result (Stays (state S.Store conn.old) (state S.Store conn.new)) }
     ensures value { HasCleanDisk (state S.Store conn.new) → IfOk result (λ v. (c : Content)
         → Inside c (state S.Store conn.old) → Fits c

@@ -12,7 +12,7 @@ use crate::look::LastNode;
 use crate::rows::find_node;
 use crate::truncation::set_size;
 use fuse_keeper::StoreFault;
-use fuse_tree::{Change, MAX_FILE};
+use fuse_rows::{Change, MAX_FILE};
 use sqlite::{Alter, Connection};
 use std::alloc::Global;
 

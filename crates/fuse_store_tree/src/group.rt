@@ -6,7 +6,7 @@ ghost use Rattle.sqlite.specs.Held.{state};
 ghost use Rattle.fuse_keeper.specs.Group.{entries_of, ids_of};
 ghost use Rattle.fuse_store_tables.specs.inner.Performing.{IsSure};
 ghost use Rattle.fuse_store_tables.specs.Faults.{IsPlain};
-ghost use Rattle.fuse_store_tree.specs.Looking.{look_fault};
+ghost use Rattle.fuse_store_tree.specs.Looking.{as_look_fault};
 ghost use Rattle.fuse_store_tree.specs.Holding.{Holding};
 ghost use Rattle.fuse_store_tree.specs.Knowing.{HeldForKnown};
 ghost use Rattle.fuse_store_tree.specs.inner.Changing.{InsideFor, Turned, IsSureFor};
@@ -40,7 +40,7 @@ fn take_all<S: Alter>(
     lot: u64,
     group: &[(Request<'_>, Moment)],
 ) -> Result<Vec<Done>, StoreFault>
-    requires ready { look_fault look.old.fault ≡ None }
+    requires ready { as_look_fault look.old.fault ≡ None }
     requires lot { lot < 2 ^ 62 }
     ensures count { IfOk result (λ dones. length dones.items ≡ length group.now) }
     ensures turned { OnOk result (TurnedKnown look.old.known look.new.known
@@ -51,7 +51,7 @@ fn take_all<S: Alter>(
         → dones.items ≡ dones_of lot (entries_of group.now) y) }
     ensures fails { OnErr result (Stays (state S.Store look.old.conn)
         (state S.Store look.new.conn)) }
-    ensures ready { look_fault look.new.fault ≡ None }
+    ensures ready { as_look_fault look.new.fault ≡ None }
     ensures fault { IsSure (HeldForKnown look.old.known) (state S.Store look.old.conn)
         (state S.Store look.new.conn) result }
     ensures plain { IfErr result IsPlain }
@@ -98,7 +98,7 @@ pub(crate) fn perform_in<S: Alter>(
     group: &[(Request<'_>, Moment)],
     settled: &[Id],
 ) -> Result<Performed, StoreFault>
-    requires ready { look_fault look.old.fault ≡ None }
+    requires ready { as_look_fault look.old.fault ≡ None }
     requires lot { IfSome lot (λ n. n < 2 ^ 62) }
     ensures count { IfOk result (λ p. length p.dones.items ≡ length group.now) }
     ensures turned { OnOk result (TurnedKnown look.old.known look.new.known
@@ -113,7 +113,7 @@ pub(crate) fn perform_in<S: Alter>(
     // Nothing is committed, whether it succeeds or not.
     ensures fails { OnErr result (Stays (state S.Store look.old.conn)
         (state S.Store look.new.conn)) }
-    ensures ready { look_fault look.new.fault ≡ None }
+    ensures ready { as_look_fault look.new.fault ≡ None }
     // Of a store that was sound, the fault is `Damaged` only where no lot number is left.
     ensures fault { IsSureKnown look.old.known lot (state S.Store look.old.conn)
         (state S.Store look.new.conn) result }

@@ -4,18 +4,18 @@ ghost use Rattle.std.specs.Prelude.{IfOk, IfErr, OnOk, OnErr};
 ghost use Rattle.std.specs.List.{AllByRecursion};
 ghost use Rattle.sqlite.specs.State.{HasCleanDisk};
 ghost use Rattle.sqlite.specs.Held.{state};
-ghost use Rattle.fuse_tree.specs.declared.rows.HandleRow.{HandleRow as Handle};
+ghost use Rattle.fuse_rows.specs.declared.rows.HandleRow.{HandleRow as Handle};
 ghost use Rattle.fuse_store_tables.specs.Content.{Content, shown_open, is_handle_of};
 ghost use Rattle.fuse_store_tree.specs.Fits.{Fits};
 ghost use Rattle.fuse_store_tables.specs.Faults.{IsOutside, IsPlain};
-ghost use Rattle.fuse_store_tables.specs.Moves.{Inside, Looked, Stays};
+ghost use Rattle.fuse_store_tables.specs.Moves.{Inside, LookedInside, Stays};
 
 use crate::bounds::END;
 use crate::entries::{MOST, is_too_long, most_of};
 use crate::rows::access_at;
 use fuse_keeper::StoreFault;
+use fuse_rows::HandleRow;
 use fuse_store_tables::{number_at, select_handles_of};
-use fuse_tree::HandleRow;
 use sqlite::{Alter, Connection, Row};
 use std::alloc::Global;
 
@@ -55,7 +55,7 @@ pub(crate) fn find_handles_of<S: Alter>(
     node: u64,
     limit: usize,
 ) -> Result<Vec<HandleRow>, StoreFault>
-    ensures looks { OnOk result (Looked (state S.Store conn.old) (state S.Store conn.new)) }
+    ensures looks { OnOk result (LookedInside (state S.Store conn.old) (state S.Store conn.new)) }
     ensures fails { OnErr result (Stays (state S.Store conn.old) (state S.Store conn.new)) }
     ensures value { HasCleanDisk (state S.Store conn.new) → IfOk result (λ v. (c : Content)
         → Inside c (state S.Store conn.old) → Fits c

@@ -5,11 +5,12 @@ ghost use Rattle.sqlite.specs.State.{HasCleanDisk};
 ghost use Rattle.sqlite.specs.Held.{state};
 ghost use Rattle.fuse_store_tables.specs.Faults.{IsOutside, IsPlain};
 ghost use Rattle.fuse_store_tables.specs.Moves.{Stays};
-ghost use Rattle.fuse_tree.specs.Bounds.{file_limit};
-ghost use Rattle.fuse_tree.specs.Rows.{Rows, IsRowed, row_at, bytes_at};
+ghost use Rattle.fuse_rows.specs.Bounds.{file_limit};
+ghost use Rattle.fuse_rows.specs.Rows.{Rows, row_at, bytes_at};
+ghost use Rattle.fuse_tree.specs.Rowed.{IsRowed};
 ghost use Rattle.fuse_store_tree.specs.Holding.{Holding};
 ghost use Rattle.fuse_store_tree.specs.Knowing.{Knows, Recalls, meta_of};
-ghost use Rattle.fuse_store_tree.specs.Looking.{look_fault, told_as, sees_in, WentWell};
+ghost use Rattle.fuse_store_tree.specs.Looking.{as_look_fault, told_as, sees_in, WentWell};
 ghost use Rattle.fuse_store_tree.specs.inner.Changing.{InsideFor};
 
 use crate::block_reads::{find_bytes, find_sized};
@@ -20,9 +21,8 @@ use crate::handles::find_handles_of;
 use crate::meta::{Meta, agreement_of};
 use crate::rows::{find_entry, find_handle, find_node};
 use fuse_keeper::StoreFault;
-use fuse_tree::{
-    Agreement, Child, Counters, EntryRow, HandleRow, Look, LookFault, MAX_FILE, NodeRow,
-};
+use fuse_rows::{Child, Counters, EntryRow, HandleRow, MAX_FILE, NodeRow};
+use fuse_tree::{Agreement, Look, LookFault};
 use fuse_wire::ByteList;
 use sqlite::{Alter, Connection};
 use std::alloc::Global;
@@ -65,7 +65,7 @@ impl<S: Alter> TableLook<S> {
     /// Allocates nothing.
     pub fn new(alloc: Global, conn: Connection<S>) -> TableLook<S>
         ensures conn { result.conn ≡ conn }
-        ensures fault { look_fault result.fault ≡ None }
+        ensures fault { as_look_fault result.fault ≡ None }
         ensures known { result.known ≡ None }
         ensures last { result.last ≡ None }
     {
@@ -81,7 +81,7 @@ impl<S: Alter> TableLook<S> {
     /// The fault of the first read that failed, which is then forgotten.
     pub(crate) fn take_fault(&mut self) -> Option<StoreFault>
         ensures was { result ≡ self.old.fault }
-        ensures fault { look_fault self.new.fault ≡ None }
+        ensures fault { as_look_fault self.new.fault ≡ None }
         ensures conn { self.new.conn ≡ self.old.conn }
     {
         self.fault.take()
@@ -152,7 +152,7 @@ impl<S: Alter> TableLook<S> {
     // Keeps the fault.
     fn fail(&mut self, fault: StoreFault) -> LookFault
         ensures kept { self.new.fault ≡ Some fault }
-        ensures fault { look_fault self.new.fault ≡ Some result }
+        ensures fault { as_look_fault self.new.fault ≡ Some result }
         ensures conn { self.new.conn ≡ self.old.conn }
     {
         let known = told_fault(&fault);
@@ -168,7 +168,7 @@ impl<S: Alter> Look for TableLook<S> {
 
     ghost sees = { λ k rows. sees_with k.known k.last (state S.Store k.conn) rows };
 
-    ghost fault = { λ k. look_fault k.fault };
+    ghost fault = { λ k. as_look_fault k.fault };
 
     ghost is_clean = { λ k. HasCleanDisk (state S.Store k.conn) };
 

@@ -4,7 +4,8 @@ ghost use Rattle.fuse_store_tree.specs.inner.Knowing.{agreed_on, known_after};
 ghost use Rattle.fuse_store_tree.specs.inner.Writing.{room_over};
 
 use fuse_init::Settings;
-use fuse_tree::{Agreement, Change, Counters, Room};
+use fuse_rows::{Change, Counters, Room};
+use fuse_tree::Agreement;
 
 /// The counters of a store, and the settings that INIT agreed on.
 #[derive(Clone, Copy, Debug, PartialEq, Eq)]

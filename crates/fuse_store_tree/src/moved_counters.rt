@@ -2,12 +2,12 @@
 ghost use Rattle.std.specs.Prelude.{◌<◌, ◌^◌, IfSome};
 ghost use Rattle.sqlite.specs.Held.{state};
 ghost use Rattle.fuse_store_tables.specs.Moves.{Makes};
-ghost use Rattle.fuse_tree.specs.Columns.{FitsCounters, FitsRoom};
+ghost use Rattle.fuse_rows.specs.Columns.{FitsCounters, FitsRoom};
 ghost use Rattle.fuse_store_tree.specs.inner.Knowing.{moved, used_moved, ids_moved, sums_moved};
 ghost use Rattle.fuse_store_tree.specs.inner.Knowing.{numbers_moved, space_moved, counters_moved};
 
+use fuse_rows::{Counters, Room};
 use fuse_store_tables::{HANDLES, NEXT_NODE, USED, update_counter};
-use fuse_tree::{Counters, Room};
 use sqlite::{Alter, Connection, Error};
 
 // The keys that follow `NEXT_NODE`.

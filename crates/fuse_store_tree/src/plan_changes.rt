@@ -1,7 +1,7 @@
 // The changes of a plan, made in the tables.
 ghost use Rattle.std.specs.Prelude.{IfErr, IfOk, OnOk, OnErr};
 ghost use Rattle.sqlite.specs.Held.{state};
-ghost use Rattle.fuse_tree.specs.Columns.{FitsChange, FitColumns};
+ghost use Rattle.fuse_rows.specs.Columns.{FitsChange, FitColumns};
 ghost use Rattle.fuse_store_tables.specs.inner.Performing.{IsSure};
 ghost use Rattle.fuse_store_tables.specs.Faults.{IsPlain};
 ghost use Rattle.fuse_store_tree.specs.inner.Knowing.{ChangedKnown, HeldKnown, known_after};
@@ -18,7 +18,7 @@ use crate::updates::{
     add_entry, add_handle, put_node, remove_entry, remove_handle, set_counters, set_settings,
 };
 use fuse_keeper::StoreFault;
-use fuse_tree::Change;
+use fuse_rows::Change;
 use sqlite::{Alter, Connection};
 use std::alloc::Global;
 

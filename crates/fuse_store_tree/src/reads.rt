@@ -2,7 +2,7 @@
 ghost use Rattle.std.specs.Prelude.{◌≡◌, length, IfOk, IfErr};
 ghost use Rattle.std.specs.List.{sum_by};
 ghost use Rattle.sqlite.specs.Held.{state};
-ghost use Rattle.fuse_tree.specs.Rows.{rowed};
+ghost use Rattle.fuse_tree.specs.Rowed.{rowed};
 ghost use Rattle.fuse_tree.specs.Space.{room_of};
 ghost use Rattle.fuse_store_tables.specs.Faults.{IsPlain};
 ghost use Rattle.fuse_store_tables.specs.Moves.{ServesAs, StaysOpen, IsSafe, OnlyReads};
@@ -16,8 +16,8 @@ use crate::rows::read_answer;
 use fuse_answer::Answer;
 use fuse_init::Settings;
 use fuse_keeper::{StoreCounts, StoreFault};
+use fuse_rows::{Counters, Room};
 use fuse_store_tables::{count_kept, count_lots, select_counters, select_kept, sum_sizes};
-use fuse_tree::{Counters, Room};
 use sqlite::{Alter, Connection};
 
 /// The answer in the record of this id. No record has an id from 2^63 on.

@@ -1,7 +1,7 @@
 // Removal of nodes.
 ghost use Rattle.std.specs.Prelude.{◌<◌, ◌^◌, OnOk, OnErr, IfErr};
 ghost use Rattle.sqlite.specs.Held.{state};
-ghost use Rattle.fuse_tree.specs.declared.rows.Change.TheVariants as changes;
+ghost use Rattle.fuse_rows.specs.declared.rows.Change.TheVariants as changes;
 ghost use Rattle.fuse_store_tables.specs.Faults.{IsOutside, IsPlain};
 ghost use Rattle.fuse_store_tree.specs.inner.Changing.{Changed};
 ghost use Rattle.fuse_store_tree.specs.inner.Writing.{with_change};

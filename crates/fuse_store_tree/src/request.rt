@@ -6,12 +6,12 @@ ghost use Rattle.fuse_answer.specs.Said.{FitsAnswer};
 ghost use Rattle.fuse_keeper.specs.Group.{entry_of};
 ghost use Rattle.fuse_store_tables.specs.Faults.{IsOutside, IsPlain};
 ghost use Rattle.fuse_store_tables.specs.inner.Performing.{IsSure};
-ghost use Rattle.fuse_store_tree.specs.Looking.{look_fault};
+ghost use Rattle.fuse_store_tree.specs.Looking.{as_look_fault};
 ghost use Rattle.fuse_store_tree.specs.Holding.{Holding};
 ghost use Rattle.fuse_store_tree.specs.Knowing.{HeldForKnown};
 ghost use Rattle.fuse_store_tree.specs.inner.Changing.{Turned};
 ghost use Rattle.fuse_store_tree.specs.inner.Knowing.{InsideKnown, TurnedKnown};
-ghost use Rattle.fuse_store_tree.specs.Group.{acted_on, answered, taken, with_record};
+ghost use Rattle.fuse_store_tree.specs.Group.{acted_on, done_newly, taken, with_record};
 ghost use Rattle.fuse_store_tree.specs.Group.{said_of};
 ghost use Rattle.fuse_store_tables.specs.Moves.{Stays};
 
@@ -65,17 +65,17 @@ fn act_and_record<S: Alter>(
     request: &Request<'_>,
     now: Moment,
 ) -> Result<Done, StoreFault>
-    requires ready { look_fault look.old.fault ≡ None }
+    requires ready { as_look_fault look.old.fault ≡ None }
     requires lot { lot < 2 ^ 62 }
     ensures turned { OnOk result (TurnedKnown look.old.known look.new.known
         (acted_on lot (entry_of (request.now, now))) (state S.Store look.old.conn)
         (state S.Store look.new.conn)) }
     ensures done { HasCleanDisk (state S.Store look.new.conn) → IfOk result (λ done.
         (y : Holding) → InsideKnown look.old.known y (state S.Store look.old.conn)
-        → done ≡ answered (said_of (entry_of (request.now, now)) y)) }
+        → done ≡ done_newly (said_of (entry_of (request.now, now)) y)) }
     ensures fails { OnErr result (Stays (state S.Store look.old.conn)
         (state S.Store look.new.conn)) }
-    ensures ready { look_fault look.new.fault ≡ None }
+    ensures ready { as_look_fault look.new.fault ≡ None }
     ensures fault { IsSure (HeldForKnown look.old.known) (state S.Store look.old.conn)
         (state S.Store look.new.conn) result }
     ensures plain { IfErr result IsPlain }
@@ -102,7 +102,7 @@ pub(crate) fn take_one<S: Alter>(
     request: &Request<'_>,
     now: Moment,
 ) -> Result<Done, StoreFault>
-    requires ready { look_fault look.old.fault ≡ None }
+    requires ready { as_look_fault look.old.fault ≡ None }
     requires lot { lot < 2 ^ 62 }
     ensures turned { OnOk result (TurnedKnown look.old.known look.new.known
         (λ y. (taken lot (entry_of (request.now, now)) y).holding)
@@ -112,7 +112,7 @@ pub(crate) fn take_one<S: Alter>(
         → done ≡ (taken lot (entry_of (request.now, now)) y).done) }
     ensures fails { OnErr result (Stays (state S.Store look.old.conn)
         (state S.Store look.new.conn)) }
-    ensures ready { look_fault look.new.fault ≡ None }
+    ensures ready { as_look_fault look.new.fault ≡ None }
     ensures fault { IsSure (HeldForKnown look.old.known) (state S.Store look.old.conn)
         (state S.Store look.new.conn) result }
     ensures plain { IfErr result IsPlain }

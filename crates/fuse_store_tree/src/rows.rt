@@ -8,23 +8,23 @@ ghost use Rattle.sqlite.specs.declared.types.Value.TheVariants.{Int};
 ghost use Rattle.sqlite.specs.State.{HasCleanDisk};
 ghost use Rattle.sqlite.specs.Held.{state};
 ghost use Rattle.fuse_answer.specs.Said.{FitsAnswer};
-ghost use Rattle.fuse_tree.specs.declared.rows.NodeRow.{NodeRow as Node};
-ghost use Rattle.fuse_tree.specs.declared.rows.EntryRow.{EntryRow as Entry};
-ghost use Rattle.fuse_tree.specs.declared.rows.HandleRow.{HandleRow as Handle};
+ghost use Rattle.fuse_rows.specs.declared.rows.NodeRow.{NodeRow as Node};
+ghost use Rattle.fuse_rows.specs.declared.rows.EntryRow.{EntryRow as Entry};
+ghost use Rattle.fuse_rows.specs.declared.rows.HandleRow.{HandleRow as Handle};
 ghost use Rattle.fuse_store_tables.specs.Content.{Content, Kept, node_columns, node_key, fh_of, kept_key};
 ghost use Rattle.fuse_store_tables.specs.Content.{shown_handle, shown_kept, shown_place};
 ghost use Rattle.fuse_store_tables.specs.Content.{has_name, at_by, access_code};
 ghost use Rattle.fuse_store_tree.specs.Fits.{Fits, KeepsNode, KeepsRecord};
 ghost use Rattle.fuse_store_tables.specs.Faults.{IsOutside, IsPlain};
-ghost use Rattle.fuse_store_tables.specs.Moves.{Inside, Looked, Stays};
+ghost use Rattle.fuse_store_tables.specs.Moves.{Inside, LookedInside, Stays};
 
 use crate::bounds::END;
 use fuse_answer::{Answer, MAX_BODY};
 use fuse_keeper::StoreFault;
+use fuse_rows::{EntryRow, HandleRow, NodeRow};
 use fuse_store_tables::{
     bytes_at, node_at, number_at, select_handle, select_kept, select_named, select_node, small_at,
 };
-use fuse_tree::{EntryRow, HandleRow, NodeRow};
 use fuse_wire::{AccessMode, ByteList, Errno};
 use sqlite::{Alter, Connection, Row};
 use std::alloc::Global;
@@ -161,7 +161,7 @@ pub(crate) fn find_node<S: Alter>(
     conn: &mut Connection<S>,
     number: u64,
 ) -> Result<Option<NodeRow>, StoreFault>
-    ensures looks { OnOk result (Looked (state S.Store conn.old) (state S.Store conn.new)) }
+    ensures looks { OnOk result (LookedInside (state S.Store conn.old) (state S.Store conn.new)) }
     ensures fails { OnErr result (Stays (state S.Store conn.old) (state S.Store conn.new)) }
     ensures value { HasCleanDisk (state S.Store conn.new) → IfOk result (λ r. (c : Content)
         → Inside c (state S.Store conn.old) → Fits c → r ≡ at_by node_key number c.nodes) }
@@ -181,7 +181,7 @@ pub(crate) fn find_handle<S: Alter>(
     conn: &mut Connection<S>,
     fh: u64,
 ) -> Result<Option<HandleRow>, StoreFault>
-    ensures looks { OnOk result (Looked (state S.Store conn.old) (state S.Store conn.new)) }
+    ensures looks { OnOk result (LookedInside (state S.Store conn.old) (state S.Store conn.new)) }
     ensures fails { OnErr result (Stays (state S.Store conn.old) (state S.Store conn.new)) }
     ensures value { HasCleanDisk (state S.Store conn.new) → IfOk result (λ r. (c : Content)
         → Inside c (state S.Store conn.old) → Fits c → r ≡ at_by fh_of fh c.handles) }
@@ -202,7 +202,7 @@ pub(crate) fn find_answer<S: Alter>(
     id: u64,
 ) -> Result<Option<Answer>, StoreFault>
     requires { id < 2 ^ 63 }
-    ensures looks { OnOk result (Looked (state S.Store conn.old) (state S.Store conn.new)) }
+    ensures looks { OnOk result (LookedInside (state S.Store conn.old) (state S.Store conn.new)) }
     ensures fails { OnErr result (Stays (state S.Store conn.old) (state S.Store conn.new)) }
     ensures value { HasCleanDisk (state S.Store conn.new) → IfOk result (λ r. (c : Content)
         → Inside c (state S.Store conn.old) → Fits c
@@ -222,7 +222,7 @@ pub(crate) fn find_entry<S: Alter>(
     dir: u64,
     name: &[u8],
 ) -> Result<Option<EntryRow>, StoreFault>
-    ensures looks { OnOk result (Looked (state S.Store conn.old) (state S.Store conn.new)) }
+    ensures looks { OnOk result (LookedInside (state S.Store conn.old) (state S.Store conn.new)) }
     ensures fails { OnErr result (Stays (state S.Store conn.old) (state S.Store conn.new)) }
     ensures value { HasCleanDisk (state S.Store conn.new) → IfOk result (λ r. (c : Content)
         → Inside c (state S.Store conn.old) → Fits c → r ≡ find (has_name dir name.now) c.entries) }

@@ -5,12 +5,12 @@ ghost use Rattle.sqlite.specs.State.{HasCleanDisk, KeepsCommit};
 ghost use Rattle.sqlite.specs.Held.{state};
 ghost use Rattle.fuse_keeper.specs.Group.{entries_of, ids_of};
 ghost use Rattle.fuse_store_tables.specs.Moves.{ServesAs, StaysOpen, LeavesAlone, RollsBack};
+ghost use Rattle.fuse_store_tables.specs.Moves.{CommitsOnce};
 ghost use Rattle.fuse_store_tables.specs.Saying.{IsRefusal};
-ghost use Rattle.fuse_store_tables.specs.inner.Performing.{CommitsNothing, PerformsAs};
+ghost use Rattle.fuse_store_tables.specs.inner.Performing.{CommitsNothing, TransactsAs};
 ghost use Rattle.fuse_store_tables.specs.Faults.{IsPlain};
-ghost use Rattle.fuse_store_tree.specs.Looking.{look_fault};
+ghost use Rattle.fuse_store_tree.specs.Looking.{as_look_fault};
 ghost use Rattle.fuse_store_tree.specs.Holding.{ReportsAfter};
-ghost use Rattle.fuse_store_tree.specs.Committing.{CommitsOnce};
 ghost use Rattle.fuse_store_tree.specs.Knowing.{HeldForKnown, ReportsKnown, IsSafeKnown};
 ghost use Rattle.fuse_store_tree.specs.Group.{performed, all_dones, lot_for};
 
@@ -31,10 +31,10 @@ fn transact<S: Alter>(
     group: &[(Request<'_>, Moment)],
     settled: &[Id],
 ) -> Result<Performed, StoreFault>
-    requires ready { look_fault look.old.fault ≡ None }
+    requires ready { as_look_fault look.old.fault ≡ None }
     requires lot { IfSome lot (λ n. n < 2 ^ 62) }
     ensures count { IfOk result (λ p. length p.dones.items ≡ length group.now) }
-    ensures performs { PerformsAs (HeldForKnown look.old.known) (λ y. HeldForKnown look.new.known
+    ensures performs { TransactsAs (HeldForKnown look.old.known) (λ y. HeldForKnown look.new.known
         (performed lot (ids_of settled.now) (entries_of group.now) y))
         (state S.Store look.old.conn) (state S.Store look.new.conn) result }
     ensures open { StaysOpen (state S.Store look.old.conn) (state S.Store look.new.conn) result }
@@ -46,7 +46,7 @@ fn transact<S: Alter>(
     ensures dones { IfOk result (λ p. ReportsKnown look.old.known (state S.Store look.old.conn)
         (state S.Store look.new.conn) (λ y. p.dones.items
         ≡ all_dones lot (ids_of settled.now) (entries_of group.now) y)) }
-    ensures ready { look_fault look.new.fault ≡ None }
+    ensures ready { as_look_fault look.new.fault ≡ None }
     ensures fault { IsSafeKnown look.old.known lot (state S.Store look.old.conn)
         (state S.Store look.new.conn) result }
     ensures refused { IfErr result (λ f. IsRefusal f
@@ -80,7 +80,7 @@ pub fn perform<S: Alter>(
     group: &[(Request<'_>, Moment)],
     settled: &[Id],
 ) -> Result<Performed, StoreFault>
-    requires ready { look_fault look.old.fault ≡ None }
+    requires ready { as_look_fault look.old.fault ≡ None }
     requires lot { IfSome lot (λ n. n < 2 ^ 62) }
     ensures count { IfOk result (λ p. length p.dones.items ≡ length group.now) }
     ensures serves { ServesAs (HeldForKnown look.old.known) (λ y. HeldForKnown look.new.known
@@ -96,7 +96,7 @@ pub fn perform<S: Alter>(
     ensures dones { IfOk result (λ p. ReportsKnown look.old.known (state S.Store look.old.conn)
         (state S.Store look.new.conn) (λ y. p.dones.items
         ≡ all_dones lot (ids_of settled.now) (entries_of group.now) y)) }
-    ensures ready { look_fault look.new.fault ≡ None }
+    ensures ready { as_look_fault look.new.fault ≡ None }
     ensures forgets { OnErr result (look.new.known ≡ None) }
     // Of a store that was sound, the fault is `Damaged` only where no lot number is left.
     ensures fault { IsSafeKnown look.old.known lot (state S.Store look.old.conn)

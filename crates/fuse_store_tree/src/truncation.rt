@@ -2,8 +2,8 @@
 ghost use Rattle.std.specs.Prelude.{◌≡◌, ◌<◌, ◌≤◌, ◌^◌, ◌*◌, ◌%◌, ◌-◌, replicate};
 ghost use Rattle.std.specs.Prelude.{OnOk, OnErr, IfOk, IfErr};
 ghost use Rattle.sqlite.specs.Held.{state};
-ghost use Rattle.fuse_tree.specs.Bounds.{block_bytes, file_limit};
-ghost use Rattle.fuse_tree.specs.declared.rows.Change.TheVariants as changes;
+ghost use Rattle.fuse_rows.specs.Bounds.{block_bytes, file_limit};
+ghost use Rattle.fuse_rows.specs.declared.rows.Change.TheVariants as changes;
 ghost use Rattle.fuse_store_tables.specs.Faults.{IsOutside, IsPlain};
 ghost use Rattle.fuse_store_tables.specs.inner.Performing.{IsSure};
 ghost use Rattle.fuse_store_tree.specs.inner.Changing.{Changed, Cut};
@@ -13,8 +13,8 @@ ghost use Rattle.fuse_store_tables.specs.Moves.{Stays};
 
 use crate::block_writes::write_zeros;
 use fuse_keeper::StoreFault;
+use fuse_rows::BLOCK_SIZE;
 use fuse_store_tables::delete_blocks_from;
-use fuse_tree::BLOCK_SIZE;
 use sqlite::{Alter, Connection};
 use std::alloc::Global;
 

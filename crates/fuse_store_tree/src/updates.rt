@@ -3,12 +3,12 @@ ghost use Rattle.std.specs.Prelude.{◌<◌, ◌^◌, ◌+◌, Some, OnOk, OnErr
 ghost use Rattle.std.specs.Prelude.{IfErr, IfSome};
 ghost use Rattle.sqlite.specs.State.{HasCleanDisk};
 ghost use Rattle.sqlite.specs.Held.{state};
-ghost use Rattle.fuse_tree.specs.declared.rows.Change.TheVariants as changes;
+ghost use Rattle.fuse_rows.specs.declared.rows.Change.TheVariants as changes;
 ghost use Rattle.fuse_store_tables.specs.Faults.{IsOutside, IsPlain};
 ghost use Rattle.fuse_store_tree.specs.inner.Changing.{Changed};
 ghost use Rattle.fuse_store_tables.specs.Content.{Content, IsTime, HasWidths, set_counter};
-ghost use Rattle.fuse_tree.specs.Columns.{FitsNode, FitsEntry, FitsHandle, FitsCounters};
-ghost use Rattle.fuse_tree.specs.Columns.{FitsRoom};
+ghost use Rattle.fuse_rows.specs.Columns.{FitsNode, FitsEntry, FitsHandle, FitsCounters};
+ghost use Rattle.fuse_rows.specs.Columns.{FitsRoom};
 ghost use Rattle.fuse_store_tables.specs.Moves.{Inside, Makes, Stays};
 ghost use Rattle.fuse_store_tree.specs.inner.Knowing.{ChangedKnown, known_after, counters_written};
 ghost use Rattle.fuse_store_tree.specs.inner.Writing.{with_change, with_used};
@@ -17,11 +17,11 @@ use crate::meta::Meta;
 use crate::moved_counters::move_counters;
 use fuse_init::Settings;
 use fuse_keeper::StoreFault;
+use fuse_rows::{Counters, EntryRow, HandleRow, NodeRow, Room};
 use fuse_store_tables::{
     AGREED, HANDLES, NEXT_NODE, USED, delete_entry, delete_handle, insert_entry, insert_handle,
     update_counter,
 };
-use fuse_tree::{Counters, EntryRow, HandleRow, NodeRow, Room};
 use fuse_wire::Moment;
 use sqlite::{Alter, Connection, Error};
 

@@ -1,18 +1,15 @@
 -- The blocks in use, and the room that is left.
-use Rattle.std.proofs.Common.{◌≡◌, ◌<◌, ◌≤◌, ◌+◌, ◌-◌, ◌==◌, ℕ, Bool, true, false, not, cond, eqb, List, [], ◌∷◌, ◌++◌, length, map, Option, Some, None, refl, sym, ap}
-use Rattle.std.proofs.Common.{◌∙◌, subst, inl, inr, arith}
+use Rattle.std.proofs.Common.{◌≡◌, ◌<◌, ◌≤◌, ◌+◌, ◌-◌, ◌==◌, ℕ, Bool, true, false, not, cond, eqb, List, [], ◌∷◌, ◌++◌, length, map, Option, Some, None, refl, ap, ◌∙◌, subst, inl, inr, arith}
 use Rattle.std.specs.Prelude.{find, filter, IfSome}
 use Rattle.std.specs.Option.{option_map}
 use Rattle.std.specs.List.{AllByRecursion, sum_by}
 use Rattle.std.proofs.lemmas.Bool.{ne_eqb, eqb-true, leb-true}
 use Rattle.std.proofs.lemmas.List.Sums.{sum_by-append, sum_by-cons}
-use Rattle.fuse_tree.specs.declared.rows.Room.{Room}
-use Rattle.fuse_tree.specs.declared.rows.Full.{Full}
-use Rattle.fuse_tree.specs.State.{State, Node, Apart, FitsCapacity, profile_for, blocks_for, used_of}
-use Rattle.fuse_tree.specs.Rows.{Rows, rows_of_state, counters_of, apply}
+use Rattle.fuse_rows.specs.declared.rows.Room.{Room}
+use Rattle.fuse_tree.specs.State.{State, Node, Apart, FitsCapacity, blocks_for, used_of}
+use Rattle.fuse_tree.specs.Rowed.{rows_of_state, counters_of}
 use Rattle.fuse_tree.specs.Space.{room_of, used_after, has_room}
 use Rattle.fuse_tree.specs.Changing.{changed_at}
-use Rattle.fuse_tree.specs.inner.PlanSpace.{counters_for, room_after, room_changes}
 use Rattle.fuse_tree.proofs.Lists.{cond_found}
 
 abbrev pub blocks_of : Node → ℕ
@@ -120,19 +117,3 @@ pub recounted : (t : State) (n : ℕ) (r : Option Room) → n ≡ length t.nodes
 recounted t n r count room =
     ap (λ (k : ℕ). record (rows_of_state t) { counters = record (counters_of t) { nodes = k; room = r } }) count
     ∙ ap (λ (q : Option Room). record (rows_of_state t) { counters = record (counters_of t) { room = q } }) room
-
--- a size changes, and all else stays as it was counted
-pub room_sized : (o : Option ℕ) (used from to : ℕ) → option_map (room_after from to) (option_map (room_with used) o) ≡ option_map
-    (room_with (used_after used from to)) o
-room_sized None used from to = refl
-room_sized (Some c) used from to = refl
-
-pub sized_rows : (before : Rows) (ns : List Full) (from to : ℕ) (o : Option ℕ) (used : ℕ) → before.counters.room ≡ option_map (room_with used) o
-    → apply (record before { nodes = ns }) (room_changes (counters_for (profile_for o) before) from to) ≡ record before {
-      nodes = ns;
-      counters = record before.counters { room = option_map (room_after from to) before.counters.room };
-    }
-sized_rows before ns from to None used is =
-    ap (λ (r : Option Room). record before { nodes = ns; counters = record before.counters { room = r } })
-    (is ∙ sym (ap (option_map (room_after from to)) is))
-sized_rows before ns from to (Some c) used is = refl

@@ -1,30 +1,25 @@
 -- The bounds of the rows of a tree, so that a plan over them never gives up.
-use Rattle.std.proofs.Common.{◌≡◌, ◌==◌, ◌≤◌, ◌&&◌, ◌||◌, ℕ, true, false, cond, not, eqb, List, [], ◌∷◌, length, take, Option, Some, None, refl, sym, ap, subst}
-use Rattle.std.proofs.Common.{◌∙◌, arith}
+use Rattle.std.proofs.Common.{◌≡◌, ◌==◌, ◌≤◌, ◌&&◌, ◌||◌, ℕ, true, false, cond, not, eqb, List, [], ◌∷◌, length, take, Option, Some, None, refl, sym, subst, ◌∙◌, arith}
 use Rattle.std.specs.Prelude.{filter, nat_lt}
-use Rattle.std.proofs.lemmas.Bool.{lt-ltb, le-leb}
+use Rattle.std.proofs.lemmas.Bool.{lt-ltb}
 use Rattle.std.specs.List.{AllByRecursion, list_any}
 use Rattle.std.specs.Option.{option_map}
-use Rattle.fuse_init.specs.declared.profile.Profile.{Profile}
-use Rattle.fuse_init.specs.Profile.{Terms, terms}
-use Rattle.fuse_tree.specs.declared.rows.EntryRow.{EntryRow}
-use Rattle.fuse_tree.specs.declared.rows.HandleRow.{HandleRow}
-use Rattle.fuse_tree.specs.declared.rows.NodeRow.{NodeRow}
-use Rattle.fuse_tree.specs.State.{State, terms_of, profile_of, used_of, Node, Shape, Tree, IsNode, IsEntry, is_below, has_number, node_at, is_entry}
-use Rattle.fuse_tree.specs.declared.agreement.Agreement.{Agreement}
-use Rattle.fuse_tree.specs.Rows.{Rows, IsRowed, profile_at, agreement_at, row_of, rowed, rows_of_state, row_at, entry_at, is_after, entries_after}
+use Rattle.fuse_init.specs.Profile.{Terms}
+use Rattle.fuse_rows.specs.declared.rows.EntryRow.{EntryRow}
+use Rattle.fuse_rows.specs.declared.rows.HandleRow.{HandleRow}
+use Rattle.fuse_rows.specs.declared.rows.NodeRow.{NodeRow}
+use Rattle.fuse_rows.specs.Rows.{is_entry, Rows, row_at, entry_at, is_after, entries_after}
+use Rattle.fuse_tree.specs.State.{State, terms_of, Node, Shape, Tree, IsNode, IsEntry, is_below, has_number, node_at}
+use Rattle.fuse_tree.specs.Rowed.{IsRowed, row_of, rowed, rows_of_state}
 use Rattle.fuse_tree.specs.Handles.{is_open}
-use Rattle.fuse_tree.specs.inner.Reading.{IsWithin, is_within}
 use Rattle.fuse_tree.specs.Removing.{has_entries}
-use Rattle.fuse_tree.proofs.Blocks.{room_with}
 use Rattle.fuse_tree.proofs.Lists.{all_more, found, any_gives, none_found, length_filtered}
-use Rattle.fuse_tree.proofs.Most.{nodes_most, file_most, profile_mapped}
 use Rattle.fuse_tree.proofs.Puts.{row_found}
 
 -- the bounds of a row under these terms
-record Bounded (t : Terms) (row : NodeRow) : Type 0 where
-  size : row.size ≤ t.file_limit
-  subdirs : row.subdirs ≤ t.node_limit
+pub record Bounded (t : Terms) (row : NodeRow) : Type 0 where
+  pub size : row.size ≤ t.file_limit
+  pub subdirs : row.subdirs ≤ t.node_limit
 
 bounded : (s : State) (number : ℕ) (row : NodeRow) (o : Option Node) → Shape s → node_at s number ≡ o → option_map (row_of s) o ≡ Some row
     → Bounded (terms_of s) row
@@ -36,36 +31,12 @@ bounded s number row (Some n) tree e is =
     record { size = p.size; subdirs = omega (arith, tree.limits.nodes, length_filtered (is_below s.entries n.number) s.nodes) } in
     subst (Bounded (terms_of s)) same here
 
-bounded_state : (s : State) (number : ℕ) (row : NodeRow) → Shape s → row_at (rows_of_state s) number ≡ Some row → Bounded (terms_of s) row
+pub bounded_state : (s : State) (number : ℕ) (row : NodeRow) → Shape s → row_at (rows_of_state s) number ≡ Some row → Bounded (terms_of s) row
 bounded_state s number row tree is = bounded s number row (node_at s number) tree refl (sym (row_found s number) ∙ is)
 
 pub rowed_is : (s : State) → rowed s ≡ rows_of_state s
 unfolding rowed
 rowed_is s = refl
-
--- a row that is found among those of a tree is within the bounds of every profile
-pub row_within : (rows : Rows) (number : ℕ) (row : NodeRow) → IsRowed rows → row_at rows number ≡ Some row → IsWithin row
-unfolding IsRowed
-row_within rows number row is e =
-    let s = is.0 in
-    let b = bounded_state s number row is.1.shape (subst (λ (r : Rows). row_at r number ≡ Some row) (is.2 ∙ rowed_is s) e) in
-    record { size = omega (arith, b.size, file_most (profile_of s)); subdirs = omega (arith, b.subdirs, nodes_most (profile_of s)) }
-
-within_terms : (p : Profile) (row : NodeRow) → Bounded (terms p) row → is_within p row ≡ true
-within_terms p row b = rw (le-leb row.size (terms p).file_limit b.size, le-leb row.subdirs (terms p).node_limit b.subdirs) refl
-
--- and within those of the tree's own
-pub none_outside : (rows : Rows) (a : Agreement) (number : ℕ) (row : NodeRow) → IsRowed rows → a ≡ agreement_at rows → row_at rows number ≡ Some row
-    → is_within a.profile row ≡ false → ⊥
-unfolding IsRowed
-none_outside rows a number row is agreed e outside =
-    let s = is.0 in
-    let same : rows ≡ rows_of_state s = is.2 ∙ rowed_is s in
-    let own : a.profile ≡ profile_of s =
-    ap (λ (g : Agreement). g.profile) agreed ∙ ap profile_at same ∙ profile_mapped (room_with (used_of s)) s.capacity in
-    let inside : is_within (profile_of s) row ≡ true =
-    within_terms (profile_of s) row (bounded_state s number row is.1.shape (subst (λ (r : Rows). row_at r number ≡ Some row) same e)) in
-    let wrong : true ≡ false = sym (ap (λ (p : Profile). is_within p row) own ∙ inside) ∙ outside in absurd cc
 
 pub map_none : {A B : Type 0} (f : A → B) (o : Option A) → option_map f o ≡ None → o ≡ None
 map_none f None e = refl

@@ -1,6 +1,5 @@
 -- Requests that bring bytes leave a state of bytes one.
-use Rattle.std.proofs.Common.{◌<◌, ◌≤◌, ◌+◌, ◌-◌, ◌==◌, ◌&&◌, ◌||◌, ℕ, zero, suc, Bool, true, false, cond, eqb, not, List, [], ◌∷◌, ◌++◌, length, map, Option, Some}
-use Rattle.std.proofs.Common.{None, is_some, max, arith}
+use Rattle.std.proofs.Common.{◌<◌, ◌≤◌, ◌+◌, ◌-◌, ◌==◌, ◌&&◌, ◌||◌, ℕ, zero, suc, Bool, true, false, cond, eqb, not, List, [], ◌∷◌, ◌++◌, length, map, Option, Some, None, is_some, max, arith}
 use Rattle.std.specs.Prelude.{take, replicate, nat_le, nat_lt}
 use Rattle.std.specs.List.{AllByRecursion}
 use Rattle.fuse_wire.specs.declared.access_mode.AccessMode.{AccessMode}
@@ -15,38 +14,38 @@ use Rattle.fuse_request.specs.declared.request.ReadIn.{ReadIn}
 use Rattle.fuse_request.specs.declared.request.SetattrIn.{SetattrIn}
 use Rattle.fuse_request.specs.Act.{Act, Asked}
 use Rattle.fuse_request.specs.Act as acts
-use Rattle.fuse_answer.specs.Entries.{Entry}
+use Rattle.fuse_answer.specs.Entries.{DirectoryEntry}
 use Rattle.fuse_init.specs.Agree.{agree}
 use Rattle.fuse_init.specs.declared.negotiation.Negotiated.{Negotiated}
 use Rattle.fuse_init.specs.declared.negotiation.Negotiated.TheVariants.{Agreed, Again, Refused}
-use Rattle.fuse_tree.specs.Bounds.{number_end, read_limit}
+use Rattle.fuse_rows.specs.Bounds.{number_end}
+use Rattle.fuse_rows.specs.declared.origin.Origin.{Origin}
 use Rattle.fuse_tree.specs.declared.new_node.NewNode.{NewNode}
-use Rattle.fuse_tree.specs.declared.rows.EntryRow.{EntryRow}
-use Rattle.fuse_tree.specs.State.{State, terms_of, profile_of, Node, is_dir, is_link, is_file, type_bits, is_named, is_kept, name_fault, node_at}
+use Rattle.fuse_tree.specs.Checks.{Check, first_error}
+use Rattle.fuse_rows.specs.declared.rows.EntryRow.{EntryRow}
+use Rattle.fuse_tree.specs.State.{State, terms_of, profile_of, Node, is_dir, is_link, is_named, is_kept, node_at}
 use Rattle.fuse_tree.specs.Removal.{swept, tidied}
-use Rattle.fuse_tree.specs.Rows.{entry_at, sized, written}
+use Rattle.fuse_rows.specs.Rows.{entry_at, sized, written}
 use Rattle.fuse_tree.specs.Handles.{access_at, is_open}
-use Rattle.fuse_tree.specs.Done.{Done, refuse, refuse_for, answer, touched, touch}
+use Rattle.fuse_tree.specs.Done.{Done, refuse, refuse_for, refuse_by, name_checks, answer, touched, touch}
 use Rattle.fuse_tree.specs.Changing.{changed_at, with_changed}
 use Rattle.fuse_tree.specs.Space.{room_of, has_room}
-use Rattle.fuse_tree.specs.Setting.{has, set_fault, set_node, with_set, setattr}
-use Rattle.fuse_tree.specs.Writing.{wrote, with_bytes, may_write, may_read, write, read}
-use Rattle.fuse_tree.specs.Making.{is_full, begun, new_node, new_entry, with_node, make, dir_mode, mkdir, may_make, node_mode, node_rdev, mknod}
+use Rattle.fuse_tree.specs.Setting.{has_valid_bit, set_fault, set_attributes, with_set, setattr}
+use Rattle.fuse_tree.specs.Writing.{Writing, wrote, with_bytes, may_write, write, read_checks, read}
+use Rattle.fuse_tree.specs.Making.{asker, asked_node, begun_in, new_node, new_entry, with_new_node, make, mkdir_checks, mkdir, mknod_checks, mknod}
 use Rattle.fuse_tree.specs.Init.{init}
 use Rattle.fuse_answer.specs.PlusEntries.{plus_len}
 use Rattle.fuse_tree.specs.PlusListing.{plus_following, read_dir_plus}
-use Rattle.fuse_tree.specs.Listing.{first_fits, first_fits_by, list_prefix, entries_following, read_dir}
-use Rattle.fuse_tree.specs.Opening.{open_fault, opened, open_node, open_for, open_file, open_dir, closed, close, not_for_dirs, for_dirs_alone}
-use Rattle.fuse_tree.specs.Removing.{marked, mark, without, entry_gone, has_entries, unlink_child, unlink_entry, unlink_named, unlink, rmdir_child, rmdir_entry}
-use Rattle.fuse_tree.specs.Removing.{rmdir_named, rmdir}
-use Rattle.fuse_tree.specs.Renaming.{Renaming, asking, is_exchange, is_no_replace, holds, is_same, asked_fault, place_fault, placed, replaced, both_touched}
-use Rattle.fuse_tree.specs.Renaming.{renamed, exchanged, rename_with_room, rename_entry, exchange_entry, rename_by, rename_from, rename_between, rename}
+use Rattle.fuse_tree.specs.Listing.{first_fits, first_fits_by, list_checks, list_prefix, entries_following, read_dir}
+use Rattle.fuse_tree.specs.Opening.{open_fault, open_checks, with_open_node, open_node, open_for, open_file, open_dir, closed, close, not_for_dirs, for_dirs_alone}
+use Rattle.fuse_tree.specs.Removing.{marked, mark, without_entry, entry_gone, remove_child, remove_entry, remove, unlink_checks, rmdir_checks}
+use Rattle.fuse_tree.specs.Renaming.{Renaming, asking, is_exchange, is_no_replace, holds, is_same, asked_fault, place_fault, placed, replaced, both_touched, renamed, exchanged, rename_with_room, rename_entry, exchange_entry, rename_by, rename_from, rename_between, rename}
 use Rattle.fuse_tree.specs.Keeping.{agreement_of, keeps}
-use Rattle.fuse_request.specs.FurtherBodies.{Content, Readlink, Statfs, Symlink, Create, ReadDirPlus, further_fault, content_at}
+use Rattle.fuse_request.specs.FurtherBodies.{FurtherContent, Readlink, Statfs, Symlink, Create, ReadDirPlus, further_fault, further_content_at}
 use Rattle.fuse_tree.specs.Further.{do_further, further}
-use Rattle.fuse_tree.specs.Symlinking.{link_mode, target_fault, with_target, with_link, symlink}
-use Rattle.fuse_tree.specs.Creating.{file_mode, created, create_for, create}
-use Rattle.fuse_tree.specs.Do.{lookup_absent, lookup_child, lookup_entry, lookup_named, lookup, do_act, do_at, names_node, done, do_offered, offer_of}
+use Rattle.fuse_tree.specs.Symlinking.{link_mode, with_target, with_link, symlink_checks, symlink}
+use Rattle.fuse_tree.specs.Creating.{created, create_for, create}
+use Rattle.fuse_tree.specs.Do.{lookup_absent, lookup_child, lookup_entry, lookup, do_act, do_at, names_node, done, do_offered, offer_of}
 use Rattle.fuse_tree.specs.Bytes.{AreBytes, AreNameBytes, HoldsBytes, BringsBytes, BytesKept}
 use Rattle.fuse_tree.proofs.Contents.{all_dropped, BringsNames, names_brought}
 use Rattle.fuse_tree.proofs.Lists.{all_more, all_grown, all_mapped, all_kept}
@@ -83,7 +82,7 @@ touch_bytes dir now s h = record { contents = all_mapped (λ n. AreBytes n.conte
 mark_bytes : (number : ℕ) (now : Moment) (s : State) → HoldsBytes s → HoldsBytes (mark number now s)
 mark_bytes number now s h = record { contents = all_mapped (λ n. AreBytes n.content) (marked number now) s.nodes h.contents; names = h.names }
 
-without_bytes : (cookie : ℕ) (s : State) → HoldsBytes s → HoldsBytes (without cookie s)
+without_bytes : (cookie : ℕ) (s : State) → HoldsBytes s → HoldsBytes (without_entry cookie s)
 without_bytes cookie s h = record { contents = h.contents; names = all_kept (λ e. AreNameBytes e.name) (λ e. not (e.cookie == cookie)) s.entries h.names }
 
 placed_bytes : (dir : ℕ) (name : List ℕ) (child : ℕ) (s : State) → AreNameBytes name → HoldsBytes s → HoldsBytes (placed dir name child s)
@@ -113,7 +112,7 @@ link_bytes s fresh content dir name bytes new h = record {
   names = all_grown (λ e. AreNameBytes e.name) s.entries (new_entry s dir name) h.names new;
 }
 
-node_bytes : (s : State) (fresh : NewNode) (dir : ℕ) (name : List ℕ) → AreNameBytes name → HoldsBytes s → HoldsBytes (with_node s fresh dir name)
+node_bytes : (s : State) (fresh : NewNode) (dir : ℕ) (name : List ℕ) → AreNameBytes name → HoldsBytes s → HoldsBytes (with_new_node s fresh dir name)
 node_bytes s fresh dir name = link_bytes s fresh [] dir name tt
 
 -- ---- what is done
@@ -145,6 +144,9 @@ unless s None d h so = so
 
 -- in a state of bytes
 module _ (s : State) (h : HoldsBytes s) where
+  checked : (checks : List Check) (d : Done) → Keeps d → Keeps (refuse_by s checks d)
+  checked checks d so = unless s (first_error checks) d h so
+
   lookup_absent_keeps : Keeps (lookup_absent s)
   lookup_absent_keeps = chosen (keeps (agreement_of s)) _ _ (leads s _ h) (stays s _ h)
 
@@ -158,86 +160,54 @@ module _ (s : State) (h : HoldsBytes s) where
 
   lookup_keeps : (name : List ℕ) (n : Node) → Keeps (lookup s name n)
   lookup_keeps name n =
-      chosen (not (is_dir n.mode)) _ _ (stays s _ h)
-      (unless s (name_fault name) (lookup_named s name n) h
-      (chosen (not (is_named s n.number)) _ _ (stays s _ h) (lookup_entry_keeps (entry_at s.entries n.number name))))
+      checked (name_checks s name n) _ (lookup_entry_keeps (entry_at s.entries n.number name))
 
   setattr_keeps : (set : SetattrIn) (now : Moment) (n : Node) → Keeps (setattr s set now n)
   setattr_keeps set now n =
       unless s (set_fault (terms_of s).file_limit set n.mode) _ h
-      (chosen (has set fattr_size && not (has_room (room_of s) (length n.content) set.size)) _ _ (stays s _ h)
-      (leads (with_set s set now n.number) _ (changed_bytes n.number (set_node set now) s (λ m p. one m.content (has set fattr_size) p) h)))
+      (chosen (has_valid_bit set fattr_size && not (has_room (room_of s) (length n.content) set.size)) _ _ (stays s _ h)
+      (leads (with_set s set now n.number) _ (changed_bytes n.number (set_attributes set now) s (λ m p. one m.content (has_valid_bit set fattr_size) p) h)))
     where
       one : (bs : List ℕ) (b : Bool) → AreBytes bs → AreBytes (cond b (sized set.size bs) bs)
       one bs true p = sized_bytes set.size bs p
       one bs false p = p
 
-  write_keeps : (fh offset : ℕ) (payload : List ℕ) (now : Moment) (n : Node) → AreBytes payload → Keeps (write s fh offset payload now n)
-  write_keeps fh offset payload now n new =
+  write_keeps : (fh : ℕ) (w : Writing) (n : Node) → AreBytes w.payload → Keeps (write s fh w n)
+  write_keeps fh w n new =
       chosen (not (may_write (access_at s.handles fh n.number))) _ _ (stays s _ h)
-      (chosen (length payload == 0) _ _ (leads s _ h)
-      (chosen (nat_lt (terms_of s).file_limit (offset + length payload)) _ _ (stays s _ h)
-      (chosen (not (has_room (room_of s) (length n.content) (max (length n.content) (offset + length payload)))) _ _ (stays s _ h)
-      (leads (with_bytes s offset payload now n.number) _
-      (changed_bytes n.number (wrote offset payload now) s (λ m p. written_bytes offset payload m.content new p) h)))))
+      (chosen (length w.payload == 0) _ _ (leads s _ h)
+      (chosen (nat_lt (terms_of s).file_limit (w.offset + length w.payload)) _ _ (stays s _ h)
+      (chosen (not (has_room (room_of s) (length n.content) (max (length n.content) (w.offset + length w.payload)))) _ _ (stays s _ h)
+      (leads (with_bytes s w.offset w.payload w.now n.number) _
+      (changed_bytes n.number (wrote w.offset w.payload w.now) s (λ m p. written_bytes w.offset w.payload m.content new p) h)))))
 
   read_keeps : (asked : ReadIn) (n : Node) → Keeps (read s asked n)
-  read_keeps asked n =
-      chosen (not (may_read (access_at s.handles asked.fh n.number))) _ _ (stays s _ h)
-      (chosen (is_dir n.mode) _ _ (stays s _ h)
-      (chosen (nat_lt 1048576 asked.size) _ _ (stays s _ h) (leads s _ h)))
+  read_keeps asked n = checked (read_checks s asked n) _ (leads s _ h)
 
-  make_keeps : (fresh : NewNode) (name : List ℕ) (n : Node) → AreNameBytes name → Keeps (make s fresh name n)
-  make_keeps fresh name n new =
-      chosen (not (is_named s n.number)) _ _ (stays s _ h)
-      (chosen (is_some (entry_at s.entries n.number name)) _ _ (stays s _ h)
-      (chosen (is_full (terms_of s).node_limit (length s.nodes) s.next_node s.next_cookie) _ _ (stays s _ h)
-      (leads (with_node s fresh n.number name) _ (node_bytes s fresh n.number name new h))))
+  make_keeps : (fresh : NewNode) (dir : ℕ) (name : List ℕ) → AreNameBytes name → Keeps (make s fresh dir name)
+  make_keeps fresh dir name new = leads (with_new_node s fresh dir name) _ (node_bytes s fresh dir name new h)
 
-  mkdir_keeps : (header : InHeader) (mode : ℕ) (name : List ℕ) (now : Moment) (n : Node) → AreNameBytes name → Keeps (mkdir s header mode name now n)
-  mkdir_keeps header mode name now n new =
-      chosen (not (is_dir n.mode)) _ _ (stays s _ h)
-      (unless s (name_fault name) _ h (make_keeps (begun (terms_of s) n.mode n.gid header (dir_mode mode) 0 now) name n new))
+  mkdir_keeps : (asked : NewNode) (name : List ℕ) (n : Node) → AreNameBytes name → Keeps (mkdir s asked name n)
+  mkdir_keeps asked name n new = checked (mkdir_checks s name n) _ (make_keeps _ n.number name new)
 
-  mknod_keeps : (header : InHeader) (mode rdev : ℕ) (name : List ℕ) (now : Moment) (n : Node) → AreNameBytes name → Keeps (mknod s header mode rdev name now n)
-  mknod_keeps header mode rdev name now n new =
-      chosen (not (is_dir n.mode)) _ _ (stays s _ h)
-      (chosen (not (may_make (type_bits mode))) _ _ (stays s _ h)
-      (unless s (name_fault name) _ h (make_keeps (begun (terms_of s) n.mode n.gid header (node_mode mode) (node_rdev mode rdev) now) name n new)))
+  mknod_keeps : (asked : NewNode) (name : List ℕ) (n : Node) → AreNameBytes name → Keeps (mknod s asked name n)
+  mknod_keeps asked name n new = checked (mknod_checks s asked.mode name n) _ (make_keeps _ n.number name new)
 
-  unlink_child_keeps : (e : EntryRow) (now : Moment) (o : Option Node) → Keeps (unlink_child s e now o)
-  unlink_child_keeps e now None = stays s _ h
-  unlink_child_keeps e now (Some c) = chosen (is_dir c.mode) _ _ (stays s _ h) (leads (tidied (entry_gone e now s)) [] (tidied_bytes (entry_gone e now s) (gone_bytes e now s h)))
+  remove_child_keeps : (checks : Node → List Check) (e : EntryRow) (now : Moment) (o : Option Node) → Keeps (remove_child s checks e now o)
+  remove_child_keeps checks e now None = stays s _ h
+  remove_child_keeps checks e now (Some child) =
+      checked (checks child) _ (leads (tidied (entry_gone e now s)) [] (tidied_bytes (entry_gone e now s) (gone_bytes e now s h)))
 
-  unlink_entry_keeps : (now : Moment) (o : Option EntryRow) → Keeps (unlink_entry s now o)
-  unlink_entry_keeps now None = stays s _ h
-  unlink_entry_keeps now (Some e) = unlink_child_keeps e now (node_at s e.child)
+  remove_entry_keeps : (checks : Node → List Check) (now : Moment) (o : Option EntryRow) → Keeps (remove_entry s checks now o)
+  remove_entry_keeps checks now None = stays s _ h
+  remove_entry_keeps checks now (Some e) = remove_child_keeps checks e now (node_at s e.child)
 
-  unlink_keeps : (name : List ℕ) (now : Moment) (n : Node) → Keeps (unlink s name now n)
-  unlink_keeps name now n =
-      chosen (not (is_dir n.mode)) _ _ (stays s _ h)
-      (unless s (name_fault name) (unlink_named s name now n) h
-      (chosen (not (is_named s n.number)) _ _ (stays s _ h) (unlink_entry_keeps now (entry_at s.entries n.number name))))
-
-  rmdir_child_keeps : (e : EntryRow) (now : Moment) (o : Option Node) → Keeps (rmdir_child s e now o)
-  rmdir_child_keeps e now None = stays s _ h
-  rmdir_child_keeps e now (Some c) =
-      chosen (not (is_dir c.mode)) _ _ (stays s _ h)
-      (chosen (has_entries s.entries c.number) _ _ (stays s _ h) (leads (tidied (entry_gone e now s)) [] (tidied_bytes (entry_gone e now s) (gone_bytes e now s h))))
-
-  rmdir_entry_keeps : (now : Moment) (o : Option EntryRow) → Keeps (rmdir_entry s now o)
-  rmdir_entry_keeps now None = stays s _ h
-  rmdir_entry_keeps now (Some e) = rmdir_child_keeps e now (node_at s e.child)
-
-  rmdir_keeps : (name : List ℕ) (now : Moment) (n : Node) → Keeps (rmdir s name now n)
-  rmdir_keeps name now n =
-      chosen (not (is_dir n.mode)) _ _ (stays s _ h)
-      (unless s (name_fault name) (rmdir_named s name now n) h
-      (chosen (not (is_named s n.number)) _ _ (stays s _ h) (rmdir_entry_keeps now (entry_at s.entries n.number name))))
+  remove_keeps : (checks : Node → List Check) (name : List ℕ) (now : Moment) (n : Node) → Keeps (remove s checks name now n)
+  remove_keeps checks name now n = checked (name_checks s name n) _ (remove_entry_keeps checks now (entry_at s.entries n.number name))
 
   open_node_keeps : (flags : ℕ) (access : AccessMode) (n : Node) → Keeps (open_node s flags access n)
   open_node_keeps flags access n =
-      unless s (open_fault (length s.handles) s.next_fh) _ h (leads (opened s n.number access) _ (record { contents = h.contents; names = h.names }))
+      unless s (open_fault (length s.handles) s.next_fh) _ h (leads (with_open_node s n.number access) _ (record { contents = h.contents; names = h.names }))
 
   open_for_keeps : (access : Option AccessMode) (n : Node) → Keeps (open_for s access n)
   open_for_keeps None n = stays s _ h
@@ -245,8 +215,7 @@ module _ (s : State) (h : HoldsBytes s) where
 
   open_keeps : (flags : ℕ) (n : Node) → Keeps (open_file s flags n)
   open_keeps flags n =
-      chosen (is_dir n.mode) _ _ (stays s _ h)
-      (chosen (not (is_file n.mode)) _ _ (stays s _ h) (open_for_keeps (access_of flags) n))
+      checked (open_checks n.mode) _ (open_for_keeps (access_of flags) n)
 
   open_dir_keeps : (n : Node) → Keeps (open_dir s n)
   open_dir_keeps n = chosen (not (is_dir n.mode)) _ _ (stays s _ h) (open_node_keeps 0 ReadOnly n)
@@ -256,15 +225,12 @@ module _ (s : State) (h : HoldsBytes s) where
       chosen (not (is_open s.handles fh n.number)) _ _ (stays s _ h)
       (unless s kind_fault _ h (leads (tidied (closed s fh)) [] (tidied_bytes (closed s fh) (record { contents = h.contents; names = h.names }))))
 
-  list_keeps : (es : List Entry) (size : ℕ) → Keeps (list_prefix s es size)
+  list_keeps : (es : List DirectoryEntry) (size : ℕ) → Keeps (list_prefix s es size)
   list_keeps es size = chosen (not (first_fits es size)) _ _ (stays s _ h) (leads s _ h)
 
   read_dir_keeps : (asked : ReadIn) (n : Node) → Keeps (read_dir s asked n)
   read_dir_keeps asked n =
-      chosen (not (is_open s.handles asked.fh n.number)) _ _ (stays s _ h)
-      (chosen (not (is_dir n.mode)) _ _ (stays s _ h)
-      (chosen (nat_lt read_limit asked.size) _ _ (stays s _ h)
-      (chosen (not (is_named s n.number)) _ _ (stays s _ h) (list_keeps (entries_following s n.number asked.offset) asked.size))))
+      checked (list_checks s asked n) _ (list_keeps (entries_following s n.number asked.offset) asked.size)
 
   init_keeps : (negotiated : Negotiated) → Keeps (init s negotiated)
   init_keeps (Agreed out settings) = leads (record s { settings = Some settings }) _ (record { contents = h.contents; names = h.names })
@@ -325,18 +291,10 @@ module _ (s : State) (h : HoldsBytes s) where
     rename_keeps : (n : Node) → Keeps (rename s r n)
     rename_keeps n = between_keeps n (node_at s r.new_dir)
 
-  symlink_keeps : (header : InHeader) (name target : List ℕ) (now : Moment) (n : Node) → AreNameBytes name → AreBytes target
-      → Keeps (symlink s header name target now n)
-  symlink_keeps header name target now n new bytes =
-      let fresh : NewNode = begun (terms_of s) n.mode n.gid header link_mode 0 now in
-      chosen (not (is_dir n.mode)) _ _ (stays s _ h)
-      (unless s (name_fault name) _ h
-      (unless s (target_fault target) _ h
-      (chosen (not (is_named s n.number)) _ _ (stays s _ h)
-      (chosen (is_some (entry_at s.entries n.number name)) _ _ (stays s _ h)
-      (chosen (is_full (terms_of s).node_limit (length s.nodes) s.next_node s.next_cookie) _ _ (stays s _ h)
-      (chosen (not (has_room (room_of s) 0 (length target))) _ _ (stays s _ h)
-      (leads (with_link s fresh target n.number name) _ (link_bytes s fresh target n.number name bytes new h))))))))
+  symlink_keeps : (from : Origin) (target name : List ℕ) (n : Node) → AreNameBytes name → AreBytes target → Keeps (symlink s from target name n)
+  symlink_keeps from target name n new bytes =
+      let fresh : NewNode = begun_in s n (asked_node from link_mode 0) in
+      checked (symlink_checks s target name n) _ (leads (with_link s fresh target n.number name) _ (link_bytes s fresh target n.number name bytes new h))
 
   create_for_keeps : (fresh : NewNode) (dir : ℕ) (name : List ℕ) (o : Option AccessMode) → AreNameBytes name → Keeps (create_for s fresh dir name o)
   create_for_keeps fresh dir name None new = stays s _ h
@@ -344,56 +302,46 @@ module _ (s : State) (h : HoldsBytes s) where
       let made = node_bytes s fresh dir name new h in
       unless s (open_fault (length s.handles) s.next_fh) _ h (leads (created s fresh dir name access) _ (record { contents = made.contents; names = made.names }))
 
-  create_keeps : (header : InHeader) (flags mode : ℕ) (name : List ℕ) (now : Moment) (n : Node) → AreNameBytes name
-      → Keeps (create s header flags mode name now n)
-  create_keeps header flags mode name now n new =
-      chosen (not (is_dir n.mode)) _ _ (stays s _ h)
-      (unless s (name_fault name) _ h
-      (chosen (not (is_named s n.number)) _ _ (stays s _ h)
-      (chosen (is_some (entry_at s.entries n.number name)) _ _ (stays s _ h)
-      (chosen (is_full (terms_of s).node_limit (length s.nodes) s.next_node s.next_cookie) _ _ (stays s _ h)
-      (create_for_keeps (begun (terms_of s) n.mode n.gid header (file_mode mode) 0 now) n.number name (access_of flags) new)))))
+  create_keeps : (asked : NewNode) (flags : ℕ) (name : List ℕ) (n : Node) → AreNameBytes name → Keeps (create s asked flags name n)
+  create_keeps asked flags name n new = checked (mkdir_checks s name n) _ (create_for_keeps _ n.number name (access_of flags) new)
 
   read_dir_plus_keeps : (asked : ReadIn) (n : Node) → Keeps (read_dir_plus s asked n)
   read_dir_plus_keeps asked n =
-      chosen (not (is_open s.handles asked.fh n.number)) _ _ (stays s _ h)
-      (chosen (not (is_dir n.mode)) _ _ (stays s _ h)
-      (chosen (nat_lt read_limit asked.size) _ _ (stays s _ h)
-      (chosen (not (is_named s n.number)) _ _ (stays s _ h)
-      (chosen (not (first_fits_by plus_len (plus_following s n.number asked.offset) asked.size)) _ _ (stays s _ h) (leads s _ h)))))
+      checked (list_checks s asked n) _
+      (chosen (not (first_fits_by plus_len (plus_following s n.number asked.offset) asked.size)) _ _ (stays s _ h) (leads s _ h))
 
-  content_keeps : (header : InHeader) (o : Option Content) (now : Moment) (n : Node) → BringsNames o → Keeps (do_further s header o now n)
-  content_keeps header (Some Readlink) now n new = chosen (not (is_link n.mode)) _ _ (stays s _ h) (leads s _ h)
-  content_keeps header (Some Statfs) now n new = leads s _ h
-  content_keeps header (Some (Symlink name target)) now n new =
-      symlink_keeps header name target now n new.0 (all_more (λ b. (1 ≤ b) × (b < 256)) (λ b. b < 256) target (λ b is. is.1) new.1)
-  content_keeps header (Some (Create flags mode umask open_flags name)) now n new = create_keeps header flags mode name now n new
-  content_keeps header (Some (ReadDirPlus x)) now n new = read_dir_plus_keeps x n
-  content_keeps header _ now n new = stays s _ h
+  content_keeps : (from : Origin) (o : Option FurtherContent) (n : Node) → BringsNames o → Keeps (do_further s from o n)
+  content_keeps from (Some Readlink) n new = chosen (not (is_link n.mode)) _ _ (stays s _ h) (leads s _ h)
+  content_keeps from (Some Statfs) n new = leads s _ h
+  content_keeps from (Some (Symlink name target)) n new =
+      symlink_keeps from target name n new.0 (all_more (λ b. (1 ≤ b) × (b < 256)) (λ b. b < 256) target (λ b is. is.1) new.1)
+  content_keeps from (Some (Create flags mode umask open_flags name)) n new = create_keeps (asked_node from mode 0) flags name n new
+  content_keeps from (Some (ReadDirPlus x)) n new = read_dir_plus_keeps x n
+  content_keeps from _ n new = stays s _ h
 
-  further_keeps : (header : InHeader) (opcode : ℕ) (body : List ℕ) (now : Moment) (n : Node) → AreBytes body → Keeps (further s header opcode body now n)
-  further_keeps header opcode body now n bytes =
+  further_keeps : (from : Origin) (opcode : ℕ) (body : List ℕ) (n : Node) → AreBytes body → Keeps (further s from opcode body n)
+  further_keeps from opcode body n bytes =
       chosen (not ((terms_of s).further opcode)) _ _ (stays s _ h)
-      (chosen (is_some (further_fault opcode body)) _ _ (stays s _ h) (content_keeps header (content_at opcode body) now n (names_brought opcode body bytes)))
+      (chosen (is_some (further_fault opcode body)) _ _ (stays s _ h) (content_keeps from (further_content_at opcode body) n (names_brought opcode body bytes)))
 
   act_keeps : (header : InHeader) (act : Act) (now : Moment) (n : Node) → BringsBytes act → Keeps (do_act s header act now n)
   act_keeps header (acts.Lookup name) now n new = lookup_keeps name n
   act_keeps header (acts.Getattr flags fh) now n new = leads s _ h
   act_keeps header (acts.Setattr set) now n new = setattr_keeps set now n
-  act_keeps header (acts.Mkdir mode umask name) now n new = mkdir_keeps header mode name now n new
-  act_keeps header (acts.Mknod mode rdev umask name) now n new = mknod_keeps header mode rdev name now n new
-  act_keeps header (acts.Unlink name) now n new = unlink_keeps name now n
-  act_keeps header (acts.Rmdir name) now n new = rmdir_keeps name now n
+  act_keeps header (acts.Mkdir mode umask name) now n new = mkdir_keeps (asked_node (asker header now) mode 0) name n new
+  act_keeps header (acts.Mknod mode rdev umask name) now n new = mknod_keeps (asked_node (asker header now) mode rdev) name n new
+  act_keeps header (acts.Unlink name) now n new = remove_keeps unlink_checks name now n
+  act_keeps header (acts.Rmdir name) now n new = remove_keeps (rmdir_checks s) name now n
   act_keeps header (acts.OpenFile flags open_flags) now n new = open_keeps flags n
   act_keeps header (acts.Read asked) now n new = read_keeps asked n
-  act_keeps header (acts.Write fh offset write_flags lock_owner flags payload) now n new = write_keeps fh offset payload now n new
+  act_keeps header (acts.Write fh offset write_flags lock_owner flags payload) now n new = write_keeps fh (record { offset = offset; payload = payload; now = now }) n new
   act_keeps header (acts.OpenDir flags open_flags) now n new = open_dir_keeps n
   act_keeps header (acts.ReadDir x) now n new = read_dir_keeps x n
   act_keeps header (acts.Release x) now n new = close_keeps x.fh (not_for_dirs n.mode) n
   act_keeps header (acts.ReleaseDir x) now n new = close_keeps x.fh (for_dirs_alone n.mode) n
   act_keeps header (acts.Rename new_dir old_name new_name) now n new = rename_keeps (asking new_dir 0 old_name new_name now) new.0 new.1 n
   act_keeps header (acts.Rename2 new_dir flags old_name new_name) now n new = rename_keeps (asking new_dir flags old_name new_name now) new.0 new.1 n
-  act_keeps header (acts.Unsupported opcode body) now n new = further_keeps header opcode body now n new
+  act_keeps header (acts.Further opcode body) now n new = further_keeps (asker header now) opcode body n new
   act_keeps header _ now n new = stays s _ h
 
   at_keeps : (request : Asked) (now : Moment) (o : Option Node) → BringsBytes request.act → Keeps (do_at s request now o)

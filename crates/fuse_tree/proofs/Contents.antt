@@ -4,11 +4,11 @@ use Rattle.std.specs.Option.{option_map, unwrap_or}
 use Rattle.std.specs.List.{AllByRecursion}
 use Rattle.fuse_wire.specs.Bytes.{after_nul}
 use Rattle.fuse_request.specs.Places.{before_nul, second_name}
-use Rattle.fuse_request.specs.FurtherBodies.{Content, Symlink, Create, FurtherOpcode, further, find_further, content_at}
+use Rattle.fuse_request.specs.FurtherBodies.{FurtherContent, Symlink, Create, FurtherOpcode, further_opcodes, find_further, further_content_at}
 use Rattle.fuse_tree.specs.Bytes.{AreBytes, AreNameBytes}
 
 -- what holds of each row's content holds of the one that is found
-says : (P : Option Content → Type 0) (opcode : ℕ) (body : List ℕ) (rows : List FurtherOpcode) → P None → AllByRecursion (λ o. P (Some (o.says body))) rows
+says : (P : Option FurtherContent → Type 0) (opcode : ℕ) (body : List ℕ) (rows : List FurtherOpcode) → P None → AllByRecursion (λ o. P (Some (o.says body))) rows
     → P (option_map (λ o. o.says body) (find_further opcode rows))
 says P opcode body [] none all = none
 says P opcode body (o ∷ rows) none all = step (opcode == o.opcode) (says P opcode body rows none all.1)
@@ -28,13 +28,13 @@ none_before [] = tt
 none_before (zero ∷ body) = tt
 none_before (suc n ∷ body) = (omega arith, none_before body)
 
-abbrev pub EndsTarget : Option Content → Type 0
+abbrev pub EndsTarget : Option FurtherContent → Type 0
 EndsTarget (Some (Symlink name target)) = HasNone target
 EndsTarget _ = Unit {0}
 
-pub target_ends : (opcode : ℕ) (body : List ℕ) → EndsTarget (content_at opcode body)
+pub target_ends : (opcode : ℕ) (body : List ℕ) → EndsTarget (further_content_at opcode body)
 target_ends opcode body =
-    says EndsTarget opcode body further tt
+    says EndsTarget opcode body further_opcodes tt
     (tt, (none_before (unwrap_or (after_nul body) []), (tt, (tt, (tt, (tt, (tt, (tt, (tt, (tt, (tt, (tt, (tt, (tt, (tt, (tt, (tt, tt)))))))))))))))))
 
 -- ---- names and targets are bytes
@@ -54,15 +54,15 @@ bytes_after [] all = tt
 bytes_after (zero ∷ body) all = all.1
 bytes_after (suc n ∷ body) all = bytes_after body all.1
 
-abbrev pub BringsNames : Option Content → Type 0
+abbrev pub BringsNames : Option FurtherContent → Type 0
 BringsNames (Some (Symlink name target)) = AreNameBytes name × AreNameBytes target
 BringsNames (Some (Create flags mode umask open_flags name)) = AreNameBytes name
 BringsNames _ = Unit {0}
 
-pub names_brought : (opcode : ℕ) (body : List ℕ) → AreBytes body → BringsNames (content_at opcode body)
+pub names_brought : (opcode : ℕ) (body : List ℕ) → AreBytes body → BringsNames (further_content_at opcode body)
 names_brought opcode body all =
     let two : AreNameBytes (before_nul body) × AreNameBytes (second_name body) =
     (name_before body all, name_before (unwrap_or (after_nul body) []) (bytes_after body all)) in
     let made : AreNameBytes (before_nul (drop 16 body)) = name_before (drop 16 body) (all_dropped (λ b. b < 256) 16 body all) in
-    says BringsNames opcode body further tt
+    says BringsNames opcode body further_opcodes tt
     (tt, (two, (tt, (tt, (tt, (tt, (tt, (tt, (tt, (tt, (tt, (tt, (made, (tt, (tt, (tt, (tt, tt)))))))))))))))))

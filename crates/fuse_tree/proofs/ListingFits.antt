@@ -1,59 +1,46 @@
 -- What is answered to READDIR fits, and is read.
-use Rattle.std.proofs.Common.{◌≤◌, ℕ, not, nat_lt, List, Some, refl, arith}
+use Rattle.std.proofs.Common.{◌≤◌, ℕ, not, List, Some, refl, arith}
 use Rattle.std.specs.List.{AllByRecursion}
 use Rattle.std.proofs.lemmas.Bool.{ltb-false}
-use Rattle.fuse_wire.specs.declared.errno.Errno.{Errno}
 use Rattle.fuse_request.specs.declared.request.ReadIn.{ReadIn}
-use Rattle.fuse_answer.specs.Entries.{Entry, IsNamed, packed_len}
+use Rattle.fuse_answer.specs.Entries.{DirectoryEntry, IsNamed, packed_len}
 use Rattle.fuse_answer.specs.Laws.{ReadBack, RecordSizes}
 use Rattle.fuse_answer.specs.Replies.{Directory}
-use Rattle.fuse_tree.specs.Bounds.{read_limit}
-use Rattle.fuse_tree.specs.State.{State, Node, Shape, is_dir, is_named}
-use Rattle.fuse_tree.specs.Done.{refuse}
-use Rattle.fuse_tree.specs.Handles.{is_open}
-use Rattle.fuse_tree.specs.Listing.{entries_following, first_fits, longest_prefix, list_prefix, read_dir}
-use Rattle.fuse_tree.proofs.Fit.{Fits, Reads, refused, answered, chosen, chosen_then, refused_reads, answered_reads, chosen_reads, Short, refused_short, chosen_short}
+use Rattle.fuse_rows.specs.Bounds.{read_limit}
+use Rattle.fuse_tree.specs.State.{State, Node, Shape}
+use Rattle.fuse_tree.specs.Listing.{entries_following, first_fits, longest_prefix, list_checks, list_prefix, read_dir}
+use Rattle.fuse_tree.proofs.Fit.{Fits, Reads, refused, answered, chosen, checked_then, refused_reads, answered_reads, chosen_reads, checked_reads, Short, refused_short, chosen_short, checked_short}
 use Rattle.fuse_tree.proofs.Prefixes.{longest}
 use Rattle.fuse_tree.proofs.Listing.{all_named}
 use Rattle.fuse_tree.proofs.Shown.{all_taken}
 
-list_fits : RecordSizes → (s : State) (es : List Entry) (size : ℕ) → size ≤ 1048576 → Fits (list_prefix s es size)
+list_fits : RecordSizes → (s : State) (es : List DirectoryEntry) (size : ℕ) → size ≤ 1048576 → Fits (list_prefix s es size)
 list_fits sizes s es size few =
     chosen (not (first_fits es size)) _ _ (refused s _)
     (answered s _ (omega (arith, few, sizes.5 (longest_prefix es size), (longest packed_len es size).fits)))
 
 pub read_dir_fits : RecordSizes → (s : State) (asked : ReadIn) (n : Node) → Fits (read_dir s asked n)
 read_dir_fits sizes s asked n =
-    chosen (not (is_open s.handles asked.fh n.number)) _ _ (refused s _)
-    (chosen (not (is_dir n.mode)) _ _ (refused s _)
-    (chosen_then (nat_lt read_limit asked.size) _ _ (refused s _) (λ few.
-    chosen (not (is_named s n.number)) _ _ (refused s _)
-    (list_fits sizes s (entries_following s n.number asked.offset) asked.size (ltb-false read_limit asked.size few)))))
+    checked_then s (list_checks s asked n) _ (λ _ _ few _.
+    list_fits sizes s (entries_following s n.number asked.offset) asked.size (ltb-false read_limit asked.size few))
 
 -- ---- it is read
 
-list_reads : ReadBack → (s : State) (es : List Entry) (size : ℕ) → AllByRecursion IsNamed es → Reads Directory (list_prefix s es size)
+list_reads : ReadBack → (s : State) (es : List DirectoryEntry) (size : ℕ) → AllByRecursion IsNamed es → Reads Directory (list_prefix s es size)
 list_reads back s es size named =
     chosen_reads (not (first_fits es size)) _ _ (refused_reads s _ refl)
     (answered_reads s _ (back.listing (longest_prefix es size) (all_taken IsNamed _ es named)))
 
 pub read_dir_reads : ReadBack → (s : State) (asked : ReadIn) (n : Node) → Shape s → Reads Directory (read_dir s asked n)
 read_dir_reads back s asked n tree =
-    chosen_reads (not (is_open s.handles asked.fh n.number)) _ _ (refused_reads s _ refl)
-    (chosen_reads (not (is_dir n.mode)) _ _ (refused_reads s _ refl)
-    (chosen_reads (nat_lt read_limit asked.size) _ _ (refused_reads s _ refl)
-    (chosen_reads (not (is_named s n.number)) _ _ (refused_reads s _ refl)
-    (list_reads back s (entries_following s n.number asked.offset) asked.size (all_named s n.number asked.offset tree)))))
+    checked_reads s (list_checks s asked n) _ refl
+    (list_reads back s (entries_following s n.number asked.offset) asked.size (all_named s n.number asked.offset tree))
 
-list_short : RecordSizes → (s : State) (es : List Entry) (size : ℕ) → Short (Some size) (list_prefix s es size)
+list_short : RecordSizes → (s : State) (es : List DirectoryEntry) (size : ℕ) → Short (Some size) (list_prefix s es size)
 list_short sizes s es size =
     chosen_short _ (not (first_fits es size)) _ _ (refused_short (Some size) s _)
     (record { within = omega (arith, sizes.5 (longest_prefix es size), (longest packed_len es size).fits) })
 
 pub read_dir_short : RecordSizes → (s : State) (asked : ReadIn) (n : Node) → Short (Some asked.size) (read_dir s asked n)
 read_dir_short sizes s asked n =
-    let refused : (errno : Errno) → Short (Some asked.size) (refuse s errno) = λ errno. refused_short (Some asked.size) s errno in
-    chosen_short _ (not (is_open s.handles asked.fh n.number)) _ _ (refused _)
-    (chosen_short _ (not (is_dir n.mode)) _ _ (refused _)
-    (chosen_short _ (nat_lt read_limit asked.size) _ _ (refused _)
-    (chosen_short _ (not (is_named s n.number)) _ _ (refused _) (list_short sizes s (entries_following s n.number asked.offset) asked.size))))
+    checked_short (Some asked.size) s (list_checks s asked n) _ (list_short sizes s (entries_following s n.number asked.offset) asked.size)

@@ -4,8 +4,8 @@ use Rattle.std.specs.Option.{option_map}
 use Rattle.fuse_init.specs.declared.profile.Profile.{Profile}
 use Rattle.fuse_init.specs.declared.profile.Profile.TheVariants.{Plain, Everyday}
 use Rattle.fuse_init.specs.Profile.{terms}
-use Rattle.fuse_tree.specs.Bounds.{node_limit, file_limit}
-use Rattle.fuse_tree.specs.State.{profile_for}
+use Rattle.fuse_rows.specs.Bounds.{node_limit, file_limit}
+use Rattle.fuse_rows.specs.Rows.{profile_for}
 
 pub nodes_most : (p : Profile) → (terms p).node_limit ≤ node_limit
 nodes_most Plain = omega arith

@@ -1,10 +1,10 @@
 -- A new store is a tree.
 use Rattle.std.proofs.Common.{◌<◌, ℕ, refl, arith}
-use Rattle.fuse_tree.specs.declared.origin.Origin.{Origin}
+use Rattle.fuse_rows.specs.declared.origin.Origin.{Origin}
 use Rattle.fuse_init.specs.declared.profile.Profile.{Profile}
 use Rattle.fuse_init.specs.declared.profile.Profile.TheVariants.{Plain, Everyday}
 use Rattle.fuse_init.specs.Profile.{Terms, terms}
-use Rattle.fuse_tree.specs.Bounds.{capacity_end}
+use Rattle.fuse_rows.specs.Bounds.{capacity_end}
 use Rattle.fuse_tree.specs.State.{Shape, Tree, IsNode, new_store, root_node}
 
 root_is : (t : Terms) (from : Origin) → IsNode t 2 (root_node from)

@@ -1,16 +1,12 @@
 -- The longest prefix of entries that fits.
-use Rattle.std.proofs.Common.{◌≡◌, ◌≢◌, ◌≤◌, ◌<◌, ◌*◌, ℕ, zero, suc, Bool, true, false, not, cond, nat_le, List, [], ◌∷◌, length, take, refl, sym, ap, subst}
-use Rattle.std.proofs.Common.{◌∙◌, arith}
+use Rattle.std.proofs.Common.{◌≡◌, ◌≢◌, ◌≤◌, ◌<◌, ◌*◌, ℕ, zero, suc, Bool, true, false, not, cond, nat_le, List, [], ◌∷◌, length, take, refl, sym, ap, subst, ◌∙◌, arith}
 use Rattle.std.specs.List.{AllByRecursion, sum_by}
 use Rattle.std.proofs.lemmas.Bool.{leb-true, leb-false}
 use Rattle.std.proofs.lemmas.List.{length-take, take-take}
 use Rattle.std.proofs.lemmas.List.Sums.{sum_by-cons}
-use Rattle.fuse_answer.specs.Entries.{Entry, IsNamed, packed_len, entries_bytes, IsLongest, IsLongestBy, FirstIsTooBig, FirstIsTooBigBy}
-use Rattle.fuse_answer.specs.PlusEntries.{PlusEntry, plus_len, plus_bytes}
+use Rattle.fuse_answer.specs.Entries.{DirectoryEntry, IsNamed, packed_len, IsLongestBy, FirstIsTooBigBy}
+use Rattle.fuse_answer.specs.PlusEntries.{PlusEntry, plus_len}
 use Rattle.fuse_tree.specs.Listing.{most_by, longest_by, first_fits_by, most, longest_prefix}
-use Rattle.fuse_tree.specs.inner.Reading.{told}
-use Rattle.fuse_tree.specs.inner.PlanListing.{plan_prefix}
-use Rattle.fuse_tree.specs.inner.PlanPlus.{plan_plus_prefix}
 
 most_within : {A : Type 0} (len : A → ℕ) (es : List A) (size n : ℕ) → most_by len es size n ≤ n
 most_within len es size zero = omega arith
@@ -55,12 +51,6 @@ first_that_fits len (e ∷ es) size fits =
     elim [ true ↦ λ is. refl | false ↦ λ is. absurd (fits (leb-false _ size is)) ] in
     step (nat_le (len e) size) refl
 
--- the body that is packed is the one that is planned
-pub prefix_planned : (es : List Entry) (size n : ℕ) (body : List ℕ) → (FirstIsTooBig es size → ⊥) → IsLongest es size n → body ≡ entries_bytes (take n es)
-    → told body ≡ plan_prefix es size
-prefix_planned es size n body fits is e =
-    rw (first_that_fits packed_len es size fits) (ap told (e ∙ ap entries_bytes (prefix_is packed_len es size n is)))
-
 -- ---- entries that are left out
 
 cut_longest : {A : Type 0} (len : A → ℕ) (es : List A) (size k : ℕ) → most_by len es size (length es) ≤ k
@@ -93,7 +83,7 @@ first_cut len (e ∷ es) size (suc k) some = refl
 
 -- ---- more entries than can fit
 
-least_sum : (es : List Entry) (n : ℕ) → AllByRecursion IsNamed es → n ≤ length es → 32 * n ≤ sum_by packed_len (take n es)
+least_sum : (es : List DirectoryEntry) (n : ℕ) → AllByRecursion IsNamed es → n ≤ length es → 32 * n ≤ sum_by packed_len (take n es)
 least_sum es zero named few = omega arith
 least_sum [] (suc n) named few = absurd (omega (arith, few))
 least_sum (e ∷ es) (suc n) named few =
@@ -101,7 +91,7 @@ least_sum (e ∷ es) (suc n) named few =
     omega (arith, sum_by-cons packed_len e (take n es), least, least_sum es n named.1 (omega (arith, few)))
 
 -- and so where they can't fit
-pub prefix_cut : (es : List Entry) (size k : ℕ) → AllByRecursion IsNamed es → size < 32 * k → longest_prefix (take k es) size ≡ longest_prefix es size
+pub prefix_cut : (es : List DirectoryEntry) (size k : ℕ) → AllByRecursion IsNamed es → size < 32 * k → longest_prefix (take k es) size ≡ longest_prefix es size
 prefix_cut es size k named past =
     let n : ℕ = most es size (length es) in
     prefix_upto packed_len es size k
@@ -123,8 +113,3 @@ plus_cut es size k named past =
     let n : ℕ = most_by plus_len es size (length es) in
     prefix_upto plus_len es size k
     (omega (arith, long_sum es n named (most_within plus_len es size (length es)), most_fits plus_len es size (length es), past))
-
--- the body that is packed is the one that is planned
-pub plus_planned : (es : List PlusEntry) (size n : ℕ) (body : List ℕ) → (FirstIsTooBigBy plus_len es size → ⊥) → IsLongestBy plus_len es size n
-    → body ≡ plus_bytes (take n es) → told body ≡ plan_plus_prefix es size
-plus_planned es size n body fits is e = rw (first_that_fits plus_len es size fits) (ap told (e ∙ ap plus_bytes (prefix_is plus_len es size n is)))

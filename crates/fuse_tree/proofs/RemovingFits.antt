@@ -1,72 +1,49 @@
 -- What is answered for an entry gone fits, and is read.
-use Rattle.std.proofs.Common.{ℕ, not, List, [], Option, Some, None, refl, arith}
+use Rattle.std.proofs.Common.{◌≡◌, ℕ, true, List, [], Option, Some, None, refl, arith}
 use Rattle.fuse_wire.specs.declared.moment.Moment.{Moment}
 use Rattle.fuse_answer.specs.Replies.{Nothing}
+use Rattle.fuse_rows.specs.Rows.{entry_at}
+use Rattle.fuse_rows.specs.declared.rows.EntryRow.{EntryRow}
+use Rattle.fuse_tree.specs.Checks.{Check}
+use Rattle.fuse_tree.specs.State.{State, Node, node_at}
 use Rattle.fuse_tree.specs.Removal.{tidied}
-use Rattle.fuse_tree.specs.declared.rows.EntryRow.{EntryRow}
-use Rattle.fuse_tree.specs.State.{State, Node, is_dir, node_at, is_named, name_fault}
-use Rattle.fuse_tree.specs.Rows.{entry_at}
-use Rattle.fuse_tree.specs.Removing.{entry_gone, has_entries, unlink_child, unlink_entry, unlink_named, unlink, rmdir_child, rmdir_entry, rmdir_named, rmdir}
-use Rattle.fuse_tree.proofs.Fit.{Fits, Reads, refused, answered, chosen, refused_for, refused_reads, answered_reads, chosen_reads, refused_name_reads, no_body}
+use Rattle.fuse_tree.specs.Done.{name_checks}
+use Rattle.fuse_tree.specs.Removing.{entry_gone, remove_child, remove_entry, remove, unlink_checks, unlink, rmdir_checks, rmdir}
+use Rattle.fuse_tree.proofs.Fit.{Fits, refused, answered, checked, Reads, refused_reads, answered_reads, bear_errors, checked_reads, no_body}
 
-unlink_child_fits : (s : State) (e : EntryRow) (now : Moment) (o : Option Node) → Fits (unlink_child s e now o)
-unlink_child_fits s e now None = refused s _
-unlink_child_fits s e now (Some c) = chosen (is_dir c.mode) _ _ (refused s _) (answered (tidied (entry_gone e now s)) [] (omega arith))
+-- where the child has these checks
+module _ (s : State) (checks : Node → List Check) where
+  child_fits : (e : EntryRow) (now : Moment) (o : Option Node) → Fits (remove_child s checks e now o)
+  child_fits e now None = refused s _
+  child_fits e now (Some child) = checked s (checks child) _ (answered (tidied (entry_gone e now s)) [] (omega arith))
 
-unlink_entry_fits : (s : State) (now : Moment) (o : Option EntryRow) → Fits (unlink_entry s now o)
-unlink_entry_fits s now None = refused s _
-unlink_entry_fits s now (Some e) = unlink_child_fits s e now (node_at s e.child)
+  entry_fits : (now : Moment) (o : Option EntryRow) → Fits (remove_entry s checks now o)
+  entry_fits now None = refused s _
+  entry_fits now (Some e) = child_fits e now (node_at s e.child)
+
+  remove_fits : (name : List ℕ) (now : Moment) (n : Node) → Fits (remove s checks name now n)
+  remove_fits name now n = checked s (name_checks s name n) _ (entry_fits now (entry_at s.entries n.number name))
+
+  module _ (bear : (child : Node) → bear_errors (checks child) ≡ true) where
+    child_reads : (e : EntryRow) (now : Moment) (o : Option Node) → Reads Nothing (remove_child s checks e now o)
+    child_reads e now None = refused_reads s _ refl
+    child_reads e now (Some child) = checked_reads s (checks child) _ (bear child) (answered_reads (tidied (entry_gone e now s)) [] no_body)
+
+    entry_reads : (now : Moment) (o : Option EntryRow) → Reads Nothing (remove_entry s checks now o)
+    entry_reads now None = refused_reads s _ refl
+    entry_reads now (Some e) = child_reads e now (node_at s e.child)
+
+    remove_reads : (name : List ℕ) (now : Moment) (n : Node) → Reads Nothing (remove s checks name now n)
+    remove_reads name now n = checked_reads s (name_checks s name n) _ refl (entry_reads now (entry_at s.entries n.number name))
 
 pub unlink_fits : (s : State) (name : List ℕ) (now : Moment) (n : Node) → Fits (unlink s name now n)
-unlink_fits s name now n =
-    chosen (not (is_dir n.mode)) _ _ (refused s _)
-    (refused_for s (name_fault name) (unlink_named s name now n)
-    (chosen (not (is_named s n.number)) _ _ (refused s _) (unlink_entry_fits s now (entry_at s.entries n.number name))))
-
-rmdir_child_fits : (s : State) (e : EntryRow) (now : Moment) (o : Option Node) → Fits (rmdir_child s e now o)
-rmdir_child_fits s e now None = refused s _
-rmdir_child_fits s e now (Some c) =
-    chosen (not (is_dir c.mode)) _ _ (refused s _)
-    (chosen (has_entries s.entries c.number) _ _ (refused s _) (answered (tidied (entry_gone e now s)) [] (omega arith)))
-
-rmdir_entry_fits : (s : State) (now : Moment) (o : Option EntryRow) → Fits (rmdir_entry s now o)
-rmdir_entry_fits s now None = refused s _
-rmdir_entry_fits s now (Some e) = rmdir_child_fits s e now (node_at s e.child)
+unlink_fits s name now n = remove_fits s unlink_checks name now n
 
 pub rmdir_fits : (s : State) (name : List ℕ) (now : Moment) (n : Node) → Fits (rmdir s name now n)
-rmdir_fits s name now n =
-    chosen (not (is_dir n.mode)) _ _ (refused s _)
-    (refused_for s (name_fault name) (rmdir_named s name now n)
-    (chosen (not (is_named s n.number)) _ _ (refused s _) (rmdir_entry_fits s now (entry_at s.entries n.number name))))
-
--- ---- and is read
-
-unlink_child_reads : (s : State) (e : EntryRow) (now : Moment) (o : Option Node) → Reads Nothing (unlink_child s e now o)
-unlink_child_reads s e now None = refused_reads s _ refl
-unlink_child_reads s e now (Some c) = chosen_reads (is_dir c.mode) _ _ (refused_reads s _ refl) (answered_reads (tidied (entry_gone e now s)) [] no_body)
-
-unlink_entry_reads : (s : State) (now : Moment) (o : Option EntryRow) → Reads Nothing (unlink_entry s now o)
-unlink_entry_reads s now None = refused_reads s _ refl
-unlink_entry_reads s now (Some e) = unlink_child_reads s e now (node_at s e.child)
+rmdir_fits s name now n = remove_fits s (rmdir_checks s) name now n
 
 pub unlink_reads : (s : State) (name : List ℕ) (now : Moment) (n : Node) → Reads Nothing (unlink s name now n)
-unlink_reads s name now n =
-    chosen_reads (not (is_dir n.mode)) _ _ (refused_reads s _ refl)
-    (refused_name_reads s name (unlink_named s name now n)
-    (chosen_reads (not (is_named s n.number)) _ _ (refused_reads s _ refl) (unlink_entry_reads s now (entry_at s.entries n.number name))))
-
-rmdir_child_reads : (s : State) (e : EntryRow) (now : Moment) (o : Option Node) → Reads Nothing (rmdir_child s e now o)
-rmdir_child_reads s e now None = refused_reads s _ refl
-rmdir_child_reads s e now (Some c) =
-    chosen_reads (not (is_dir c.mode)) _ _ (refused_reads s _ refl)
-    (chosen_reads (has_entries s.entries c.number) _ _ (refused_reads s _ refl) (answered_reads (tidied (entry_gone e now s)) [] no_body))
-
-rmdir_entry_reads : (s : State) (now : Moment) (o : Option EntryRow) → Reads Nothing (rmdir_entry s now o)
-rmdir_entry_reads s now None = refused_reads s _ refl
-rmdir_entry_reads s now (Some e) = rmdir_child_reads s e now (node_at s e.child)
+unlink_reads s name now n = remove_reads s unlink_checks (λ _. refl) name now n
 
 pub rmdir_reads : (s : State) (name : List ℕ) (now : Moment) (n : Node) → Reads Nothing (rmdir s name now n)
-rmdir_reads s name now n =
-    chosen_reads (not (is_dir n.mode)) _ _ (refused_reads s _ refl)
-    (refused_name_reads s name (rmdir_named s name now n)
-    (chosen_reads (not (is_named s n.number)) _ _ (refused_reads s _ refl) (rmdir_entry_reads s now (entry_at s.entries n.number name))))
+rmdir_reads s name now n = remove_reads s (rmdir_checks s) (λ _. refl) name now n

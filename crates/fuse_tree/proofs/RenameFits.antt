@@ -1,18 +1,15 @@
 -- What RENAME and RENAME2 answer fits, and is read.
-use Rattle.std.proofs.Common.{◌≡◌, ◌-◌, ◌&&◌, ◌||◌, ◌==◌, ℕ, Bool, true, false, cond, not, List, [], Option, Some, None, is_some, refl, arith}
+use Rattle.std.proofs.Common.{◌-◌, ◌&&◌, ◌||◌, ◌==◌, ℕ, Bool, not, [], Option, Some, None, is_some, refl, arith}
 use Rattle.std.specs.Prelude.{nat_le, nat_lt}
-use Rattle.fuse_wire.specs.declared.errno.Errno.{Errno}
-use Rattle.fuse_answer.specs.Replies.{Kind, Nothing}
+use Rattle.fuse_answer.specs.Replies.{Nothing}
 use Rattle.fuse_tree.specs.Removal.{tidied}
-use Rattle.fuse_tree.specs.Bounds.{number_end}
-use Rattle.fuse_tree.specs.declared.rows.EntryRow.{EntryRow}
-use Rattle.fuse_tree.specs.State.{State, Node, is_dir, is_named, is_odd_name, name_fault, node_at}
-use Rattle.fuse_tree.specs.Rows.{entry_at}
-use Rattle.fuse_tree.specs.Done.{Done, refuse_for}
+use Rattle.fuse_rows.specs.Bounds.{number_end}
+use Rattle.fuse_rows.specs.declared.rows.EntryRow.{EntryRow}
+use Rattle.fuse_tree.specs.State.{State, Node, is_dir, is_named, name_tests, node_at}
+use Rattle.fuse_rows.specs.Rows.{entry_at}
 use Rattle.fuse_tree.specs.Removing.{has_entries}
-use Rattle.fuse_tree.specs.Renaming.{Renaming, is_exchange, is_no_replace, is_dir_at, holds, is_same, earlier, asked_fault, place_fault, renamed, exchanged}
-use Rattle.fuse_tree.specs.Renaming.{rename_with_room, rename_entry, exchange_entry, rename_by, rename_from, rename_between, rename}
-use Rattle.fuse_tree.proofs.Fit.{Fits, Reads, refused, answered, chosen, refused_for, is_error, refused_reads, answered_reads, chosen_reads, no_body}
+use Rattle.fuse_tree.specs.Renaming.{Renaming, is_exchange, is_no_replace, is_dir_at, holds, is_same, asked_fault, place_fault, renamed, exchanged, rename_with_room, rename_entry, exchange_entry, rename_by, rename_from, rename_between, rename}
+use Rattle.fuse_tree.proofs.Fit.{Fits, Reads, refused, answered, chosen, refused_for, IsError, no_error, error_where, earlier_error, tests_error, refused_reads, refused_for_reads, answered_reads, chosen_reads, no_body}
 
 -- ---- fits
 
@@ -52,43 +49,17 @@ rename_fits s r n = between_fits s r n (node_at s r.new_dir)
 
 -- ---- and is read
 
--- a fault that is answered is an error that an answer may bear
-IsError : Option Errno → Type 0
-IsError None = Unit {0}
-IsError (Some errno) = is_error errno ≡ true
-
-unless : (b : Bool) (errno : Errno) (o : Option Errno) → is_error errno ≡ true → IsError o → IsError (cond b (Some errno) o)
-unfolding IsError
-unless true errno o one two = one
-unless false errno o one two = two
-
-never : IsError None
-unfolding IsError
-never = tt
-
-earlier_error : (one two : Option Errno) → IsError one → IsError two → IsError (earlier one two)
-earlier_error None two a b = b
-earlier_error (Some errno) two a b = a
-
-name_error : (name : List ℕ) → IsError (name_fault name)
-name_error name = unless _ _ _ refl (unless (is_odd_name name) _ _ refl never)
-
 asked_error : (r : Renaming) (are_dirs are_named : Bool) → IsError (asked_fault r are_dirs are_named)
 asked_error r are_dirs are_named =
-    unless (not are_dirs) _ _ refl
-    (earlier_error _ _ (name_error r.old_name) (earlier_error _ _ (name_error r.new_name)
-    (unless (not (is_some r.mode)) _ _ refl (unless (not are_named) _ _ refl never))))
+    error_where (not are_dirs) _ _ refl
+    (earlier_error _ _ (tests_error (name_tests r.old_name) refl) (earlier_error _ _ (tests_error (name_tests r.new_name) refl)
+    (error_where (not (is_some r.mode)) _ _ refl (error_where (not are_named) _ _ refl no_error))))
 
 place_error : (s : State) (child : ℕ) (other : Option EntryRow) → IsError (place_fault s child other)
-place_error s child None = never
+place_error s child None = no_error
 place_error s child (Some other) =
-    unless (is_dir_at s child && not (is_dir_at s other.child)) _ _ refl
-    (unless (not (is_dir_at s child) && is_dir_at s other.child) _ _ refl (unless (has_entries s.entries other.child) _ _ refl never))
-
-refused_for_reads : {kind : Kind} (s : State) (fault : Option Errno) (d : Done) → IsError fault → Reads kind d → Reads kind (refuse_for s fault d)
-unfolding IsError
-refused_for_reads s None d is so = so
-refused_for_reads s (Some errno) d is so = refused_reads s errno is
+    error_where (is_dir_at s child && not (is_dir_at s other.child)) _ _ refl
+    (error_where (not (is_dir_at s child) && is_dir_at s other.child) _ _ refl (error_where (has_entries s.entries other.child) _ _ refl no_error))
 
 entry_reads : (s : State) (r : Renaming) (dir : ℕ) (e : EntryRow) (other : Option EntryRow) → Reads Nothing (rename_entry s r dir e other)
 entry_reads s r dir e other =

@@ -1,14 +1,14 @@
 -- What the rows of a tree have.
-use Rattle.std.proofs.Common.{◌≡◌, ◌==◌, ◌&&◌, ◌||◌, ◌<◌, ◌≤◌, ℕ, Bool, true, false, List, [], ◌∷◌, length}
-use Rattle.std.proofs.Common.{Option, Some, None, refl, sym, ap, subst, ◌∙◌}
+use Rattle.std.proofs.Common.{◌≡◌, ◌==◌, ◌&&◌, ◌||◌, ◌<◌, ◌≤◌, ℕ, Bool, true, false, List, [], ◌∷◌, length, Option, Some, None, refl, sym, ap, subst, ◌∙◌}
 use Rattle.std.specs.Option.{option_map}
 use Rattle.std.specs.List.{list_any}
 use Rattle.fuse_init.specs.declared.profile.Profile.{Profile}
 use Rattle.fuse_init.specs.Profile.{terms}
-use Rattle.fuse_tree.specs.Bounds.{fuse_root_id}
-use Rattle.fuse_tree.specs.declared.rows.NodeRow.{NodeRow}
+use Rattle.fuse_rows.specs.Bounds.{fuse_root_id}
+use Rattle.fuse_rows.specs.declared.rows.NodeRow.{NodeRow}
 use Rattle.fuse_tree.specs.State.{State, Node, Shape, terms_of, used_of, IsNode, IsEntry, AreApart, Apart, is_dir, is_dir_of, has_number, node_at}
-use Rattle.fuse_tree.specs.Rows.{IsRowed, row_of, full_of, rows_of_state, row_at, full_at, content_of, terms_at}
+use Rattle.fuse_rows.specs.Rows.{row_at, full_at, content_of, terms_at}
+use Rattle.fuse_tree.specs.Rowed.{IsRowed, row_of, full_of, rows_of_state}
 use Rattle.fuse_tree.specs.RowsOfTrees.{OfTree, IsSized, LeadsToRow, RowsOfTrees}
 use Rattle.fuse_tree.proofs.Bounds.{rowed_is, child_there}
 use Rattle.fuse_tree.proofs.Lists.{all_more, found}

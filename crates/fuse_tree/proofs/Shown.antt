@@ -1,20 +1,18 @@
 -- Entries of the rows of a tree: each has a name and leads to a node.
-use Rattle.std.proofs.Common.{◌≡◌, ◌<◌, ◌≤◌, ◌+◌, ℕ, zero, suc, get_or, List, [], ◌∷◌, ◌++◌, length, map, take, Option, Some, None, IfSome, refl, sym, ap, subst, ◌∙◌, append_assoc, arith}
+use Rattle.std.proofs.Common.{◌≡◌, ◌<◌, ◌≤◌, ◌+◌, ℕ, zero, suc, get_or, List, [], ◌∷◌, ◌++◌, length, map, take, None, refl, sym, ap, subst, ◌∙◌, append_assoc, arith}
 use Rattle.std.specs.Prelude.{◌≢◌}
 use Rattle.std.specs.List.{AllByRecursion}
 use Rattle.std.proofs.lemmas.Bool.{eqb-false, ltb-false}
 use Rattle.std.proofs.lemmas.List.{map-append, take_more}
 use Rattle.fuse_wire.specs.Errnos.{einval, enametoolong}
-use Rattle.fuse_tree.specs.declared.rows.EntryRow.{EntryRow}
-use Rattle.fuse_tree.specs.declared.rows.NodeRow.{NodeRow}
-use Rattle.fuse_tree.specs.declared.rows.Child.{Child}
-use Rattle.fuse_tree.specs.inner.Reading.{IsWithin}
+use Rattle.fuse_rows.specs.declared.rows.EntryRow.{EntryRow}
+use Rattle.fuse_rows.specs.declared.rows.Child.{Child}
 use Rattle.fuse_tree.specs.State.{State, Shape, IsEntry, name_fault, is_odd_name}
-use Rattle.fuse_tree.specs.Rows.{Rows, IsRowed, rows_of_state, row_at, is_after, entries_after, with_child, children_after}
-use Rattle.fuse_tree.specs.inner.PlanListing.{IsShown}
-use Rattle.fuse_tree.proofs.Agrees.{no_fault}
+use Rattle.fuse_rows.specs.Rows.{Rows, row_at, is_after, entries_after, with_child}
+use Rattle.fuse_tree.specs.Rowed.{IsRowed, rows_of_state}
+use Rattle.fuse_tree.proofs.Fit.{no_fault}
 use Rattle.fuse_tree.proofs.Lists.{all_more, all_kept, or_false}
-use Rattle.fuse_tree.proofs.Bounds.{rowed_is, child_there, row_within}
+use Rattle.fuse_tree.proofs.Bounds.{rowed_is, child_there}
 
 -- ---- names
 
@@ -31,10 +29,10 @@ name_fits name none =
 -- ---- entries
 
 -- an entry has a name of 1 to 255 bytes, and leads to a row
-record Leads (rows : Rows) (e : EntryRow) : Type 0 where
-  some : 1 ≤ length e.name
-  short : length e.name ≤ 255
-  there : row_at rows e.child ≢ None
+pub record Leads (rows : Rows) (e : EntryRow) : Type 0 where
+  pub some : 1 ≤ length e.name
+  pub short : length e.name ≤ 255
+  pub there : row_at rows e.child ≢ None
 
 shown_of : (s : State) (e : EntryRow) → IsEntry s.nodes s.entries s.next_cookie e → Leads (rows_of_state s) e
 shown_of s e p = let n = name_fits e.name p.name in record { some = n.some; short = n.short; there = child_there s e.child p.child }
@@ -50,26 +48,11 @@ shown_in s dir cookie limit tree =
     (all_kept _ (is_after dir cookie) s.entries
     (all_more (IsEntry s.nodes s.entries s.next_cookie) (Leads (rows_of_state s)) s.entries (λ e p. shown_of s e p) tree.entries))
 
-all_lead : (rows : Rows) (dir cookie limit : ℕ) → IsRowed rows → AllByRecursion (Leads rows) (entries_after rows dir cookie limit)
+pub all_lead : (rows : Rows) (dir cookie limit : ℕ) → IsRowed rows → AllByRecursion (Leads rows) (entries_after rows dir cookie limit)
 unfolding IsRowed
 all_lead rows dir cookie limit is =
     let s = is.0 in
     subst (λ (r : Rows). AllByRecursion (Leads r) (entries_after r dir cookie limit)) (sym (is.2 ∙ rowed_is s)) (shown_in s dir cookie limit is.1.shape)
-
-if_within : (rows : Rows) (number : ℕ) (o : Option NodeRow) → IsRowed rows → row_at rows number ≡ o → IfSome o IsWithin
-if_within rows number None is e = tt
-if_within rows number (Some row) is e = row_within rows number row is e
-
-with_rows : (rows : Rows) (es : List EntryRow) → IsRowed rows → AllByRecursion (Leads rows) es → AllByRecursion IsShown (map (with_child rows) es)
-with_rows rows [] is all = tt
-with_rows rows (e ∷ es) is all = (
-  record { some = all.0.some; short = all.0.short; there = all.0.there; within = if_within rows e.child (row_at rows e.child) is refl },
-  with_rows rows es is all.1,
-)
-
-pub all_shown : (rows : Rows) (dir cookie limit : ℕ) (cs : List Child) → IsRowed rows → cs ≡ children_after rows dir cookie limit → AllByRecursion IsShown cs
-all_shown rows dir cookie limit cs is e =
-    subst (AllByRecursion IsShown) (sym e) (with_rows rows (entries_after rows dir cookie limit) is (all_lead rows dir cookie limit is))
 
 -- what is made of the children is made of the entries
 pub made_of : {A : Type 0} (make : Child → A) (rows : Rows) (es : List EntryRow) → map make (map (with_child rows) es) ≡ map (λ e. make (with_child rows e)) es

@@ -1,11 +1,12 @@
 -- The rows of a state determine it.
 use Rattle.std.proofs.Common.{◌≡◌, ℕ, Option, Some, None, List, [], ◌∷◌, map, refl, sym, ap, ◌∙◌}
 use Rattle.std.specs.Option.{option_map}
-use Rattle.fuse_tree.specs.declared.rows.Full.{Full}
+use Rattle.fuse_rows.specs.declared.rows.Full.{Full}
 use Rattle.fuse_tree.specs.State.{State, Node, used_of}
 use Rattle.fuse_tree.specs.Space.{room_of}
-use Rattle.fuse_tree.specs.Rows.{Rows, rowed, full_of}
-use Rattle.fuse_tree.specs.Plan.{RowsTellState}
+use Rattle.fuse_rows.specs.Rows.{Rows}
+use Rattle.fuse_tree.specs.Rowed.{rowed, full_of}
+use Rattle.fuse_tree.specs.Laws.{RowsTellState}
 use Rattle.fuse_tree.proofs.Blocks.{room_with}
 
 abbrev node_of : Full → Node

@@ -5,15 +5,13 @@ use Rattle.std.specs.List.{AllByRecursion, list_any}
 use Rattle.std.proofs.lemmas.Bool.{eqb-true, eqb-false, eq-eqb}
 use Rattle.std.proofs.lemmas.List.{length-append, length-map}
 use Rattle.fuse_init.specs.Profile.{Terms}
-use Rattle.fuse_tree.specs.Bounds.{number_end}
-use Rattle.fuse_tree.specs.declared.rows.EntryRow.{EntryRow}
-use Rattle.fuse_tree.specs.declared.rows.HandleRow.{HandleRow}
-use Rattle.fuse_tree.specs.State.{State, terms_of, Node, Shape, HasMode, Carries, IsNode, IsEntry, IsHandle, AreApart, Reaches, type_of, is_dir_of, has_number, is_open_at}
-use Rattle.fuse_tree.specs.State.{FitsCapacity, is_entry, name_fault, up_of, is_named}
-use Rattle.fuse_tree.specs.Rows.{entry_at}
+use Rattle.fuse_rows.specs.Bounds.{number_end}
+use Rattle.fuse_rows.specs.declared.rows.EntryRow.{EntryRow}
+use Rattle.fuse_rows.specs.declared.rows.HandleRow.{HandleRow}
+use Rattle.fuse_tree.specs.State.{State, terms_of, Node, Shape, HasMode, Carries, IsNode, IsEntry, IsHandle, AreApart, Reaches, type_of, is_dir_of, has_number, is_open_at, FitsCapacity, name_fault, up_of, is_named}
+use Rattle.fuse_rows.specs.Rows.{is_entry, entry_at}
 use Rattle.fuse_tree.specs.Making.{grow}
-use Rattle.fuse_tree.proofs.Lists.{all_more, all_both, all_grown, all_mapped, apart_grown, apart_mapped, any_mapped, any_grown, any_last, any_gives, and_true}
-use Rattle.fuse_tree.proofs.Lists.{none_found}
+use Rattle.fuse_tree.proofs.Lists.{all_more, all_both, all_grown, all_mapped, apart_grown, apart_mapped, any_mapped, any_grown, any_last, any_gives, and_true, none_found}
 use Rattle.fuse_tree.proofs.Ups.{reaches_more, named_reaches}
 
 -- ---- numbers that are given out

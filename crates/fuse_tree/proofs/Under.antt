@@ -1,7 +1,7 @@
 -- What lies under a directory, by steps up.
 use Rattle.std.proofs.Common.{◌≡◌, ◌≢◌, ◌&&◌, ◌||◌, ℕ, zero, suc, Bool, true, false, cond, eqb, List, [], ◌∷◌, length, refl, sym, ap, ◌∙◌}
 use Rattle.std.proofs.lemmas.Bool.{eqb-true, eq-eqb}
-use Rattle.fuse_tree.specs.declared.rows.EntryRow.{EntryRow}
+use Rattle.fuse_rows.specs.declared.rows.EntryRow.{EntryRow}
 use Rattle.fuse_tree.specs.State.{State, Shape, Apart, AreApart, up_of, above}
 use Rattle.fuse_tree.specs.Renaming.{leads_to, lies_in, is_child, StepsUp, LiesInIsUnder}
 use Rattle.fuse_tree.proofs.Lists.{any_gives, and_true, or_true}

@@ -1,13 +1,13 @@
 -- What the walk upwards reads off the rows of a tree.
-use Rattle.std.proofs.Common.{◌≡◌, ◌==◌, ◌≤◌, ◌<◌, ◌≢◌, ◌+◌, ◌-◌, ◌&&◌, ◌||◌, ℕ, zero, suc, Bool, true, false, eqb, List, length, Option, Some, None, refl, sym}
-use Rattle.std.proofs.Common.{ap, subst, ◌∙◌, inl, inr, arith}
+use Rattle.std.proofs.Common.{◌≡◌, ◌==◌, ◌≤◌, ◌<◌, ◌≢◌, ◌+◌, ◌-◌, ◌&&◌, ◌||◌, ℕ, zero, suc, Bool, true, false, eqb, List, length, Option, Some, None, refl, sym, ap, subst, ◌∙◌, inl, inr, arith}
 use Rattle.std.specs.Option.{option_map}
 use Rattle.std.proofs.lemmas.Bool.{eqb-true, eqb-false, ne_eqb, eq-eqb, cases_lt}
-use Rattle.fuse_tree.specs.Bounds.{node_limit}
-use Rattle.fuse_tree.specs.declared.rows.EntryRow.{EntryRow}
-use Rattle.fuse_tree.specs.declared.rows.NodeRow.{NodeRow}
+use Rattle.fuse_rows.specs.Bounds.{node_limit}
+use Rattle.fuse_rows.specs.declared.rows.EntryRow.{EntryRow}
+use Rattle.fuse_rows.specs.declared.rows.NodeRow.{NodeRow}
 use Rattle.fuse_tree.specs.State.{State, Node, Shape, profile_of, IsEntry, has_number, node_at, up_of, above}
-use Rattle.fuse_tree.specs.Rows.{Rows, IsRowed, row_of, rows_of_state, row_at}
+use Rattle.fuse_rows.specs.Rows.{Rows, row_at}
+use Rattle.fuse_tree.specs.Rowed.{IsRowed, row_of, rows_of_state}
 use Rattle.fuse_tree.specs.Renaming.{leads_to, lies_in, is_dir_at, holds}
 use Rattle.fuse_tree.proofs.Lists.{all_more, any_gives, none_found}
 use Rattle.fuse_tree.proofs.Most.{nodes_most}

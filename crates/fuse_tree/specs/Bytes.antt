@@ -7,8 +7,8 @@ use Rattle.fuse_init.specs.declared.profile.Profile.{Profile}
 use Rattle.fuse_request.specs.Act.{Act, Asked}
 use Rattle.fuse_request.specs.Act as acts
 use Rattle.fuse_tree.specs.State.{State, new_store}
-use Rattle.fuse_tree.specs.declared.origin.Origin.{Origin}
-use Rattle.fuse_tree.specs.Clearing.{cleared}
+use Rattle.fuse_rows.specs.declared.origin.Origin.{Origin}
+use Rattle.fuse_tree.specs.Clearing.{cleared_tree}
 use Rattle.fuse_tree.specs.Do.{done}
 
 abbrev pub AreBytes : List ℕ → Type 0
@@ -29,11 +29,11 @@ BringsBytes (acts.Mkdir mode umask name) = AreNameBytes name
 BringsBytes (acts.Rename new_dir old_name new_name) = AreNameBytes old_name × AreNameBytes new_name
 BringsBytes (acts.Rename2 new_dir flags old_name new_name) = AreNameBytes old_name × AreNameBytes new_name
 BringsBytes (acts.Write fh offset write_flags lock_owner flags payload) = AreBytes payload
-BringsBytes (acts.Unsupported opcode body) = AreBytes body
+BringsBytes (acts.Further opcode body) = AreBytes body
 BringsBytes _ = Unit {0}
 
 -- a new store holds bytes, and requests that bring bytes and mounts leave it so
 pub record BytesKept : Type 0 where
   pub new : (p : Profile) (capacity : ℕ) (from : Origin) → HoldsBytes (new_store p capacity from)
   pub kept : (s : State) (request : Asked) (now : Moment) → BringsBytes request.act → HoldsBytes s → HoldsBytes (done s request now).state
-  pub mounted : (s : State) → HoldsBytes s → HoldsBytes (cleared s)
+  pub mounted : (s : State) → HoldsBytes s → HoldsBytes (cleared_tree s)

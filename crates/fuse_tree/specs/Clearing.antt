@@ -2,14 +2,15 @@
 use Rattle.std.specs.Prelude.{◌≡◌, ◌-◌, ℕ, Bool, not, List, [], length, filter, Option, None}
 use Rattle.std.specs.Option.{option_map}
 use Rattle.std.specs.List.{sum_by}
-use Rattle.fuse_tree.specs.declared.rows.Full.{Full}
-use Rattle.fuse_tree.specs.declared.rows.Room.{Room}
+use Rattle.fuse_rows.specs.declared.rows.Full.{Full}
+use Rattle.fuse_rows.specs.declared.rows.Room.{Room}
 use Rattle.fuse_tree.specs.State.{State, Tree, is_named, blocks_for}
-use Rattle.fuse_tree.specs.Rows.{Rows, rowed, row_is_named}
+use Rattle.fuse_rows.specs.Rows.{Rows, row_is_named}
+use Rattle.fuse_tree.specs.Rowed.{rowed}
 
 -- handles, settings and the nodes without a name go: named nodes, entries and counters stay
-abbrev pub cleared : State → State
-cleared s = record s { nodes = filter (λ n. is_named s n.number) s.nodes; handles = []; settings = None }
+abbrev pub cleared_tree : State → State
+cleared_tree s = record s { nodes = filter (λ n. is_named s n.number) s.nodes; handles = []; settings = None }
 
 abbrev pub is_named_row : Full → Bool
 is_named_row f = row_is_named f.row
@@ -37,4 +38,4 @@ cleared_rows rows = record {
 
 -- of a tree a tree is left, and its rows are those that are left
 abbrev pub Clearing : Type 0
-Clearing = (s : State) → Tree s → Tree (cleared s) × (rowed (cleared s) ≡ cleared_rows (rowed s))
+Clearing = (s : State) → Tree s → Tree (cleared_tree s) × (rowed (cleared_tree s) ≡ cleared_rows (rowed s))

@@ -1,7 +1,7 @@
 -- The effect and the answer of each request (defined by this project), over the whole state: the first check that
 -- applies decides. Neither unique nor pid nor the extensions matter.
-use Rattle.std.specs.Prelude.{ℕ, Bool, true, false, not, if◌then◌else◌, List, [], Option, Some, None, is_some}
-use Rattle.fuse_wire.specs.Errnos.{enoent, enotdir, enosys, eproto, estale}
+use Rattle.std.specs.Prelude.{ℕ, Bool, true, false, if◌then◌else◌, List, [], Option, Some, None, is_some}
+use Rattle.fuse_wire.specs.Errnos.{enoent, enosys, eproto, estale}
 use Rattle.fuse_wire.specs.declared.moment.Moment.{Moment}
 use Rattle.fuse_request.specs.declared.request.InHeader.{InHeader}
 use Rattle.fuse_request.specs.declared.request.InitIn.{InitIn}
@@ -9,12 +9,12 @@ use Rattle.fuse_request.specs.Act.{Act, Asked}
 use Rattle.fuse_request.specs.Act as acts
 use Rattle.fuse_answer.specs.Bodies.{entry_bytes, attr_out_bytes}
 use Rattle.fuse_init.specs.Agree.{agree}
-use Rattle.fuse_tree.specs.declared.rows.EntryRow.{EntryRow}
-use Rattle.fuse_tree.specs.State.{State, Node, profile_of, is_dir, node_at, is_named, name_fault}
+use Rattle.fuse_rows.specs.declared.rows.EntryRow.{EntryRow}
+use Rattle.fuse_tree.specs.State.{State, Node, profile_of, node_at}
 use Rattle.fuse_tree.specs.Keeping.{agreement_of, keeps, valid_of, attr_valid_of, absent_entry}
-use Rattle.fuse_tree.specs.Rows.{entry_at}
-use Rattle.fuse_tree.specs.Done.{Done, refuse, refuse_for, answer, attr_of, entry_of, attr_out_of}
-use Rattle.fuse_tree.specs.Making.{mkdir, mknod}
+use Rattle.fuse_rows.specs.Rows.{entry_at}
+use Rattle.fuse_tree.specs.Done.{Done, refuse, refuse_by, name_checks, answer, attr_of, entry_out_of, attr_out_of}
+use Rattle.fuse_tree.specs.Making.{asker, asked_node, mkdir, mknod}
 use Rattle.fuse_tree.specs.Setting.{setattr}
 use Rattle.fuse_tree.specs.Writing.{write, read}
 use Rattle.fuse_tree.specs.Init.{init}
@@ -32,20 +32,14 @@ lookup_absent s = if keeps (agreement_of s) then answer s (entry_bytes absent_en
 
 abbrev pub lookup_child : State → Option Node → Done
 lookup_child s None = lookup_absent s
-lookup_child s (Some child) = answer s (entry_bytes (entry_of (valid_of (agreement_of s)) (attr_of s child)))
+lookup_child s (Some child) = answer s (entry_bytes (entry_out_of (valid_of (agreement_of s)) (attr_of s child)))
 
 abbrev pub lookup_entry : State → Option EntryRow → Done
 lookup_entry s None = lookup_absent s
 lookup_entry s (Some e) = lookup_child s (node_at s e.child)
 
--- where directory n has a name of its own
-abbrev pub lookup_named : State → List ℕ → Node → Done
-lookup_named s name n = if not (is_named s n.number) then refuse s enoent else lookup_entry s (entry_at s.entries n.number name)
-
 abbrev pub lookup : State → List ℕ → Node → Done
-lookup s name n =
-    if not (is_dir n.mode) then refuse s enotdir
-    else refuse_for s (name_fault name) (lookup_named s name n)
+lookup s name n = refuse_by s (name_checks s name n) (lookup_entry s (entry_at s.entries n.number name))
 
 -- ---- GETATTR
 
@@ -60,20 +54,20 @@ abbrev pub do_act : State → InHeader → Act → Moment → Node → Done
 do_act s header (acts.Lookup name) now n = lookup s name n
 do_act s header (acts.Getattr flags fh) now n = getattr s n
 do_act s header (acts.Setattr set) now n = setattr s set now n
-do_act s header (acts.Mkdir mode umask name) now n = mkdir s header mode name now n
-do_act s header (acts.Mknod mode rdev umask name) now n = mknod s header mode rdev name now n
+do_act s header (acts.Mkdir mode umask name) now n = mkdir s (asked_node (asker header now) mode 0) name n
+do_act s header (acts.Mknod mode rdev umask name) now n = mknod s (asked_node (asker header now) mode rdev) name n
 do_act s header (acts.Unlink name) now n = unlink s name now n
 do_act s header (acts.Rmdir name) now n = rmdir s name now n
 do_act s header (acts.OpenFile flags open_flags) now n = open_file s flags n
 do_act s header (acts.Read asked) now n = read s asked n
-do_act s header (acts.Write fh offset write_flags lock_owner flags payload) now n = write s fh offset payload now n
+do_act s header (acts.Write fh offset write_flags lock_owner flags payload) now n = write s fh (record { offset = offset; payload = payload; now = now }) n
 do_act s header (acts.OpenDir flags open_flags) now n = open_dir s n
 do_act s header (acts.ReadDir x) now n = read_dir s x n
 do_act s header (acts.Release x) now n = release s x.fh n
 do_act s header (acts.ReleaseDir x) now n = release_dir s x.fh n
 do_act s header (acts.Rename new_dir old_name new_name) now n = rename s (asking new_dir 0 old_name new_name now) n
 do_act s header (acts.Rename2 new_dir flags old_name new_name) now n = rename s (asking new_dir flags old_name new_name now) n
-do_act s header (acts.Unsupported opcode body) now n = further s header opcode body now n
+do_act s header (acts.Further opcode body) now n = further s (asker header now) opcode body n
 do_act s header _ now n = refuse s enosys
 
 abbrev pub do_at : State → Asked → Moment → Option Node → Done

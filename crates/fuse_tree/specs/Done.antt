@@ -1,13 +1,15 @@
 -- The state after a request and its answer (defined by this project): shared by the definitions of the operations.
-use Rattle.std.specs.Prelude.{◌+◌, ◌-◌, ◌/◌, ◌==◌, ℕ, if◌then◌else◌, List, [], length, map, Option, Some, None}
+use Rattle.std.specs.Prelude.{◌+◌, ◌-◌, ◌/◌, ◌==◌, ℕ, not, if◌then◌else◌, List, [], ◌∷◌, length, map, Option, Some, None}
 use Rattle.fuse_wire.specs.declared.errno.Errno.{Errno}
+use Rattle.fuse_wire.specs.Errnos.{enoent, enotdir}
 use Rattle.fuse_wire.specs.declared.moment.Moment.{Moment}
 use Rattle.fuse_answer.specs.Said.{Said}
 use Rattle.fuse_answer.specs.declared.records.Attr.{Attr}
 use Rattle.fuse_answer.specs.declared.records.EntryOut.{EntryOut}
 use Rattle.fuse_answer.specs.declared.records.AttrOut.{AttrOut}
-use Rattle.fuse_tree.specs.Bounds.{block_bytes, sector_bytes}
-use Rattle.fuse_tree.specs.State.{State, Node, links_of}
+use Rattle.fuse_rows.specs.Bounds.{block_bytes, sector_bytes}
+use Rattle.fuse_tree.specs.Checks.{Check, Where, Part, first_error}
+use Rattle.fuse_tree.specs.State.{State, Node, links_of, is_dir, is_named, name_tests}
 
 -- the state after a request, and its answer
 pub record Done : Type 0 where
@@ -22,6 +24,14 @@ refuse s errno = record { state = s; said = record { errno = errno.0; body = [] 
 abbrev pub refuse_for : State → Option Errno → Done → Done
 refuse_for s (Some errno) d = refuse s errno
 refuse_for s None d = d
+
+-- these checks in this order, and else the operation
+abbrev pub refuse_by : State → List Check → Done → Done
+refuse_by s checks d = refuse_for s (first_error checks) d
+
+-- the checks on a name in directory n
+abbrev pub name_checks : State → List ℕ → Node → List Check
+name_checks s name n = Where enotdir (not (is_dir n.mode)) ∷ Part (name_tests name) ∷ Where enoent (not (is_named s n.number)) ∷ []
 
 -- the answer is a body
 abbrev pub answer : State → List ℕ → Done
@@ -50,8 +60,8 @@ attr_of s n = record {
 }
 
 -- an entry's answer, valid for so many seconds
-abbrev pub entry_of : ℕ → Attr → EntryOut
-entry_of valid attr =
+abbrev pub entry_out_of : ℕ → Attr → EntryOut
+entry_out_of valid attr =
     record {
       nodeid = attr.ino;
       generation = 0;

@@ -1,8 +1,8 @@
 -- The handles of a node (defined by this project). A state and its rows have the same handles, so these words are of both.
 use Rattle.std.specs.Prelude.{◌==◌, ℕ, Bool, if◌then◌else◌, List, Option, Some, None, is_some}
 use Rattle.fuse_wire.specs.declared.access_mode.AccessMode.{AccessMode}
-use Rattle.fuse_tree.specs.declared.rows.HandleRow.{HandleRow}
-use Rattle.fuse_tree.specs.Rows.{handle_at}
+use Rattle.fuse_rows.specs.declared.rows.HandleRow.{HandleRow}
+use Rattle.fuse_rows.specs.Rows.{handle_at}
 
 abbrev pub access_in : ℕ → Option HandleRow → Option AccessMode
 access_in node None = None

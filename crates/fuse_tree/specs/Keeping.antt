@@ -3,13 +3,18 @@ use Rattle.std.specs.Prelude.{◌==◌, ℕ, Bool, if◌then◌else◌}
 use Rattle.fuse_answer.specs.declared.records.Attr.{Attr}
 use Rattle.fuse_answer.specs.declared.records.EntryOut.{EntryOut}
 use Rattle.fuse_init.specs.Profile.{keeps_for}
-use Rattle.fuse_tree.specs.Bounds.{fuse_root_id, valid_seconds, kept_seconds}
+use Rattle.fuse_rows.specs.Bounds.{fuse_root_id, valid_seconds, kept_seconds}
 use Rattle.fuse_tree.specs.declared.agreement.Agreement.{Agreement}
 use Rattle.fuse_tree.specs.State.{State, profile_of}
+use Rattle.fuse_rows.specs.Rows.{Rows, profile_at}
 
 -- what a store says to each request: its profile, and the settings of INIT
 abbrev pub agreement_of : State → Agreement
 agreement_of s = record { profile = profile_of s; settings = s.settings }
+
+-- the same of its rows
+abbrev pub agreement_at : Rows → Agreement
+agreement_at rows = record { profile = profile_at rows; settings = rows.settings }
 
 -- the kernel keeps names and their absence
 abbrev pub keeps : Agreement → Bool

@@ -1,14 +1,12 @@
-pub mod Bounds
 pub mod Modes
+pub mod Checks
 pub mod State
 pub mod Space
-pub mod Rows
+pub mod Rowed
 pub mod RowsOfTrees
 pub mod Handles
-pub mod PlainRows
 pub mod Clearing
 pub mod Keeping
-pub mod Pieces
 pub mod Removal
 pub mod Done
 pub mod Init
@@ -27,9 +25,7 @@ pub mod Creating
 pub mod PlusListing
 pub mod Further
 pub mod Do
-pub mod Columns
-pub mod Plan
+pub mod Laws
 pub mod TheTree
-pub mod PlainTree
 pub mod Bytes
 pub mod inner

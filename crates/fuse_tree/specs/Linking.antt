@@ -1,7 +1,7 @@
 -- READLINK (defined by this project; readlink(2)): the target of a symbolic link.
 use Rattle.std.specs.Prelude.{not, if◌then◌else◌, take}
 use Rattle.fuse_wire.specs.Errnos.{einval}
-use Rattle.fuse_tree.specs.Bounds.{target_limit}
+use Rattle.fuse_rows.specs.Bounds.{target_limit}
 use Rattle.fuse_tree.specs.State.{State, Node, is_link}
 use Rattle.fuse_tree.specs.Done.{Done, refuse, answer}
 

@@ -1,21 +1,21 @@
 -- READDIR (defined by this project): the entries of a directory after an offset, as many as fit.
-use Rattle.std.specs.Prelude.{◌<◌, ◌==◌, ℕ, zero, suc, Bool, true, not, nat_le, nat_lt, if◌then◌else◌, List, [], ◌∷◌, ◌++◌, length, map, take, filter, Option}
-use Rattle.std.specs.Prelude.{Some, None, codes}
+use Rattle.std.specs.Prelude.{◌<◌, ◌==◌, ℕ, zero, suc, Bool, true, not, nat_le, nat_lt, if◌then◌else◌, List, [], ◌∷◌, ◌++◌, length, map, take, filter, Option, Some, None, codes}
 use Rattle.std.specs.List.{sum_by}
 use Rattle.fuse_wire.specs.Errnos.{enoent, ebadf, enotdir, einval}
 use Rattle.fuse_request.specs.declared.request.ReadIn.{ReadIn}
-use Rattle.fuse_answer.specs.Entries.{Entry, packed_len, entries_bytes, IsLongest}
-use Rattle.fuse_tree.specs.Bounds.{read_limit, fuse_root_id}
+use Rattle.fuse_answer.specs.Entries.{DirectoryEntry, packed_len, entries_bytes, IsLongest}
+use Rattle.fuse_rows.specs.Bounds.{read_limit, fuse_root_id}
 use Rattle.fuse_tree.specs.Modes.{s_ifdir}
-use Rattle.fuse_tree.specs.declared.rows.EntryRow.{EntryRow}
+use Rattle.fuse_rows.specs.declared.rows.EntryRow.{EntryRow}
+use Rattle.fuse_tree.specs.Checks.{Check, Where}
 use Rattle.fuse_tree.specs.State.{State, Node, Tree, Apart, type_of, is_dir, node_at, is_named, up_of}
 use Rattle.fuse_tree.specs.Handles.{is_open}
-use Rattle.fuse_tree.specs.Done.{Done, refuse, answer}
+use Rattle.fuse_tree.specs.Done.{Done, refuse, refuse_by, answer}
 
 -- ---- the entries of a directory
 
 -- the directory itself and the one above it, at the first two offsets
-abbrev pub dots : ℕ → ℕ → List Entry
+abbrev pub dots : ℕ → ℕ → List DirectoryEntry
 dots dir above =
     record { ino = dir; off = 1; kind = type_of s_ifdir; name = codes "." }
     ∷ record { ino = above; off = 2; kind = type_of s_ifdir; name = codes ".." }
@@ -25,21 +25,21 @@ dots dir above =
 abbrev pub above_or_root : State → ℕ → ℕ
 above_or_root s dir = if dir == fuse_root_id then fuse_root_id else up_of s.entries dir
 
-abbrev pub kind_of : Option Node → ℕ
-kind_of None = 0
-kind_of (Some n) = type_of n.mode
+abbrev pub type_of_node : Option Node → ℕ
+type_of_node None = 0
+type_of_node (Some n) = type_of n.mode
 
 -- the offset of an entry is its cookie
-abbrev pub told_entry : State → EntryRow → Entry
-told_entry s e = record { ino = e.child; off = e.cookie; kind = kind_of (node_at s e.child); name = e.name }
+abbrev pub told_entry : State → EntryRow → DirectoryEntry
+told_entry s e = record { ino = e.child; off = e.cookie; kind = type_of_node (node_at s e.child); name = e.name }
 
-abbrev pub entries_in : State → ℕ → List Entry
+abbrev pub entries_in : State → ℕ → List DirectoryEntry
 entries_in s dir = dots dir (above_or_root s dir) ++ map (told_entry s) (filter (λ e. e.dir == dir) s.entries)
 
-abbrev pub is_following : ℕ → Entry → Bool
+abbrev pub is_following : ℕ → DirectoryEntry → Bool
 is_following offset e = nat_lt offset e.off
 
-abbrev pub entries_following : State → ℕ → ℕ → List Entry
+abbrev pub entries_following : State → ℕ → ℕ → List DirectoryEntry
 entries_following s dir offset = filter (is_following offset) (entries_in s dir)
 
 -- ---- as many as fit
@@ -58,27 +58,27 @@ first_fits_by len [] size = true
 first_fits_by len (e ∷ es) size = nat_le (len e) size
 
 -- by their lengths in READDIR
-abbrev pub most : List Entry → ℕ → ℕ → ℕ
+abbrev pub most : List DirectoryEntry → ℕ → ℕ → ℕ
 most es size n = most_by packed_len es size n
 
-abbrev pub longest_prefix : List Entry → ℕ → List Entry
+abbrev pub longest_prefix : List DirectoryEntry → ℕ → List DirectoryEntry
 longest_prefix es size = longest_by packed_len es size
 
-abbrev pub first_fits : List Entry → ℕ → Bool
+abbrev pub first_fits : List DirectoryEntry → ℕ → Bool
 first_fits es size = first_fits_by packed_len es size
 
 -- ---- READDIR
 
-abbrev pub list_prefix : State → List Entry → ℕ → Done
+abbrev pub list_checks : State → ReadIn → Node → List Check
+list_checks s asked n =
+    Where ebadf (not (is_open s.handles asked.fh n.number)) ∷ Where enotdir (not (is_dir n.mode)) ∷ Where einval (nat_lt read_limit asked.size)
+    ∷ Where enoent (not (is_named s n.number)) ∷ []
+
+abbrev pub list_prefix : State → List DirectoryEntry → ℕ → Done
 list_prefix s es size = if not (first_fits es size) then refuse s einval else answer s (entries_bytes (longest_prefix es size))
 
 abbrev pub read_dir : State → ReadIn → Node → Done
-read_dir s asked n =
-    if not (is_open s.handles asked.fh n.number) then refuse s ebadf
-    else if not (is_dir n.mode) then refuse s enotdir
-    else if nat_lt read_limit asked.size then refuse s einval
-    else if not (is_named s n.number) then refuse s enoent
-    else list_prefix s (entries_following s n.number asked.offset) asked.size
+read_dir s asked n = refuse_by s (list_checks s asked n) (list_prefix s (entries_following s n.number asked.offset) asked.size)
 
 -- ---- laws
 

@@ -5,14 +5,16 @@ use Rattle.fuse_wire.specs.declared.moment.Moment.{Moment}
 use Rattle.fuse_request.specs.declared.request.InHeader.{InHeader}
 use Rattle.fuse_answer.specs.Bodies.{entry_bytes}
 use Rattle.fuse_init.specs.Profile.{Terms}
-use Rattle.fuse_tree.specs.Bounds.{number_end}
+use Rattle.fuse_rows.specs.Bounds.{number_end}
 use Rattle.fuse_tree.specs.Modes.{s_ifblk, s_ifchr, s_ifdir, s_ififo, s_ifreg, s_ifsock, s_isgid, type_unit}
+use Rattle.fuse_rows.specs.declared.origin.Origin.{Origin}
 use Rattle.fuse_tree.specs.declared.new_node.NewNode.{NewNode}
-use Rattle.fuse_tree.specs.declared.rows.EntryRow.{EntryRow}
-use Rattle.fuse_tree.specs.State.{State, Node, terms_of, is_dir, type_bits, is_device, is_named, name_fault}
-use Rattle.fuse_tree.specs.Rows.{entry_at}
+use Rattle.fuse_tree.specs.Checks.{Check, Where, Part}
+use Rattle.fuse_rows.specs.declared.rows.EntryRow.{EntryRow}
+use Rattle.fuse_tree.specs.State.{State, Node, terms_of, is_dir, type_bits, is_device, is_named, name_tests}
+use Rattle.fuse_rows.specs.Rows.{entry_at}
 use Rattle.fuse_tree.specs.Keeping.{agreement_of, valid_of}
-use Rattle.fuse_tree.specs.Done.{Done, refuse, refuse_for, answer, attr_of, entry_of, touch}
+use Rattle.fuse_tree.specs.Done.{Done, refuse_by, answer, attr_of, entry_out_of, touch}
 
 -- what is made in a directory of this mode gets its group
 abbrev pub gives_group : Terms → ℕ → Bool
@@ -22,15 +24,25 @@ gives_group t mode = t.inherits && (mode / s_isgid % 2 == 1)
 abbrev pub mode_in : Bool → ℕ → ℕ
 mode_in gives mode = if gives && (is_dir mode && (mode / s_isgid % 2 == 0)) then mode + s_isgid else mode
 
--- the initial attributes of a node that is made in a directory of this mode and group
-abbrev pub begun : Terms → ℕ → ℕ → InHeader → ℕ → ℕ → Moment → NewNode
-begun t dir gid header mode rdev now = record {
-  mode = mode_in (gives_group t dir) mode;
-  uid = header.uid;
-  gid = if gives_group t dir then gid else header.gid;
-  rdev = rdev;
-  made = now;
-}
+-- who asks, and when
+abbrev pub asker : InHeader → Moment → Origin
+asker header now = record { owner = record { uid = header.uid; gid = header.gid }; made = now }
+
+-- what is asked for: a node of this mode and device
+abbrev pub asked_node : Origin → ℕ → ℕ → NewNode
+asked_node from mode rdev = record { mode = mode; uid = from.owner.uid; gid = from.owner.gid; rdev = rdev; made = from.made }
+
+-- the same of this mode, where it stands for no device
+abbrev pub of_mode : ℕ → NewNode → NewNode
+of_mode mode asked = record asked { mode = mode; rdev = 0 }
+
+-- the initial attributes of a node that is asked for in a directory of this mode and group
+abbrev pub begun : Terms → ℕ → ℕ → NewNode → NewNode
+begun t dir gid asked = record asked { mode = mode_in (gives_group t dir) asked.mode; gid = if gives_group t dir then gid else asked.gid }
+
+-- those of one in directory n
+abbrev pub begun_in : State → Node → NewNode → NewNode
+begun_in s n asked = begun (terms_of s) n.mode n.gid asked
 
 abbrev pub new_node : State → NewNode → Node
 new_node s fresh = record {
@@ -58,42 +70,45 @@ grow n e s = record s {
 }
 
 -- the state with a new node under this name in the directory
-abbrev pub with_node : State → NewNode → ℕ → List ℕ → State
-with_node s fresh dir name = grow (new_node s fresh) (new_entry s dir name) (touch dir fresh.made s)
+abbrev pub with_new_node : State → NewNode → ℕ → List ℕ → State
+with_new_node s fresh dir name = grow (new_node s fresh) (new_entry s dir name) (touch dir fresh.made s)
 
 -- no room for a node: there are as many as there may be, or a counter is at its end
 abbrev pub is_full : ℕ → ℕ → ℕ → ℕ → Bool
 is_full limit nodes next_node next_cookie = nat_le limit nodes || nat_le number_end next_node || nat_le number_end next_cookie
 
--- a new node, where there is room for it
-abbrev pub make_with_room : State → NewNode → ℕ → List ℕ → Done
-make_with_room s fresh dir name =
-    if is_full (terms_of s).node_limit (length s.nodes) s.next_node s.next_cookie then refuse s enospc
-    else answer (with_node s fresh dir name) (entry_bytes (entry_of (valid_of (agreement_of s)) (attr_of (with_node s fresh dir name) (new_node s fresh))))
+-- a new node, whose entry is answered
+abbrev pub make : State → NewNode → ℕ → List ℕ → Done
+make s fresh dir name =
+    answer (with_new_node s fresh dir name) (entry_bytes (entry_out_of (valid_of (agreement_of s)) (attr_of (with_new_node s fresh dir name) (new_node s fresh))))
 
--- a new node in directory n, where the name is free
-abbrev pub make : State → NewNode → List ℕ → Node → Done
-make s fresh name n =
-    if not (is_named s n.number) then refuse s enoent
-    else if is_some (entry_at s.entries n.number name) then refuse s eexist
-    else make_with_room s fresh n.number name
+-- the checks on the place of a new node in directory n
+abbrev pub place_checks : State → List ℕ → Node → List Check
+place_checks s name n =
+    Where enoent (not (is_named s n.number)) ∷ Where eexist (is_some (entry_at s.entries n.number name))
+    ∷ Where enospc (is_full (terms_of s).node_limit (length s.nodes) s.next_node s.next_cookie) ∷ []
 
 -- ---- MKDIR
+
+abbrev pub mkdir_checks : State → List ℕ → Node → List Check
+mkdir_checks s name n = Where enotdir (not (is_dir n.mode)) ∷ Part (name_tests name) ∷ place_checks s name n
 
 -- the mode of a new directory: its type, and the permissions asked for
 abbrev pub dir_mode : ℕ → ℕ
 dir_mode mode = s_ifdir + mode % type_unit
 
-abbrev pub mkdir : State → InHeader → ℕ → List ℕ → Moment → Node → Done
-mkdir s header mode name now n =
-    if not (is_dir n.mode) then refuse s enotdir
-    else refuse_for s (name_fault name) (make s (begun (terms_of s) n.mode n.gid header (dir_mode mode) 0 now) name n)
+abbrev pub mkdir : State → NewNode → List ℕ → Node → Done
+mkdir s asked name n = refuse_by s (mkdir_checks s name n) (make s (begun_in s n (of_mode (dir_mode asked.mode) asked)) n.number name)
 
 -- ---- MKNOD
 
 -- these bits are of a type that MKNOD makes; 0 stands for a regular file
 abbrev pub may_make : ℕ → Bool
 may_make bits = (bits == 0) || (bits == s_ifreg) || (bits == s_ifchr) || (bits == s_ifblk) || (bits == s_ififo) || (bits == s_ifsock)
+
+abbrev pub mknod_checks : State → ℕ → List ℕ → Node → List Check
+mknod_checks s mode name n =
+    Where enotdir (not (is_dir n.mode)) ∷ Where einval (not (may_make (type_bits mode))) ∷ Part (name_tests name) ∷ place_checks s name n
 
 -- the mode of a new node: its type, and the permissions asked for
 abbrev pub node_mode : ℕ → ℕ
@@ -103,8 +118,9 @@ node_mode mode = (if type_bits mode == 0 then s_ifreg else type_bits mode) + mod
 abbrev pub node_rdev : ℕ → ℕ → ℕ
 node_rdev mode rdev = if is_device (type_bits mode) then rdev else 0
 
-abbrev pub mknod : State → InHeader → ℕ → ℕ → List ℕ → Moment → Node → Done
-mknod s header mode rdev name now n =
-    if not (is_dir n.mode) then refuse s enotdir
-    else if not (may_make (type_bits mode)) then refuse s einval
-    else refuse_for s (name_fault name) (make s (begun (terms_of s) n.mode n.gid header (node_mode mode) (node_rdev mode rdev) now) name n)
+-- a node of this type that stands for this device
+abbrev pub typed : NewNode → NewNode
+typed asked = record asked { mode = node_mode asked.mode; rdev = node_rdev asked.mode asked.rdev }
+
+abbrev pub mknod : State → NewNode → List ℕ → Node → Done
+mknod s asked name n = refuse_by s (mknod_checks s asked.mode name n) (make s (begun_in s n (typed asked)) n.number name)

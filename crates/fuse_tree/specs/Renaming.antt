@@ -1,20 +1,20 @@
 -- RENAME and RENAME2 (defined by this project): an entry moves, or two children change places.
-use Rattle.std.specs.Prelude.{◌≡◌, ◌≢◌, ◌+◌, ◌-◌, ◌==◌, ◌&&◌, ◌||◌, ℕ, zero, suc, Bool, true, false, not, nat_le, nat_lt, if◌then◌else◌, List, [], ◌∷◌, ◌++◌}
-use Rattle.std.specs.Prelude.{length, is_some, Option, Some, None}
+use Rattle.std.specs.Prelude.{◌≡◌, ◌≢◌, ◌+◌, ◌-◌, ◌==◌, ◌&&◌, ◌||◌, ℕ, zero, suc, Bool, true, false, not, nat_le, nat_lt, if◌then◌else◌, List, [], ◌∷◌, ◌++◌, length, is_some, Option, Some, None}
 use Rattle.std.specs.List.{list_any}
 use Rattle.fuse_wire.specs.declared.errno.Errno.{Errno}
 use Rattle.fuse_wire.specs.Errnos.{enoent, eexist, enotdir, eisdir, einval, enospc, enotempty, estale}
 use Rattle.fuse_wire.specs.declared.moment.Moment.{Moment}
-use Rattle.fuse_tree.specs.Bounds.{number_end}
+use Rattle.fuse_rows.specs.Bounds.{number_end}
 use Rattle.fuse_tree.specs.declared.rename_mode.RenameMode.{RenameMode}
 use Rattle.fuse_tree.specs.declared.rename_mode.RenameMode.TheVariants.{Replace, NoReplace, Exchange}
 use Rattle.fuse_tree.specs.Modes.{rename_noreplace, rename_exchange}
-use Rattle.fuse_tree.specs.declared.rows.EntryRow.{EntryRow}
+use Rattle.fuse_rows.specs.declared.rows.EntryRow.{EntryRow}
+use Rattle.fuse_tree.specs.Checks.{earlier}
 use Rattle.fuse_tree.specs.State.{State, Node, Tree, is_dir, is_dir_of, is_named, name_fault, node_at, above}
-use Rattle.fuse_tree.specs.Rows.{entry_at}
+use Rattle.fuse_rows.specs.Rows.{entry_at}
 use Rattle.fuse_tree.specs.Removal.{tidied}
 use Rattle.fuse_tree.specs.Done.{Done, refuse, refuse_for, answer, touch}
-use Rattle.fuse_tree.specs.Removing.{mark, without, entry_gone, has_entries}
+use Rattle.fuse_tree.specs.Removing.{mark, without_entry, entry_gone, has_entries}
 
 -- the mode of the flags of RENAME2
 abbrev pub mode_of : ℕ → Option RenameMode
@@ -82,20 +82,15 @@ both_touched r dir s = touch r.new_dir r.now (touch dir r.now s)
 
 -- the entry e of this directory stands at the new place
 abbrev pub renamed : Renaming → ℕ → EntryRow → Option EntryRow → State → State
-renamed r dir e other s = both_touched r dir (mark e.child r.now (placed r.new_dir r.new_name e.child (without e.cookie (replaced r other s))))
+renamed r dir e other s = both_touched r dir (mark e.child r.now (placed r.new_dir r.new_name e.child (without_entry e.cookie (replaced r other s))))
 
 -- the children of the entries e of this directory and other at the new place have changed places
 abbrev pub exchanged : Renaming → ℕ → EntryRow → EntryRow → State → State
 exchanged r dir e other s =
     both_touched r dir (mark e.child r.now (mark other.child r.now
-    (placed r.new_dir r.new_name e.child (placed dir r.old_name other.child (without other.cookie (without e.cookie s))))))
+    (placed r.new_dir r.new_name e.child (placed dir r.old_name other.child (without_entry other.cookie (without_entry e.cookie s))))))
 
 -- ---- checks
-
--- the first fault of two
-abbrev pub earlier : Option Errno → Option Errno → Option Errno
-earlier (Some errno) later = Some errno
-earlier None later = later
 
 -- the fault before any entry is looked up, where both are directories and both are named, or not
 abbrev pub asked_fault : Renaming → Bool → Bool → Option Errno

@@ -1,11 +1,12 @@
 -- True of the rows of each tree (defined by this project): a reader of rows may rely on it.
 use Rattle.std.specs.Prelude.{◌≡◌, ◌≢◌, ◌<◌, ◌≤◌, ℕ, length, Some, None}
 use Rattle.std.specs.List.{AllByRecursion}
-use Rattle.fuse_tree.specs.Bounds.{fuse_root_id}
-use Rattle.fuse_tree.specs.declared.rows.NodeRow.{NodeRow}
-use Rattle.fuse_tree.specs.declared.rows.EntryRow.{EntryRow}
+use Rattle.fuse_rows.specs.Bounds.{fuse_root_id}
+use Rattle.fuse_rows.specs.declared.rows.NodeRow.{NodeRow}
+use Rattle.fuse_rows.specs.declared.rows.EntryRow.{EntryRow}
 use Rattle.fuse_tree.specs.State.{Apart}
-use Rattle.fuse_tree.specs.Rows.{Rows, IsRowed, row_at, full_at, content_of, terms_at}
+use Rattle.fuse_rows.specs.Rows.{Rows, row_at, full_at, content_of, terms_at}
+use Rattle.fuse_tree.specs.Rowed.{IsRowed}
 
 -- the entry leads to a row
 abbrev pub LeadsToRow : Rows → EntryRow → Type 0

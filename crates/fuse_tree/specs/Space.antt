@@ -1,7 +1,7 @@
 -- The room of a store (defined by this project): each size counts in blocks, written or not.
 use Rattle.std.specs.Prelude.{◌+◌, ◌-◌, ℕ, Bool, true, nat_le, Option, Some, None}
 use Rattle.std.specs.Option.{option_map}
-use Rattle.fuse_tree.specs.declared.rows.Room.{Room}
+use Rattle.fuse_rows.specs.declared.rows.Room.{Room}
 use Rattle.fuse_tree.specs.State.{State, blocks_for, used_of}
 
 -- none of a plain store

@@ -1,7 +1,6 @@
 -- A tree of files, and its invariant (defined by this project). Numbers are given out in rising order, so each
 -- list stands in the order of its numbers: a list with rising numbers is a finite map.
-use Rattle.std.specs.Prelude.{◌≡◌, ◌≢◌, ◌<◌, ◌≤◌, ◌+◌, ◌*◌, ◌/◌, ◌%◌, ◌^◌, ◌==◌, ◌&&◌, ◌||◌, ℕ, zero, suc, Bool, true, false, not, nat_eq, nat_lt}
-use Rattle.std.specs.Prelude.{◌-◌, if◌then◌else◌, List, [], ◌∷◌, length, find, filter, Option, Some, None, IfSome, codes}
+use Rattle.std.specs.Prelude.{◌≡◌, ◌≢◌, ◌<◌, ◌≤◌, ◌+◌, ◌*◌, ◌/◌, ◌%◌, ◌^◌, ◌==◌, ◌&&◌, ◌||◌, ℕ, zero, suc, Bool, true, false, not, nat_eq, nat_lt, ◌-◌, if◌then◌else◌, List, [], ◌∷◌, length, find, filter, Option, Some, None, IfSome, codes}
 use Rattle.std.specs.List.{AllByRecursion, list_any, sum_by}
 use Rattle.std.specs.Cmp.Lexicographic.{pointwise}
 use Rattle.fuse_wire.specs.declared.access_mode.AccessMode.{AccessMode}
@@ -13,12 +12,13 @@ use Rattle.fuse_init.specs.declared.settings.Settings.{Settings}
 use Rattle.fuse_init.specs.declared.profile.Profile.{Profile}
 use Rattle.fuse_init.specs.declared.profile.Profile.TheVariants.{Plain, Everyday}
 use Rattle.fuse_init.specs.Profile.{Terms, terms}
-use Rattle.fuse_tree.specs.Bounds.{handle_limit, number_end, capacity_end, name_limit, target_limit, fuse_root_id, block_bytes}
+use Rattle.fuse_rows.specs.Bounds.{handle_limit, number_end, capacity_end, name_limit, target_limit, fuse_root_id, block_bytes}
 use Rattle.fuse_tree.specs.Modes.{s_ifblk, s_ifchr, s_ifdir, s_ififo, s_iflnk, s_ifreg, s_ifsock, type_unit, type_count}
-use Rattle.fuse_tree.specs.declared.rows.EntryRow.{EntryRow}
-use Rattle.fuse_tree.specs.declared.rows.HandleRow.{HandleRow}
-use Rattle.fuse_tree.specs.declared.origin.Owner.{Owner}
-use Rattle.fuse_tree.specs.declared.origin.Origin.{Origin}
+use Rattle.fuse_rows.specs.declared.rows.EntryRow.{EntryRow}
+use Rattle.fuse_rows.specs.declared.rows.HandleRow.{HandleRow}
+use Rattle.fuse_rows.specs.declared.origin.Origin.{Origin}
+use Rattle.fuse_rows.specs.Rows.{profile_for, is_entry}
+use Rattle.fuse_tree.specs.Checks.{error_in}
 
 -- a node: its size, its links and the directory above are counted, and not kept
 pub record Node : Type 0 where
@@ -44,23 +44,11 @@ pub record State : Type 0 where
   -- the blocks that an everyday store has room for; none of a plain one
   pub capacity : Option ℕ
 
--- the profile of a store: an everyday one has a capacity
-abbrev pub profile_for : {A : Type 0} → Option A → Profile
-profile_for None = Plain
-profile_for (Some x) = Everyday
-
 abbrev pub profile_of : State → Profile
 profile_of s = profile_for s.capacity
 
 abbrev pub terms_of : State → Terms
 terms_of s = terms (profile_of s)
-
--- the owner of a new store where none is named, and a store that is made at this moment then
-abbrev pub superuser : Owner
-superuser = record { uid = 0; gid = 0 }
-
-abbrev pub made_at : Moment → Origin
-made_at now = record { owner = superuser; made = now }
 
 -- the root of a new store: an empty directory of its owner
 abbrev pub root_node : Origin → Node
@@ -163,16 +151,13 @@ used_of s = sum_by (λ n. blocks_for (length n.content)) s.nodes
 abbrev pub is_odd_name : List ℕ → Bool
 is_odd_name name = (length name == 0) || pointwise nat_eq name (codes ".") || pointwise nat_eq name (codes "..") || list_any (λ byte. byte == 47) name
 
+-- the errors of a name
+abbrev pub name_tests : List ℕ → List (Errno × Bool)
+name_tests name = (enametoolong, nat_lt name_limit (length name)) ∷ (einval, is_odd_name name) ∷ []
+
 -- the fault of a name
 abbrev pub name_fault : List ℕ → Option Errno
-name_fault name =
-    if nat_lt name_limit (length name) then Some enametoolong
-    else if is_odd_name name then Some einval
-    else None
-
--- the entry stands in this directory under this name
-abbrev pub is_entry : ℕ → List ℕ → EntryRow → Bool
-is_entry dir name e = (e.dir == dir) && pointwise nat_eq e.name name
+name_fault name = error_in (name_tests name)
 
 -- ---- the invariant
 

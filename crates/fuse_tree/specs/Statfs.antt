@@ -3,8 +3,8 @@ use Rattle.std.specs.Prelude.{◌-◌, ℕ, length}
 use Rattle.std.specs.Option.{unwrap_or}
 use Rattle.fuse_answer.specs.declared.further.StatfsOut.{StatfsOut}
 use Rattle.fuse_answer.specs.FurtherAnswers.{statfs_bytes}
-use Rattle.fuse_tree.specs.Bounds.{block_bytes, name_limit}
-use Rattle.fuse_tree.specs.declared.rows.Room.{Room}
+use Rattle.fuse_rows.specs.Bounds.{block_bytes, name_limit}
+use Rattle.fuse_rows.specs.declared.rows.Room.{Room}
 use Rattle.fuse_tree.specs.State.{State, terms_of}
 use Rattle.fuse_tree.specs.Space.{room_of}
 use Rattle.fuse_tree.specs.Done.{Done, answer}

@@ -1,17 +1,18 @@
 -- WRITE and READ (defined by this project).
-use Rattle.std.specs.Prelude.{◌+◌, ◌==◌, ℕ, max, Bool, true, false, not, nat_lt, if◌then◌else◌, List, length, take, drop, Option, Some, None}
+use Rattle.std.specs.Prelude.{◌+◌, ◌==◌, ℕ, max, Bool, true, false, not, nat_lt, if◌then◌else◌, List, [], ◌∷◌, length, take, drop, Option, Some, None}
 use Rattle.fuse_wire.specs.declared.access_mode.AccessMode.{AccessMode}
 use Rattle.fuse_wire.specs.declared.access_mode.AccessMode.TheVariants.{ReadOnly, WriteOnly, ReadWrite}
 use Rattle.fuse_wire.specs.Errnos.{ebadf, eisdir, einval, efbig, enospc}
 use Rattle.fuse_wire.specs.declared.moment.Moment.{Moment}
 use Rattle.fuse_request.specs.declared.request.ReadIn.{ReadIn}
 use Rattle.fuse_answer.specs.Bodies.{write_bytes}
-use Rattle.fuse_tree.specs.Bounds.{read_limit}
+use Rattle.fuse_rows.specs.Bounds.{read_limit}
+use Rattle.fuse_tree.specs.Checks.{Check, Where}
 use Rattle.fuse_tree.specs.State.{State, Node, terms_of, is_dir}
 use Rattle.fuse_tree.specs.Space.{room_of, has_room}
-use Rattle.fuse_tree.specs.Rows.{written}
+use Rattle.fuse_rows.specs.Rows.{written}
 use Rattle.fuse_tree.specs.Handles.{access_at}
-use Rattle.fuse_tree.specs.Done.{Done, refuse, answer}
+use Rattle.fuse_tree.specs.Done.{Done, refuse, refuse_by, answer}
 use Rattle.fuse_tree.specs.Changing.{with_changed}
 
 -- ---- WRITE
@@ -22,6 +23,12 @@ may_write None = false
 may_write (Some ReadOnly) = false
 may_write (Some WriteOnly) = true
 may_write (Some ReadWrite) = true
+
+-- the request: these bytes, from this offset on, at this moment
+pub record Writing : Type 0 where
+  pub offset : ℕ
+  pub payload : List ℕ
+  pub now : Moment
 
 abbrev pub wrote : ℕ → List ℕ → Moment → Node → Node
 wrote offset payload now n = record n { content = written offset payload n.content; mtime = now; ctime = now }
@@ -35,13 +42,13 @@ abbrev pub count_body : ℕ → List ℕ
 count_body size = write_bytes (record { size = size })
 
 -- a WRITE of no byte changes nothing
-abbrev pub write : State → ℕ → ℕ → List ℕ → Moment → Node → Done
-write s fh offset payload now n =
+abbrev pub write : State → ℕ → Writing → Node → Done
+write s fh w n =
     if not (may_write (access_at s.handles fh n.number)) then refuse s ebadf
-    else if length payload == 0 then answer s (count_body 0)
-    else if nat_lt (terms_of s).file_limit (offset + length payload) then refuse s efbig
-    else if not (has_room (room_of s) (length n.content) (max (length n.content) (offset + length payload))) then refuse s enospc
-    else answer (with_bytes s offset payload now n.number) (count_body (length payload))
+    else if length w.payload == 0 then answer s (count_body 0)
+    else if nat_lt (terms_of s).file_limit (w.offset + length w.payload) then refuse s efbig
+    else if not (has_room (room_of s) (length n.content) (max (length n.content) (w.offset + length w.payload))) then refuse s enospc
+    else answer (with_bytes s w.offset w.payload w.now n.number) (count_body (length w.payload))
 
 -- ---- READ
 
@@ -52,10 +59,10 @@ may_read (Some ReadOnly) = true
 may_read (Some WriteOnly) = false
 may_read (Some ReadWrite) = true
 
+abbrev pub read_checks : State → ReadIn → Node → List Check
+read_checks s asked n =
+    Where ebadf (not (may_read (access_at s.handles asked.fh n.number))) ∷ Where eisdir (is_dir n.mode) ∷ Where einval (nat_lt read_limit asked.size) ∷ []
+
 -- the content from the offset on, at most so many bytes: none from the end on
 abbrev pub read : State → ReadIn → Node → Done
-read s asked n =
-    if not (may_read (access_at s.handles asked.fh n.number)) then refuse s ebadf
-    else if is_dir n.mode then refuse s eisdir
-    else if nat_lt read_limit asked.size then refuse s einval
-    else answer s (take asked.size (drop asked.offset n.content))
+read s asked n = refuse_by s (read_checks s asked n) (answer s (take asked.size (drop asked.offset n.content)))

@@ -1,23 +1,15 @@
 ghost use Rattle.fuse_tree.specs.Listing.{ListingIsLongest};
 ghost use Rattle.fuse_tree.specs.PlusListing.{PlusIsLongest};
 ghost use Rattle.fuse_tree.specs.Renaming.{LiesInIsUnder};
-ghost use Rattle.fuse_tree.specs.Plan.{TreeKept, NewStoreIsTree, RowsTellState, AnswersFit};
-ghost use Rattle.fuse_tree.specs.Plan.{AnswersAreRead};
+ghost use Rattle.fuse_tree.specs.Laws.{NewStoreIsTree, RowsTellState, AnswersFit, AnswersAreRead};
 ghost use Rattle.fuse_tree.specs.RowsOfTrees.{RowsOfTrees};
 ghost use Rattle.std.specs.Prelude.{◌≡◌};
 ghost use Rattle.fuse_tree.specs.Bytes.{BytesKept};
-ghost use Rattle.fuse_tree.specs.Bounds as bounds;
 ghost use Rattle.fuse_tree.specs.Modes as modes;
 
-use crate::limits::*;
 use crate::mode::*;
 use crate::rename_mode::{RENAME_EXCHANGE, RENAME_NOREPLACE};
 use fuse_answer::{read_back, record_sizes};
-
-/// Each request leaves a tree of the same capacity.
-pub fn tree_kept()
-    ensures { TreeKept }
-{}
 
 /// A new store is a tree.
 pub fn new_store_is_tree()
@@ -68,24 +60,6 @@ pub fn plus_listing_is_longest()
 /// A directory lies under another one within as many steps up as there are nodes.
 pub fn lies_in_is_under()
     ensures { LiesInIsUnder }
-{}
-
-/// The limits are those of the definitions, which state them as numbers.
-pub fn limit_numbers()
-    ensures nodes { MAX_NODES ≡ bounds.node_limit }
-    ensures handles { MAX_HANDLES ≡ bounds.handle_limit }
-    ensures counters { COUNTER_END ≡ bounds.number_end }
-    ensures file { MAX_FILE ≡ bounds.file_limit }
-    ensures capacities { CAPACITY_END ≡ bounds.capacity_end }
-    ensures capacity { DEFAULT_CAPACITY ≡ bounds.default_capacity }
-    ensures read { MAX_READ ≡ bounds.read_limit }
-    ensures target { MAX_TARGET ≡ bounds.target_limit }
-    ensures root { ROOT_ID ≡ bounds.fuse_root_id }
-    ensures block { BLOCK_SIZE ≡ bounds.block_bytes }
-    ensures sector { SECTOR_SIZE ≡ bounds.sector_bytes }
-    ensures valid { VALID_SECS ≡ bounds.valid_seconds }
-    ensures kept { KEPT_SECS ≡ bounds.kept_seconds }
-    ensures entry { LEAST_ENTRY ≡ bounds.least_entry }
 {}
 
 /// The types of modes and the flags of RENAME2 are those of Linux, as the definitions state them.

@@ -1,11 +1,13 @@
 ghost use Rattle.std.specs.Prelude.{◌≡◌, None, IfOk, OnOk, OnErr, Option};
 ghost use Rattle.std.specs.Result.{result_err};
-ghost use Rattle.fuse_tree.specs.Rows.{Rows, IsRowed, row_at, entry_at, entries_after, handle_at};
-ghost use Rattle.fuse_tree.specs.Rows.{bytes_at, children_after, handles_of, agreement_at};
+ghost use Rattle.fuse_rows.specs.Rows.{Rows, row_at, entry_at, entries_after, handle_at};
+ghost use Rattle.fuse_tree.specs.Rowed.{IsRowed};
+ghost use Rattle.fuse_rows.specs.Rows.{bytes_at, children_after, handles_of};
+ghost use Rattle.fuse_tree.specs.Keeping.{agreement_at};
 ghost use Rattle.fuse_tree.specs.declared.look.LookFault.{LookFault};
 
 use crate::agreement::Agreement;
-use crate::rows::{Child, Counters, EntryRow, HandleRow, NodeRow};
+use fuse_rows::{Child, Counters, EntryRow, HandleRow, NodeRow};
 use fuse_wire::ByteList;
 
 /// Why a look failed.

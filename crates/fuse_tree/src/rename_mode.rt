@@ -19,8 +19,8 @@ pub enum RenameMode {
 }
 
 impl RenameMode {
-    // The mode of the flags of RENAME2. `None` where they have no meaning.
-    pub(crate) fn of(flags: u32) -> Option<RenameMode>
+    /// The mode of the flags of RENAME2. `None` where they have no meaning.
+    pub fn of(flags: u32) -> Option<RenameMode>
         ensures { result ≡ mode_of flags }
     {
         match flags {

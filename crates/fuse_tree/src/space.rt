@@ -1,7 +1,7 @@
 ghost use Rattle.std.specs.Prelude.{◌≡◌};
 ghost use Rattle.fuse_tree.specs.State.{blocks_for};
 
-use crate::limits::BLOCK_SIZE;
+use fuse_rows::BLOCK_SIZE;
 
 /// The blocks that a size takes, written or not.
 pub fn blocks_of(size: u64) -> u64

@@ -1,7 +1,7 @@
 // What a profile decides of a tree.
 ghost use Rattle.std.specs.Prelude.{◌≡◌, ◌≤◌};
 ghost use Rattle.fuse_init.specs.Profile.{terms};
-ghost use Rattle.fuse_tree.specs.Bounds.{node_limit, file_limit};
+ghost use Rattle.fuse_rows.specs.Bounds.{node_limit, file_limit};
 
 use fuse_init::Profile;
 use fuse_wire::{FOPEN_KEEP_CACHE, opcode};
@@ -29,7 +29,7 @@ pub fn max_file(profile: Profile) -> u64
 }
 
 /// Whether a node without a name and without an fh goes.
-pub(crate) fn removes(profile: Profile) -> bool
+pub fn removes(profile: Profile) -> bool
     ensures { result ≡ (terms profile).removes }
 {
     match profile {
@@ -38,8 +38,8 @@ pub(crate) fn removes(profile: Profile) -> bool
     }
 }
 
-// The flags that OPEN is answered.
-pub(crate) fn open_flags(profile: Profile) -> u32
+/// The flags that OPEN is answered.
+pub fn open_flags(profile: Profile) -> u32
     ensures { result ≡ (terms profile).open_flags }
 {
     match profile {
@@ -48,8 +48,8 @@ pub(crate) fn open_flags(profile: Profile) -> u32
     }
 }
 
-// Whether what is made in a directory with S_ISGID gets its group.
-pub(crate) fn inherits(profile: Profile) -> bool
+/// Whether what is made in a directory with S_ISGID gets its group.
+pub fn inherits(profile: Profile) -> bool
     ensures { result ≡ (terms profile).inherits }
 {
     match profile {

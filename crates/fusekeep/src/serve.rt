@@ -2,7 +2,7 @@
 use crate::companion::{missing_log, remove_log};
 use fuse_commands::{Begin, CountLine, Ending};
 use fuse_files::{StoreRun, serve_store};
-use fuse_session::{Clock, Fixed, System};
+use fuse_session::{Clock, DevicePort, Fixed, System};
 use fuse_store::StoreKind;
 use fuse_store_files::StoreFiles;
 use fuse_wire::Moment;
@@ -42,11 +42,12 @@ fn serve_on_files<S: Start, C: Clock>(
     let alloc = rt.alloc();
     let made = missing_log(rt, file);
     let files = StoreFiles::at(rt, file, start);
+    let mut port = DevicePort::new(rt.stdin(), rt.stdout());
     let StoreRun {
         ending,
         counts,
         left,
-    } = serve_store(alloc, files, rt.stdin(), rt.stdout(), clock, begin, kind);
+    } = serve_store(alloc, files, &mut port, clock, begin, kind);
     if let Some(counts) = counts
         && ending.is_of_stream()
     {

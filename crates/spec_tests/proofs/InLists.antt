@@ -3,13 +3,13 @@ use Rattle.std.proofs.Common.{◌≡◌, refl, arith, false, ℕ, ◌≤◌, Lis
 use Rattle.std.specs.Prelude.{IfSome, IsSomeAnd}
 use Rattle.std.specs.Io.KnownBytes.{Appends}
 use Rattle.fuse_tree.specs.State.{State}
-use Rattle.fuse_tree.specs.Rows.{rowed}
+use Rattle.fuse_tree.specs.Rowed.{rowed}
 use Rattle.fuse_keeper.specs.declared.fault.StoreFault.{StoreFault}
 use Rattle.fuse_keeper.specs.declared.fault.StoreFault.TheVariants.{Memory as NoMemory}
 use Rattle.fuse_keeper.specs.declared.plain.PlainKeeper.{PlainKeeper}
 use Rattle.fuse_keeper.specs.Performance.{Performance}
 use Rattle.fuse_init.specs.declared.profile.PlainProfile.{PlainProfile}
-use Rattle.fuse_tree.specs.declared.plain_tree.PlainTree.{PlainTree}
+use Rattle.fuse_lists.specs.declared.plain_tree.PlainTree.{PlainTree}
 use Rattle.spec_tests.specs.inner.TreeInLists.{tree_told}
 use Rattle.fuse_init.specs.declared.profile.Profile.TheVariants.{Plain}
 use Rattle.fuse_tree.specs.TheTree.{tree_of}

@@ -2,7 +2,8 @@
 use Rattle.std.specs.Prelude.{◌≡◌, ℕ, List, [], ◌++◌, length, Option}
 use Rattle.std.specs.Io.KnownBytes.{Appends}
 use Rattle.fuse_request.specs.Opcodes.{no_others}
-use Rattle.fuse_tree.specs.State.{State, made_at, new_store}
+use Rattle.fuse_rows.specs.Origins.{made_at}
+use Rattle.fuse_tree.specs.State.{State, new_store}
 use Rattle.fuse_init.specs.declared.profile.Profile.TheVariants.{Plain}
 use Rattle.fuse_tree.specs.TheTree.{tree_of}
 use Rattle.fuse_sim.specs.declared.event.Event.{Event}

@@ -2,7 +2,7 @@
 use crate::run::{Held, holding};
 use fuse_init::{EverydayProfile, PlainProfile};
 use fuse_keeper::{Keeper, PlainKeeper};
-use fuse_tree::PlainTree;
+use fuse_lists::PlainTree;
 use fuse_wire::{Memory, Moment};
 use std::alloc::Global;
 

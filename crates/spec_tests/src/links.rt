@@ -69,7 +69,7 @@ impl FileSystem for Links {
         _now: Moment,
     ) -> Result<Answer, StoreFault> {
         match &request.op {
-            Op::Unsupported { opcode, body } => Ok(answer_to(alloc, *opcode, body)?),
+            Op::Further { opcode, body } => Ok(answer_to(alloc, *opcode, body)?),
             _ => Ok(Answer::refusal(alloc, Errno::ENOSYS)),
         }
     }

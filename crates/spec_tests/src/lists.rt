@@ -6,7 +6,7 @@ ghost use Rattle.spec_tests.specs.InLists.{Reuses, SimulatedAnew};
 use fuse_commands::{Ending, START, run_simulate};
 use fuse_init::PlainProfile;
 use fuse_keeper::PlainKeeper;
-use fuse_tree::PlainTree;
+use fuse_lists::PlainTree;
 use std::alloc::Global;
 use std::io::{Read, Write};
 

@@ -1,8 +1,8 @@
 //! Statements on a block of any length.
 use crate::stores::number;
 use fuse_keeper::StoreFault;
+use fuse_rows::Origin;
 use fuse_store_tables::{insert_block, make_store, write_block};
-use fuse_tree::Origin;
 use fuse_wire::Moment;
 use sqlite::{Connection, MemStore};
 use std::alloc::Global;

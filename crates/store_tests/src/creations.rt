@@ -1,10 +1,10 @@
 //! A new store over a database that holds something, and the version and the size of a store.
 use crate::stores::number;
 use fuse_init::PlainProfile;
+use fuse_rows::Origin;
 use fuse_store::{StoreFault, TableKeeper};
 use fuse_store_tables::{sum_sizes, try_store};
 use fuse_store_tree::size_at_rest;
-use fuse_tree::Origin;
 use fuse_wire::Moment;
 use sqlite::{Connection, Error, MemStore};
 use std::alloc::Global;

@@ -1,13 +1,13 @@
 //! A store that is opened from its files and closed into them, and one whose files crash.
 use fuse_init::PlainProfile;
 use fuse_request::{InHeader, InitIn, Op, Request};
+use fuse_rows::Origin;
 use fuse_store::{
     Done, Keeper, NewStore, Restart, StoreFault, StoreKeeper, StoreKind, TableKeeper,
 };
 use fuse_store_files::{
     CrashKeeper, CrashMemory, Crashing, Opening, StoreFiles, close_store, open_store,
 };
-use fuse_tree::Origin;
 use fuse_wire::{Id, Moment};
 use sqlite::{Alter, Connection, FileStore, Files, Options, Unknown};
 use sqlite_disk::Disk;

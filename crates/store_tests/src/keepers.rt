@@ -1,8 +1,8 @@
 //! A keeper over the tables: each of its calls.
 use fuse_init::PlainProfile;
 use fuse_request::{InHeader, InitIn, Op, Request};
+use fuse_rows::Origin;
 use fuse_store::{Done, Keeper, Restart, StoreFault, TableKeeper};
-use fuse_tree::Origin;
 use fuse_wire::{Id, Moment};
 use sqlite::{Connection, MemStore};
 use std::alloc::Global;

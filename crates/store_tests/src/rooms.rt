@@ -1,16 +1,16 @@
 //! Everyday stores: their room, and the nodes that go.
 ghost use Rattle.std.specs.Prelude.{◌<◌, ◌≤◌, ◌^◌, IfSome};
-ghost use Rattle.fuse_tree.specs.Bounds.{capacity_end, file_limit};
-ghost use Rattle.fuse_tree.specs.Columns.{FitsNode, FitsHandle};
+ghost use Rattle.fuse_rows.specs.Bounds.{capacity_end, file_limit};
+ghost use Rattle.fuse_rows.specs.Columns.{FitsNode, FitsHandle};
 
 use crate::stores::number;
 use fuse_init::Profile;
 use fuse_keeper::StoreFault;
+use fuse_rows::{HandleRow, NodeRow, Origin, Owner};
 use fuse_store_tables::{
     NEXT_NODE, USED, begin_mount, delete_node, insert_handle, insert_node, make_store,
     select_handles_of, set_up, update_counter,
 };
-use fuse_tree::{HandleRow, NodeRow, Origin, Owner};
 use fuse_wire::{AccessMode, Moment};
 use sqlite::{Connection, MemStore};
 use std::alloc::Global;
@@ -62,7 +62,7 @@ fn opened(alloc: Global, room: Option<u64>) -> Result<(bool, i64), StoreFault>
     requires { IfSome room (λ capacity. capacity < capacity_end) }
 {
     let mut conn = made(alloc, room)?;
-    let is_everyday = match set_up(&mut conn)? {
+    let is_everyday = match set_up(&mut conn, None)? {
         Profile::Plain => false,
         Profile::Everyday => true,
     };
@@ -80,7 +80,7 @@ fn a_room(rt: HostRuntime) -> Result<(), StoreFault> {
 fn reopened(alloc: Global, change: &str) -> Result<bool, StoreFault> {
     let mut conn = made(alloc, Some(30))?;
     conn.execute(change, &[])?;
-    Ok(set_up(&mut conn).is_ok())
+    Ok(set_up(&mut conn, None).is_ok())
 }
 
 #[test]

@@ -3,8 +3,8 @@ use crate::groups::perform;
 use crate::observations::observe;
 use crate::requests::{START, messages, part};
 use fuse_init::PlainProfile;
+use fuse_rows::Origin;
 use fuse_store::{Keeper, PlainKeeper, PlainTree, StoreFault, TableKeeper};
-use fuse_tree::Origin;
 use sqlite::{Alter, Connection, Error};
 use std::alloc::Global;
 

@@ -5,24 +5,18 @@ use Rattle.fuse_keeper.specs.declared.keeper.Done.{Done}
 use Rattle.fuse_keeper.specs.declared.plain.PlainKeeper.{PlainKeeper}
 use Rattle.fuse_keeper.specs.Model.{Model}
 use Rattle.fuse_keeper.specs.History.{Entry, History}
-use Rattle.fuse_keeper.specs.Lots.{no_lots, SameLots}
 use Rattle.fuse_keeper.specs.Stands.{Records, Stands, AreThese}
 use Rattle.fuse_keeper.specs.Plain.{mapped}
 use Rattle.fuse_keeper.specs.PlainKeeper.{plain_told}
 use Rattle.fuse_keeper.specs.KeeperState.{StandsFor, Performed, IsFirm, KeepsHeld, Leaves, Called, Looked, HoldsTaken, HoldsOthers, ActsOn, Reopened}
+use Rattle.fuse_keeper.proofs.Standing.{Stands-same}
+use Rattle.fuse_keeper.proofs.Keeping.{or-true, lots_stay}
 use Rattle.two_copies.specs.declared.copies.TwoCopies.{TwoCopies}
 use Rattle.two_copies.specs.TwoCopies.{HoldsAlike, two_told, WorkingAsked}
-
-pub or-true : (b : Bool) → (b || true) ≡ true
-or-true true = refl
-or-true false = refl
 
 or-append : (a b c : Bool) → (a || (b || c)) ≡ ((a || b) || c)
 or-append true b c = refl
 or-append false b c = refl
-
-pub lots_stay : SameLots no_lots no_lots
-lots_stay = record { numbers = refl; current = refl; under = λ i. refl }
 
 module _ {F : Type 0} (M : Model) (held : F → M.Rows) where
   -- ---- one copy
@@ -33,13 +27,8 @@ module _ {F : Type 0} (M : Model) (held : F → M.Rows) where
   -- what it holds stands for the history
   pub held_stands : (p : PlainKeeper F) (s : M.State) (h : History) (t : List ℕ) (x : M.Rows) (r : Records) → StandsFor (plain_told M held p) s h t
       → (plain_told M held p).holds x r → Stands M x r s h t
-  held_stands p s h t x r so left = record {
-    tree = so.stands.tree;
-    distinct = so.stands.distinct;
-    rows_are = left.0 ∙ sym so.held.0 ∙ so.stands.rows_are;
-    right = λ i a is. so.stands.right i a (so.held.1 i ∙ sym (left.1 i) ∙ is);
-    kept = λ i fresh. left.1 i ∙ sym (so.held.1 i) ∙ so.stands.kept i fresh;
-  }
+  held_stands p s h t x r so left =
+      Stands-same M so.rows so.records x r s h t (left.0 ∙ sym so.held.0, λ i. left.1 i ∙ sym (so.held.1 i)) so.stands
 
   -- ---- both
 

@@ -3,7 +3,7 @@ use Rattle.std.specs.Prelude.{ℕ, List, length, Result, Ok, Err}
 use Rattle.fuse_answer.specs.declared.reply.ReplyBody.{ReplyBody}
 use Rattle.fuse_answer.specs.declared.reply.BadAnswer.{BadAnswer}
 use Rattle.fuse_answer.specs.declared.reply.BadAnswer.TheVariants.{BodyLength, BadDirent}
-use Rattle.fuse_answer.specs.Replies.{Kind, kind_of, size_of, most_of, content, Holds, IsAtMost, IsOtherThan, IsNoListing, BodyFault}
+use Rattle.fuse_answer.specs.Replies.{Kind, kind_of, size_of, most_of, reply_content, HoldsBody, IsAtMost, IsOtherThan, IsNoListing, BodyFault}
 
 -- the fault of a body of a kind
 abbrev pub KindFault : Kind → List ℕ → BadAnswer → Type 0
@@ -12,11 +12,11 @@ KindFault kind b BadDirent = IsNoListing kind b
 KindFault kind b _ = ⊥
 
 -- a body of a kind is read, or its fault
-abbrev pub Reads : Kind → List ℕ → Result ReplyBody BadAnswer → Type 0
-Reads kind b (Ok r) = Holds kind (content r) b
-Reads kind b (Err m) = KindFault kind b m
+abbrev pub ReadsReply : Kind → List ℕ → Result ReplyBody BadAnswer → Type 0
+ReadsReply kind b (Ok r) = HoldsBody kind (reply_content r) b
+ReadsReply kind b (Err m) = KindFault kind b m
 
 -- the body of an answer is read, or its fault
 abbrev pub ReadsAsked : ℕ → ℕ → List ℕ → Result ReplyBody BadAnswer → Type 0
-ReadsAsked opcode size b (Ok r) = Holds (kind_of opcode size) (content r) b × IsAtMost (most_of opcode size) (length b)
+ReadsAsked opcode size b (Ok r) = HoldsBody (kind_of opcode size) (reply_content r) b × IsAtMost (most_of opcode size) (length b)
 ReadsAsked opcode size b (Err m) = BodyFault opcode size b m

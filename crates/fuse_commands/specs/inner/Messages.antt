@@ -9,7 +9,7 @@ use Rattle.fuse_commands.specs.declared.ending.Ending.{Ending}
 use Rattle.fuse_commands.specs.declared.messages.Messages.{Messages}
 use Rattle.fuse_commands.specs.declared.messages.Placed.{Placed}
 use Rattle.fuse_commands.specs.Endings.{stream_ending}
-use Rattle.fuse_commands.specs.Messages.{fault_of}
+use Rattle.fuse_commands.specs.Messages.{stream_fault}
 use Rattle.fuse_commands.specs.inner.Failing.{GaveOut}
 use Rattle.fuse_commands.specs.inner.Input.{left_to}
 
@@ -63,6 +63,6 @@ pub record WentSoFar (stream left : Option (List ℕ)) (at : ℕ) (P : List (Lis
 
 -- P holds of all messages of the stream, or the stream was not read to its end
 abbrev pub WentThrough : Option (List ℕ) → (List (List ℕ) → Type 0) → Result (Unit {0}) Ending → Type 0
-WentThrough known P (Ok _) = IfSome known (λ stream. (fault_of stream ≡ None) × P (cut stream).0)
+WentThrough known P (Ok _) = IfSome known (λ stream. (stream_fault stream ≡ None) × P (cut stream).0)
 WentThrough known P (Err ending) =
-    GaveOut ending ⊎ ((fault : FrameFault) × (ending ≡ stream_ending fault) × IfSome known (λ stream. (fault_of stream ≡ Some fault) × P (cut stream).0))
+    GaveOut ending ⊎ ((fault : FrameFault) × (ending ≡ stream_ending fault) × IfSome known (λ stream. (stream_fault stream ≡ Some fault) × P (cut stream).0))

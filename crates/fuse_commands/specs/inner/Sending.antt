@@ -5,8 +5,8 @@ use Rattle.fuse_request.specs.Stream.{joined}
 use Rattle.fuse_session.specs.declared.counts.SessionCounts.{SessionCounts}
 
 -- these answers were sent, and these are the counts
-abbrev pub Sends : List ℕ → SessionCounts → List (List ℕ) → SessionCounts → Type 0
-Sends sent counts answers counts' = (sent ≡ joined answers) × (counts ≡ counts')
+abbrev pub SendsAnswers : List ℕ → SessionCounts → List (List ℕ) → SessionCounts → Type 0
+SendsAnswers sent counts answers counts' = (sent ≡ joined answers) × (counts ≡ counts')
 
 -- nothing, or an answer that begins with its own length
 abbrev pub IsAnswer : List ℕ → Type 0

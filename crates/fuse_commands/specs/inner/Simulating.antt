@@ -11,7 +11,7 @@ use Rattle.fuse_commands.specs.declared.ending.Ending.TheVariants.{Done}
 use Rattle.fuse_commands.specs.declared.simulate.Simulation.{Simulation}
 use Rattle.fuse_commands.specs.Scripts.{lines_of, WritesAll}
 pub use Rattle.fuse_commands.specs.Simulating.{SimulatedFrom}
-use Rattle.fuse_commands.specs.Simulating.{state_after, outcomes_of, StandsAfter, BeginSo, Simulated}
+use Rattle.fuse_commands.specs.Simulating.{state_after, outcomes_of, StandsFromStart, BeginSo, CountsAre, Simulated}
 
 -- events from a start had these outcomes and counts, and the keeper stands for them and is as firm as before
 pub record Went {M : Model} {K : Type 0} (told : K → KeeperState M) (old new : Option K) (s : M.State) (events : List Event) (simulation : Simulation)
@@ -19,7 +19,7 @@ pub record Went {M : Model} {K : Type 0} (told : K → KeeperState M) (old new :
   pub outcomes : map bytes_given simulation.outcomes.items ≡ outcomes_of M s events
   pub nodes : simulation.counts.nodes ≡ M.nodes (M.held_for (state_after M s events))
   pub handles : simulation.counts.handles ≡ M.handles (M.held_for (state_after M s events))
-  pub stands : StandsAfter told new s events
+  pub stands : StandsFromStart told new s events
   pub firm : IsFirm (told_in told old) → IsFirm (told_in told new)
 
 -- the events of a script were run to their end; what they led to, if no message comes again whose answer was taken; and the keeper was
@@ -31,6 +31,7 @@ pub record RanScript {M : Model} {K : Type 0} (k : Seen M K) (old new : Option K
   pub begin : BeginSo k.told old new events (map bytes_given simulation.outcomes.items)
   pub asked : performed_in k.performed old new (performances M.serves events)
   pub opened : Opened k.told k.became old new events
+  pub counts : CountsAre k.told old new simulation.counts.nodes simulation.counts.handles
   pub went : (told_in k.told new).is_honest → (s : M.State) → StandsIn k.told old s [] [] → NoneReused M.serves [] events
       → Went k.told old new s events simulation
 

@@ -4,7 +4,7 @@ use Rattle.sqlite_trees.specs.declared.store.Store.{Ghosts}
 use Rattle.sqlite.specs.State.{State, HasCleanDisk}
 use Rattle.sqlite.specs.Held.{Held, state}
 use Rattle.fuse_keeper.specs.declared.fault.StoreFault.{StoreFault}
-use Rattle.fuse_tree.specs.Rows.{rowed}
+use Rattle.fuse_tree.specs.Rowed.{rowed}
 use Rattle.fuse_store_tables.specs.Moves.{InsideAs}
 use Rattle.fuse_store_tables.specs.Saying.{IsTabled}
 use Rattle.fuse_store_tree.specs.Holding.{Holding, HeldFor}
@@ -43,9 +43,9 @@ pub record ShowsOver (Shown : Stored → Type 0) (s : State) (old new : Option (
   pub silent : IsRefused e → new ≡ old
 
 -- the ending of a look with this fault
-abbrev pub look_ending : Option StoreFault → Ending
-look_ending None = ending.Damaged
-look_ending (Some f) = store_ending f
+abbrev pub showing_ending : Option StoreFault → Ending
+showing_ending None = ending.Damaged
+showing_ending (Some f) = store_ending f
 
 -- the ending of what was shown, and of a look that failed
 abbrev pub shown_ending : Ending → Result (Unit {0}) ShowFault → Ending

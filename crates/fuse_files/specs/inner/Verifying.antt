@@ -1,14 +1,42 @@
 -- How a store is verified (defined by this project).
-use Rattle.std.specs.Prelude.{◌≡◌}
+use Rattle.std.specs.Prelude.{◌≡◌, ℕ, List, Option}
 use Rattle.sqlite.specs.State.{State}
-use Rattle.fuse_tree.specs.Rows.{rowed}
+use Rattle.fuse_keeper.specs.declared.fault.StoreFault.{StoreFault}
+use Rattle.fuse_tree.specs.Rowed.{rowed}
 use Rattle.fuse_store_tables.specs.Moves.{InsideAs}
 use Rattle.fuse_store_tree.specs.Holding.{Holding, HeldFor}
-use Rattle.fuse_store.specs.Opening.{Stored}
-use Rattle.fuse_files.specs.StoreVerified.{rows_begun}
+use Rattle.fuse_store.specs.Opening.{Stored, WasFor}
+use Rattle.fuse_show.specs.declared.tally.Tally.{Tally}
+use Rattle.fuse_show.specs.declared.verify.VerifyFault.{VerifyFault}
+use Rattle.fuse_show.specs.declared.verify.VerifyFault.TheVariants as walk
+use Rattle.fuse_show.specs.Sinks.{Way}
+use Rattle.fuse_show.specs.Verdict.{Counts}
+use Rattle.fuse_commands.specs.declared.ending.Ending.{Ending}
+use Rattle.fuse_commands.specs.declared.ending.Ending.TheVariants as ending
+use Rattle.fuse_files.specs.StoreShown.{SaysNothing}
+use Rattle.fuse_files.specs.StoreVerified.{rows_begun, IsStoreEnding, Verdicts}
+use Rattle.fuse_files.specs.inner.Showing.{showing_ending}
 
 -- a transaction is open over the rows of this store, once a mount begins of it
 pub record SeesBegun (z : Stored) (s : State) : Type 0 where
   pub holding : Holding
   pub inside : InsideAs (HeldFor holding) s
   pub same : rowed holding.tree ≡ rows_begun z
+
+-- the ending of a walk with this fault, over a look that has this one
+abbrev pub walk_ending : Option StoreFault → VerifyFault → Ending
+walk_ending fault (walk.Look f) = showing_ending fault
+walk_ending fault walk.Wrong = ending.Damaged
+walk_ending fault walk.Memory = ending.Memory
+walk_ending fault walk.Output = ending.PortFailed
+
+-- an ending without a verdict says nothing of the store of a database
+abbrev pub IsUnsaidOver : State → Ending → Type 0
+IsUnsaidOver s e = IsStoreEnding e × ((z : Stored) → WasFor z s → SaysNothing e)
+
+abbrev pub IsCountedOver : State → Tally → Type 0
+IsCountedOver s t = (z : Stored) → WasFor z s → Counts (rows_begun z).counters t
+
+-- the same of a database
+abbrev pub VerifiesOver : State → Ending → Way → List ℕ → Type 0
+VerifiesOver s e = Verdicts (IsUnsaidOver s) (IsCountedOver s) e

@@ -5,11 +5,11 @@ use Rattle.fuse_wire.specs.Bytes.{after_nul}
 use Rattle.fuse_wire.specs.Layout.{Lays, Placed, text, bytes}
 use Rattle.fuse_request.specs.declared.decoding.Malformed.{Malformed}
 use Rattle.fuse_request.specs.declared.further.Body.{Body}
-use Rattle.fuse_request.specs.FurtherBodies.{content, content_parts, further_opcode, further_fault, value_fault, is_further}
+use Rattle.fuse_request.specs.FurtherBodies.{further_content, further_parts, further_opcode, further_fault, value_fault, is_further}
 
 -- a body of this opcode is read at the places of its layout, or its fault
 abbrev pub ReadsBody : ℕ → List ℕ → Result Body Malformed → Type 0
-ReadsBody opcode b (Ok x) = (further_opcode (content x) ≡ opcode) × Placed 0 (content_parts (content x)) b
+ReadsBody opcode b (Ok x) = (further_opcode (further_content x) ≡ opcode) × Placed 0 (further_parts (further_content x)) b
 ReadsBody opcode b (Err m) = further_fault opcode b ≡ Some m
 
 -- so of any opcode; one outside the table has no body that is read

@@ -44,9 +44,9 @@ pub record Gathers (V : OpcodeSet) (gave : List Moment → Type 0) (prefix : Lis
 abbrev pub classes_in : OpcodeSet → List (List ℕ) → List Class
 classes_in V ms = map (class_for V) ms
 
-abbrev pub listed : Option (Request × Moment) → List (Request × Moment)
-listed None = []
-listed (Some one) = one ∷ []
+abbrev pub as_list : Option (Request × Moment) → List (Request × Moment)
+as_list None = []
+as_list (Some one) = one ∷ []
 
 -- nothing can be processed: there is no message, or the first is zero
 abbrev pub IsStuck : List (List ℕ) → Type 0

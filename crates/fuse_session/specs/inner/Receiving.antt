@@ -4,7 +4,7 @@ use Rattle.std.specs.Io.KnownBytes.{Consumes}
 use Rattle.fuse_request.specs.declared.framer.FrameFault.{FrameFault}
 use Rattle.fuse_wire.specs.Bounds.{max_message_len}
 use Rattle.fuse_request.specs.Stream.{cut, joined, IsMessage}
-use Rattle.fuse_request.specs.Framing.{Held, HasNone, bad_length, end_fault}
+use Rattle.fuse_request.specs.Framing.{HeldBytes, HasNone, bad_length, end_fault}
 use Rattle.fuse_session.specs.declared.ended.Ended.{Ended}
 use Rattle.fuse_session.specs.declared.ended.Ended.TheVariants.{End as ByEnd, Destroyed, Turns, Frame, ZeroUnique, PortFailed, Store, Memory}
 use Rattle.fuse_session.specs.Port.{PortState, HasEnded}
@@ -13,14 +13,14 @@ use Rattle.fuse_session.specs.declared.port.Received.TheVariants.{End, Failed as
 use Rattle.fuse_session.specs.Transcript.{PortEvent, Received, Gave}
 
 -- it returned no fault so far, and its bytes begin with neither a whole message nor a bad length
-pub record IsOpen (h : Held) : Type 0 where
+pub record IsOpen (h : HeldBytes) : Type 0 where
   pub fault : h.fault ≡ None
   pub none : HasNone h.bytes
   pub good : bad_length h.at h.bytes ≡ None
   pub short : length h.bytes < max_message_len
 
 -- all messages were taken, and the bytes after them have this bad length, if they have one
-pub record TookAll (old new : Held) (messages : List (List ℕ)) (fault : Option FrameFault) : Type 0 where
+pub record TookAll (old new : HeldBytes) (messages : List (List ℕ)) (fault : Option FrameFault) : Type 0 where
   pub cut_is : cut old.bytes ≡ (messages, new.bytes)
   pub at : new.at ≡ old.at + length (joined messages)
   pub each : All IsMessage messages
@@ -47,7 +47,7 @@ pub record Comes (became : List PortEvent → Type 0) (old new : PortState) (rec
   pub receive_failures : new.receive_failures ≡ old.receive_failures
 
 -- bytes came so, and these are the messages that wait then
-pub record Heard (comes : List ℕ → Type 0) (before after : Held) (messages : List (List ℕ)) (fault : Option FrameFault) : Type 0 where
+pub record Heard (comes : List ℕ → Type 0) (before after : HeldBytes) (messages : List (List ℕ)) (fault : Option FrameFault) : Type 0 where
   pub received : List ℕ
   pub came : comes received
   pub took : TookAll (record before { bytes = before.bytes ++ received }) after messages fault
@@ -71,7 +71,7 @@ pub record FailedOnce (became : List PortEvent → Type 0) (old new : PortState)
   pub receive_failures : old.receive_failures < new.receive_failures
 
 -- why nothing was heard
-abbrev pub NotHeard : Ended → (List PortEvent → Type 0) → PortState → PortState → Held → Type 0
+abbrev pub NotHeard : Ended → (List PortEvent → Type 0) → PortState → PortState → HeldBytes → Type 0
 NotHeard ByEnd became old new h = SaidEnd became old new × (h.bytes ≡ [])
 NotHeard (Frame f) became old new h = SaidEnd became old new × (end_fault h.at h.bytes ≡ Some f)
 NotHeard PortFailed became old new h = FailedOnce became old new
@@ -81,7 +81,7 @@ NotHeard Turns became old new h = ⊥
 NotHeard (ZeroUnique at) became old new h = ⊥
 NotHeard (Store fault) became old new h = ⊥
 
-abbrev pub EndsSo : Ended → Held → Type 0
-EndsSo ByEnd h = h.bytes ≡ []
-EndsSo (Frame f) h = end_fault h.at h.bytes ≡ Some f
-EndsSo _ h = ⊥
+abbrev pub EndsReceiving : Ended → HeldBytes → Type 0
+EndsReceiving ByEnd h = h.bytes ≡ []
+EndsReceiving (Frame f) h = end_fault h.at h.bytes ≡ Some f
+EndsReceiving _ h = ⊥

@@ -8,7 +8,7 @@ use Rattle.fuse_session.specs.declared.port.Passed.TheVariants.{Taken, Gone}
 use Rattle.fuse_session.specs.declared.port.Sent.{Sent}
 use Rattle.fuse_session.specs.Port.{PortState, IsQuiet, SentWhole}
 use Rattle.fuse_session.specs.Transcript.{PortEvent, Hands, SendsPart, sends_of}
-use Rattle.fuse_session.specs.Settling.{Mark, replies, settles, settled_in, SentUpTo, Replied}
+use Rattle.fuse_session.specs.Settling.{Mark, replies, settles_by_mark, settled_in, SentUpTo, Replied}
 use Rattle.fuse_session.specs.Slices.{RestsOfAll, RestsOfSome}
 use Rattle.fuse_session.specs.Ended.{ended_store}
 use Rattle.fuse_session.specs.inner.Finishing.{ended_at, ended_port}
@@ -48,7 +48,7 @@ pub record SentNext (V : OpcodeSet) (x : Sending) (message bytes : List ℕ) : T
   pub reply : mark.reply ≡ bytes
   pub sent : SentWhole x.port x.port' mark.reply mark.gone
   pub hands : Hands x.became mark.reply true
-  pub handed : x.pending' ≡ x.pending ++ settles V x.port.confirms message mark
+  pub handed : x.pending' ≡ x.pending ++ settles_by_mark V x.port.confirms message mark
 
 -- so it was for messages, whose answers were these
 pub record SentAll (V : OpcodeSet) (x : Sending) (messages answers : List (List ℕ)) : Type 0 where

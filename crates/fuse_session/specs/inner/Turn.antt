@@ -1,7 +1,7 @@
 -- One turn of a session (defined by this project).
 use Rattle.std.specs.Prelude.{◌≡◌, ◌⊎◌, ◌^◌, ℕ, Bool, true, false, List, [], ◌∷◌, ◌++◌}
 use Rattle.fuse_request.specs.Act.{Asked}
-use Rattle.fuse_request.specs.Framing.{Held}
+use Rattle.fuse_request.specs.Framing.{HeldBytes}
 use Rattle.fuse_request.specs.Opcodes.{OpcodeSet}
 use Rattle.fuse_request.specs.Stream.{cut}
 use Rattle.fuse_keeper.specs.Performance.{Performance}
@@ -14,7 +14,7 @@ use Rattle.fuse_session.specs.declared.port.Sent.{Sent}
 use Rattle.fuse_session.specs.Transcript.{Received, sends_of, Gave}
 use Rattle.fuse_session.specs.Deeds.{Deeds}
 use Rattle.fuse_session.specs.Grouping.{groups_of, groups_asked}
-use Rattle.fuse_session.specs.Starts.{Kept, HoldsUnder}
+use Rattle.fuse_session.specs.Starts.{KeptRecords, HoldsUnder}
 use Rattle.fuse_session.specs.Passage.{Passage, doing}
 use Rattle.fuse_session.specs.Ended.{ended_store, IsIntact}
 use Rattle.fuse_session.specs.Serving.{Waiting, KeepsFirm, Whole, Run}
@@ -56,7 +56,7 @@ abbrev pub in_one_turn : {M : Model} → Passage M → List ℕ → Passage M
 in_one_turn {M} p held = record p { did = OneTurn M.serves held true p.did }
 
 -- what waits between two turns
-abbrev pub waits : List ℕ → Held → Waiting
+abbrev pub waits : List ℕ → HeldBytes → Waiting
 waits pending held = record { pending = pending; bytes = held.bytes; at = held.at }
 
 -- all messages that came are processed and answered, and the session goes on
@@ -65,7 +65,7 @@ pub record TurnPassed {M : Model} (p : Passage M) (before after : Waiting) (coun
   pub below : IsBelow counts (2 ^ 20)
   pub going : p.keeper'.has_failed ≡ false
   pub firm : KeepsFirm p.keeper p.keeper'
-  pub more : p.port.confirms ≡ true → p.keeper'.is_honest → (kept : Kept) → HandsOn kept p.keeper before.pending
+  pub more : p.port.confirms ≡ true → p.keeper'.is_honest → (kept : KeptRecords) → HandsOn kept p.keeper before.pending
       → HandsOn kept p.keeper' after.pending
   pub failures : p.port'.failures ≡ p.port.failures
   pub receive_failures : p.port'.receive_failures ≡ p.port.receive_failures
@@ -80,7 +80,7 @@ pub record TurnEnded {M : Model} (p : Passage M) (before : Waiting) (served : Se
   pub below : IsBelow counts (2 ^ 20)
   pub ends : EndsAs (doing p deeds) before 0 served.ended counts
   pub told_are : served.counts ≡ counts_at (receive_failed p.port p.port') served.ended counts
-  pub at_most : p.port.confirms ≡ true → IsIntact p.keeper' served.ended → (kept : Kept) → HandsOn kept p.keeper before.pending
+  pub at_most : p.port.confirms ≡ true → IsIntact p.keeper' served.ended → (kept : KeptRecords) → HandsOn kept p.keeper before.pending
       → HoldsUnder kept p.keeper'
   pub firm : ended_store served.ended ≡ false → KeepsFirm p.keeper p.keeper'
   pub failed : FailedBy (ended_port served.ended) p.port.failures p.port'.failures

@@ -1,11 +1,11 @@
 -- The parts of a lookup (defined by this project).
 use Rattle.std.specs.Prelude.{◌≡◌, List, ℕ, Bool, true, false, Some, Result, Ok, Err, ◌≢◌, All}
-use Rattle.fuse_tree.specs.Rows.{Rows, row_at}
+use Rattle.fuse_rows.specs.Rows.{Rows, row_at}
 use Rattle.fuse_show.specs.declared.fault.ShowFault.{ShowFault}
 use Rattle.fuse_show.specs.declared.fault.ShowFault.TheVariants.{Look, NotATree, NoSuchPath, NotDirectory, NotFile, Output}
-use Rattle.fuse_tree.specs.Bounds.{fuse_root_id}
-use Rattle.fuse_tree.specs.declared.rows.NodeRow.{NodeRow}
-use Rattle.fuse_show.specs.Lookup.{HasNone, IsNoDirectory, LeadsBy}
+use Rattle.fuse_rows.specs.Bounds.{fuse_root_id}
+use Rattle.fuse_rows.specs.declared.rows.NodeRow.{NodeRow}
+use Rattle.fuse_show.specs.Lookup.{HasNoEntry, IsNoDirectory, LeadsBy}
 
 -- the faults of a lookup
 abbrev pub is_of_finding : ShowFault → Bool
@@ -21,14 +21,14 @@ abbrev pub Lacks : ℕ → List ℕ → Type 0
 Lacks b bytes = All (λ x. x ≢ b) bytes
 
 -- the result of following one name from a node
-abbrev pub Steps : Rows → NodeRow → List ℕ → Result NodeRow ShowFault → Type 0
-Steps rows from name (Ok to) = LeadsBy rows from name to
-Steps rows from name (Err (Look f)) = Unit {0}
-Steps rows from name (Err NotATree) = ⊥
-Steps rows from name (Err NoSuchPath) = HasNone rows from name
-Steps rows from name (Err NotDirectory) = IsNoDirectory from name
-Steps rows from name (Err NotFile) = ⊥
-Steps rows from name (Err Output) = ⊥
+abbrev pub StepsTo : Rows → NodeRow → List ℕ → Result NodeRow ShowFault → Type 0
+StepsTo rows from name (Ok to) = LeadsBy rows from name to
+StepsTo rows from name (Err (Look f)) = Unit {0}
+StepsTo rows from name (Err NotATree) = ⊥
+StepsTo rows from name (Err NoSuchPath) = HasNoEntry rows from name
+StepsTo rows from name (Err NotDirectory) = IsNoDirectory from name
+StepsTo rows from name (Err NotFile) = ⊥
+StepsTo rows from name (Err Output) = ⊥
 
 -- the result of looking up the root
 abbrev pub IsRoot : Rows → Result NodeRow ShowFault → Type 0

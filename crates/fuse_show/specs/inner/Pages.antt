@@ -2,20 +2,20 @@
 use Rattle.std.specs.Prelude.{◌≡◌, ◌++◌, ℕ, Bool, true, nat_lt, List, [], filter, Option, Some, None, Result, Ok, Err}
 use Rattle.std.specs.List.{flat_map, slice_get}
 use Rattle.std.specs.Option.{option_map}
-use Rattle.std.specs.Io.KnownBytes.{Appends}
-use Rattle.fuse_tree.specs.declared.rows.EntryRow.{EntryRow}
-use Rattle.fuse_tree.specs.Rows.{Rows, is_after}
+use Rattle.fuse_rows.specs.declared.rows.EntryRow.{EntryRow}
+use Rattle.fuse_rows.specs.Rows.{Rows, is_after}
 use Rattle.fuse_show.specs.declared.fault.ShowFault.{ShowFault}
-use Rattle.fuse_show.specs.declared.fault.ShowFault.TheVariants.{Look, NotATree, NoSuchPath, NotDirectory, NotFile, Output}
-use Rattle.fuse_show.specs.Listing.{line_of}
+use Rattle.fuse_show.specs.Sinks.{IsPartOf}
+use Rattle.fuse_show.specs.inner.Writing.{cuts_off}
+use Rattle.fuse_show.specs.Listing.{line_of_entry}
 
 -- the entries of a directory with a higher cookie than this one
-abbrev pub entries_following : Rows → ℕ → ℕ → List EntryRow
-entries_following rows dir cookie = filter (is_after dir cookie) rows.entries
+abbrev pub entry_rows_after : Rows → ℕ → ℕ → List EntryRow
+entry_rows_after rows dir cookie = filter (is_after dir cookie) rows.entries
 
 -- their lines
 abbrev pub lines_after : Rows → ℕ → ℕ → List ℕ
-lines_after rows dir cookie = flat_map (line_of rows) (entries_following rows dir cookie)
+lines_after rows dir cookie = flat_map (line_of_entry rows) (entry_rows_after rows dir cookie)
 
 -- the lines after the cookie that a page ends with; none after the last page
 abbrev pub lines_left : Rows → ℕ → Option ℕ → List ℕ
@@ -31,18 +31,7 @@ abbrev pub is_higher : Option ℕ → ℕ → Bool
 is_higher None after = true
 is_higher (Some cookie) after = nat_lt after cookie
 
--- a prefix of a text was written, and this rest is left
-pub record WritesPrefix (old new : Option (List ℕ)) (text rest : List ℕ) : Type 0 where
-  pub prefix : List ℕ
-  pub written : Appends old new prefix
-  pub parts : text ≡ prefix ++ rest
-
--- a page was written, or a look or the output failed
-abbrev pub WritesPage : Rows → ℕ → ℕ → Option (List ℕ) → Option (List ℕ) → Result (Option ℕ) ShowFault → Type 0
-WritesPage rows dir after old new (Ok left) = WritesPrefix old new (lines_after rows dir after) (lines_left rows dir left)
-WritesPage rows dir after old new (Err (Look f)) = Unit {0}
-WritesPage rows dir after old new (Err NotATree) = ⊥
-WritesPage rows dir after old new (Err NoSuchPath) = ⊥
-WritesPage rows dir after old new (Err NotDirectory) = ⊥
-WritesPage rows dir after old new (Err NotFile) = ⊥
-WritesPage rows dir after old new (Err Output) = Unit {0}
+-- the lines of a page, of which these are left; or a part of them before a look or the output failed
+abbrev pub WritesPage : Rows → ℕ → ℕ → List ℕ → Result (Option ℕ) ShowFault → Type 0
+WritesPage rows dir after bytes (Ok left) = lines_after rows dir after ≡ bytes ++ lines_left rows dir left
+WritesPage rows dir after bytes (Err f) = IsPartOf bytes (lines_after rows dir after) × (cuts_off f ≡ true)

@@ -10,9 +10,9 @@ use Rattle.fuse_session.specs.declared.ended.Ended.{Ended}
 use Rattle.fuse_session.specs.Passage.{Passage}
 use Rattle.fuse_session.specs.Processed.{Timed, bytes_of, kept_in}
 use Rattle.fuse_session.specs.Serving.{nothing_waits, Run}
-use Rattle.fuse_session.specs.Settling.{Mark, settles, settled_in}
+use Rattle.fuse_session.specs.Settling.{Mark, settles_by_mark, settled_in}
 use Rattle.fuse_sim.specs.Lives.{Lifetime, AreLives, after_lives, all_processed, AllSend, RanAsLife}
-use Rattle.fuse_sim.specs.FileLives.{FileRun, run_over, no_run, run_settled, RanFrom, AreRuns, IsMount, AllHaveNew, all_settled, left_by, LivedInTurn, FilesLived}
+use Rattle.fuse_sim.specs.FileLives.{FileRun, run_over, no_run, run_settled, RanFrom, AreRuns, IsMount, AllHaveNew, all_settled, files_left_by, LivedInTurn, FilesLived}
 
 -- ---- more ids are settled
 
@@ -50,7 +50,7 @@ settled_first : (V : OpcodeSet) (c : Bool) (ms others : List (List ℕ)) (marks 
 settled_first V c [] others marks i is = absurd (no_true is)
 settled_first V c (m ∷ ms) others [] i is = absurd (no_true is)
 settled_first V c (m ∷ ms) others (mark ∷ marks) i is =
-    includes_after (settles V c m mark) (settled_in V c ms marks) (settled_in V c (ms ++ others) marks) (settled_first V c ms others marks) i is
+    includes_after (settles_by_mark V c m mark) (settled_in V c ms marks) (settled_in V c (ms ++ others) marks) (settled_first V c ms others marks) i is
 
 -- ---- one run
 
@@ -131,7 +131,7 @@ record RanInTurn {M : Model} {Image : Type 0} (Stand : Image → Standing M → 
     : Type 0 where
   lives : List Lifetime
   lived : LivedInTurn M at.state at.history runs lives
-  left : Stand (left_by first runs) (record {
+  left : Stand (files_left_by first runs) (record {
     state = at.state;
     history = after_lives M.serves at.history lives;
     settled = all_settled M.serves at.settled runs;

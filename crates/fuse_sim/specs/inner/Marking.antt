@@ -7,8 +7,8 @@ use Rattle.fuse_request.specs.Act.{Asked}
 use Rattle.fuse_sim.specs.Pending.{has_unique, owner}
 
 -- the bytes of a message with bit 63 of its unique set
-abbrev pub marked : List ℕ → List ℕ
-marked m = take 8 m ++ (le 8 (id_of (number_of 8 (drop 8 m)) + fuse_unique_resend) ++ drop 16 m)
+abbrev pub marked_as_resend : List ℕ → List ℕ
+marked_as_resend m = take 8 m ++ (le 8 (id_of (number_of 8 (drop 8 m)) + fuse_unique_resend) ++ drop 16 m)
 
 -- the first pending request of this unique stands at a place
 abbrev pub StandsFirst : ℕ → List Asked → Option ℕ → Type 0

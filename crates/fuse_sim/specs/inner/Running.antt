@@ -40,9 +40,9 @@ dies_before DiedBeforeCommit = true
 dies_before DiedAfterCommit = false
 
 -- the events of a group: no server dies but after the last of them, where one does
-abbrev pub IsRun : Bool → List Event → Type 0
-IsRun died [] = died ≡ false
-IsRun died (e ∷ es) = (Calm e × IsRun died es) ⊎ ((died ≡ true) × (e.fate ≡ DiedAfterCommit) × (es ≡ []))
+abbrev pub IsGroupRun : Bool → List Event → Type 0
+IsGroupRun died [] = died ≡ false
+IsGroupRun died (e ∷ es) = (Calm e × IsGroupRun died es) ⊎ ((died ≡ true) × (e.fate ≡ DiedAfterCommit) × (es ≡ []))
 
 -- no group begins here
 abbrev pub StartsNone : List Event → Type 0
@@ -50,17 +50,17 @@ StartsNone [] = Unit {0}
 StartsNone (e ∷ es) = (dies_before e.fate ≡ true) ⊎ ¬ IsFit e
 
 -- a group begins here
-abbrev pub Begins : List Event → Type 0
-Begins [] = ⊥
-Begins (e ∷ es) = IsFit e × (dies_before e.fate ≡ false)
+abbrev pub BeginsGroup : List Event → Type 0
+BeginsGroup [] = ⊥
+BeginsGroup (e ∷ es) = IsFit e × (dies_before e.fate ≡ false)
 
 -- no event of a group is lost
 abbrev pub NoneDiesBefore : List Event → Type 0
 NoneDiesBefore run = All (λ e. dies_before e.fate ≡ false) run
 
 -- the class of each message
-abbrev pub classes_in : OpcodeSet → List Event → List Class
-classes_in V run = map (λ e. class_for V e.bytes) run
+abbrev pub classes_of_events : OpcodeSet → List Event → List Class
+classes_of_events V run = map (λ e. class_for V e.bytes) run
 
 -- a group is full
 abbrev pub IsFull : Group → Type 0
@@ -75,10 +75,10 @@ abbrev pub StopsAt : Group → List Event → Type 0
 StopsAt group others = group.died ≡ false → IsFull group ⊎ StartsNone others
 
 -- it was read off events
-pub record Gathers (M : Model) (run : List Event) (group : Group) : Type 0 where
+pub record GathersEvents (M : Model) (run : List Event) (group : Group) : Type 0 where
   pub fit : All IsFit run
-  pub goes : IsRun group.died run
-  pub classes_are : group.classes.items ≡ classes_in M.serves run
+  pub goes : IsGroupRun group.died run
+  pub classes_are : group.classes.items ≡ classes_of_events M.serves run
   pub entries : entries_of group.taken.items ≡ commits_in M.serves run
   pub few : length group.taken.items ≤ max_group_len
   pub named : All HasId (entries_of group.taken.items)
@@ -86,7 +86,7 @@ pub record Gathers (M : Model) (run : List Event) (group : Group) : Type 0 where
 
 -- one more event joined it
 abbrev pub Joins : Model → Event → Group → Group → Type 0
-Joins M e old new = (run : List Event) → Gathers M run old → Gathers M (run ++ e ∷ []) new
+Joins M e old new = (run : List Event) → GathersEvents M run old → GathersEvents M (run ++ e ∷ []) new
 
 abbrev pub answers_in : List Done → List Said
 answers_in dones = map (λ d. d.answer) dones
@@ -151,7 +151,7 @@ pub record RecordsRan (V : OpcodeSet) (l : Ledger) (es : List Event) (records re
   pub gone : (u : List ℕ) → Includes u l.pending → NoneReused V u es → (i : ℕ) → is_in (handed_on V l es) i ≡ true → records' i ≡ None
 
 -- events were run, from a ledger on
-pub record Ran {M : Model} (k k' : KeeperState M) (l : Ledger) (es : List Event) (old new : List (Option Outcome)) : Type 0 where
+pub record RanEvents {M : Model} (k k' : KeeperState M) (l : Ledger) (es : List Event) (old new : List (Option Outcome)) : Type 0 where
   pub added : List (Option Outcome)
   pub items : new ≡ old ++ added
   pub count : length added ≡ length es
@@ -173,7 +173,7 @@ ledger_at old room = record { room = room; pending = old.pending }
 -- the first events were run
 pub record Moved {M : Model} (old new : Stage M) (room : ℕ) (es others : List Event) : Type 0 where
   pub fit : All IsFit es
-  pub ran : Ran old.keeper new.keeper (ledger_at old room) es old.outcomes new.outcomes
+  pub ran : RanEvents old.keeper new.keeper (ledger_at old room) es old.outcomes new.outcomes
   pub pending : new.pending ≡ (ledger_after M.serves (ledger_at old room) es).pending
   pub begin : MayBegin (ledger_after M.serves (ledger_at old room) es).room others
 
@@ -199,7 +199,7 @@ pub record Opens {M : Model} {K : Type 0} (told : K → KeeperState M) (became :
   pub medium : KeepsMedium told old new
 
 -- the server died at the event that is named, and the keeper that these events had left refused to be opened again
-pub record Refuses {K : Type 0} (became : K → K → ℕ → Type 0) (refuses : K → StoreFault → Type 0)
+pub record RefusesAfterDeath {K : Type 0} (became : K → K → ℕ → Type 0) (refuses : K → StoreFault → Type 0)
     (old : Option K) (events : List Event) (at : ℕ) (fault : DriveFault) : Type 0 where
   pub died : IsSomeAnd (slice_get events (event_of fault)) (λ e. dies e.fate ≡ true)
   pub keeper : Option K
@@ -208,22 +208,22 @@ pub record Refuses {K : Type 0} (became : K → K → ℕ → Type 0) (refuses :
   pub refused : IsSomeAnd keeper (λ k. IsStoreFault (refuses k) fault)
 
 -- a fault came at the events that begin at a place: the event that it names, and the keeper that it leaves
-pub record Stops {M : Model} {K : Type 0} (seen : Seen M K) (old new : Option K) (events : List Event) (at : ℕ) (fault : DriveFault) : Type 0 where
+pub record StopsAtEvent {M : Model} {K : Type 0} (seen : Seen M K) (old new : Option K) (events : List Event) (at : ℕ) (fault : DriveFault) : Type 0 where
   pub named : IsSomeAnd (slice_get events (event_of fault)) (CausedBy fault)
   pub earlier : All IsFit (take at events) → All IsFit (before fault events)
   pub left : LeftBy (told_in seen.told new) (is_store fault) ((event_of fault ≡ at) × KeepsHeld (told_in seen.told old) (told_in seen.told new))
   pub answered : is_store fault ≡ true → (told_in seen.told new).is_clean → (s : M.State) (h : History) (t : List ℕ) → StandsIn seen.told old s h t
       → IsStoreFault (told_in seen.told old).may_answer fault
   pub stayed : (new ≡ None → ⊥) → (event_of fault ≡ at) × became_in seen.became old new 0
-  pub emptied : new ≡ None → Refuses seen.became seen.may_refuse old events at fault
+  pub emptied : new ≡ None → RefusesAfterDeath seen.became seen.may_refuse old events at fault
   pub has_failed : IfSome new (λ k. (seen.told k).has_failed ≡ is_store fault)
   pub was_honest : (told_in seen.told new).is_honest → (told_in seen.told old).is_honest
   pub firm : is_store fault ≡ false → (told_in seen.told new).is_honest → IsFirm (told_in seen.told old) → IsFirm (told_in seen.told new)
   pub medium : (new ≡ None → ⊥) → KeepsMedium seen.told old new
 
 -- events were asked for as one group
-abbrev pub AsksRun : {K : Type 0} → OpcodeSet → (K → K → List Performance → Type 0) → Option K → Option K → List ℕ → List Event → Type 0
-AsksRun V performed old new pending run = performed_in performed old new (performances_of (commits_in V run) pending)
+abbrev pub AsksGroup : {K : Type 0} → OpcodeSet → (K → K → List Performance → Type 0) → Option K → Option K → List ℕ → List Event → Type 0
+AsksGroup V performed old new pending run = performed_in performed old new (performances_of (commits_in V run) pending)
 
 -- they are so from every ledger from which they may be a group
 abbrev pub AsksFrom : OpcodeSet → List ℕ → List Event → List Event → Type 0
@@ -236,5 +236,5 @@ pub record StopsAsking {M : Model} {K : Type 0} (seen : Seen M K) (old new : Opt
   pub rest : List Event
   pub parts : events ≡ run ++ rest
   pub asks : AsksFrom M.serves pending run events
-  pub asked : (new ≡ None → ⊥) → AsksRun M.serves seen.performed old new pending run
+  pub asked : (new ≡ None → ⊥) → AsksGroup M.serves seen.performed old new pending run
   pub count : (new ≡ None → ⊥) → length (performances_of (commits_in M.serves run) pending) ≡ (if is_store fault then 1 else 0)

@@ -1,14 +1,16 @@
 -- The laws of the `impl` of `Keeper` (defined by this project). The proofs are here because an `impl` takes them from definitions alone.
 use Rattle.std.proofs.Common.{◌≡◌, ℕ, Option, sym, ap, ◌∙◌}
 use Rattle.sqlite.specs.State.{State}
-use Rattle.fuse_tree.specs.Rows.{Rows, rowed}
+use Rattle.fuse_rows.specs.Rows.{Rows}
+use Rattle.fuse_tree.specs.Rowed.{rowed}
+use Rattle.fuse_init.specs.declared.profile.Profile.{Profile}
 use Rattle.fuse_keeper.specs.Stands.{Records}
 use Rattle.fuse_store_tree.specs.Store.{records_of}
 use Rattle.fuse_store_tree.specs.declared.meta.Meta.{Meta}
 use Rattle.fuse_store.specs.TableState.{HoldsIn}
 
 -- it holds only one thing
-pub one_held : (m : Option Meta) (s : State) (x y : Rows) (p q : Records) → HoldsIn m s x p → HoldsIn m s y q → (x ≡ y) × ((i : ℕ) → p i ≡ q i)
+pub one_held : {r : Profile} → (m : Option Meta) (s : State) (x y : Rows) (p q : Records) → HoldsIn r m s x p → HoldsIn r m s y q → (x ≡ y) × ((i : ℕ) → p i ≡ q i)
 one_held m s x y p q a b =
     let same = a.alone b.holding b.rests.holds in (
       a.is_of.rows_are ∙ ap (λ z. rowed z.tree) (sym same) ∙ sym b.is_of.rows_are,

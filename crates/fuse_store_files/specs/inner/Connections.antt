@@ -14,7 +14,7 @@ use Rattle.sqlite.specs.Closing.{IsCopied}
 use Rattle.fuse_store_files.specs.Left.{LeavesOf, LeavesClosed, LeavesUnclosed}
 
 -- the connection ended as this store, and a crash leaves of its files, before and after, only what it could leave before
-pub record Ends {D : Type 0} {g : Ghosts D} (c : Held (FileStore D g)) : Type 0 where
+pub record EndsAsStore {D : Type 0} {g : Ghosts D} (c : Held (FileStore D g)) : Type 0 where
   pub ended : FileStore D g
   pub its_own : (db : Trees) → recovers ended db → recovers c.store db
   pub before : IsClean (view ended) → AreDatabases (recovers c.store) → LeavesOf (recovers c.store) c.store

@@ -27,16 +27,16 @@ MakesNew p (Any new) k = IsNewStore p new k
 MakesNew p (Fresh new) k = IsNewStore p new k
 
 -- a mount of this store begins, where the opening begins one
-abbrev pub MayBegin : (p : Profile) → Opening → Stored → KeeperState (tree_of p) → Type 0
-MayBegin p Existing z k = Unit {0}
-MayBegin p (Any new) z k = Unit {0}
-MayBegin p (Fresh new) z k = BeginsAfter p z k
+abbrev pub MayBeginMount : (p : Profile) → Opening → Stored → KeeperState (tree_of p) → Type 0
+MayBeginMount p Existing z k = Unit {0}
+MayBeginMount p (Any new) z k = Unit {0}
+MayBeginMount p (Fresh new) z k = BeginsAfter p z k
 
 -- a keeper was opened so over this database
 pub record OpensOver (p : Profile) (how : Opening) (s : State) (k : KeeperState (tree_of p)) : Type 0 where
   pub profile : (z : Stored) → WasFor z s → profile_of (opened_for z).tree ≡ p
   pub keeps : (z : Stored) → WasFor z s → KeepsStore p how z k
-  pub begins : (z : Stored) → WasFor z s → MayBegin p how z k
+  pub begins : (z : Stored) → WasFor z s → MayBeginMount p how z k
   pub makes : IsBlank s → IsTrue s.is_open → MakesNew p how k
 
 -- what a crash may leave of an opening that failed, beside what it could leave before

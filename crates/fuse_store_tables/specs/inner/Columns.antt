@@ -2,7 +2,7 @@
 use Rattle.std.specs.Prelude.{ℕ, pos, [], ◌∷◌, if◌then◌else◌}
 use Rattle.sqlite.specs.declared.types.Value.TheVariants.{Int}
 use Rattle.sqlite.specs.Order.{Row, column}
-use Rattle.fuse_tree.specs.declared.rows.NodeRow.{NodeRow}
+use Rattle.fuse_rows.specs.declared.rows.NodeRow.{NodeRow}
 use Rattle.fuse_store_tables.specs.Content.{Counter, node_columns}
 use Rattle.sqlite.specs.declared.error.Error.{Error}
 use Rattle.fuse_keeper.specs.declared.fault.StoreFault.{StoreFault}
@@ -25,8 +25,8 @@ number_in (Int (pos n)) = n
 number_in _ = 0
 
 -- the number in the first column
-abbrev pub number_of : Row → ℕ
-number_of row = number_in (column row 0)
+abbrev pub number_of_row : Row → ℕ
+number_of_row row = number_in (column row 0)
 
 abbrev pub shown_meta : Counter → Row
 shown_meta c = Int (pos c.key) ∷ Int (pos c.value) ∷ []

@@ -21,13 +21,13 @@ RanAny sql values old new (Ok any) = (changed : ℕ) × Executes sql values old 
 RanAny sql values old new (Err e) = Executes sql values old new (Err e)
 
 -- a call that is a whole transaction
-pub record PerformsAs {C X E : Type 0} (P Q : C → Database → Type 0) (old new : State) (result : Result X E) : Type 0 where
+pub record TransactsAs {C X E : Type 0} (P Q : C → Database → Type 0) (old new : State) (result : Result X E) : Type 0 where
   pub survives : Survives old new (λ db. (c : C) → RestsAs (P c) old → LeftAs (Q c) db)
   pub kept : OnErr result (HasCleanDisk new → (c : C) → RestsAs (P c) old → KeepsCommit old new)
   pub done : OnOk result (HasCleanDisk new → (c : C) → RestsAs (P c) old → RestsAs (Q c) new)
 
-abbrev pub Performs : {X E : Type 0} → (Content → Content) → State → State → Result X E → Type 0
-Performs f = PerformsAs Holds (λ c. Holds (f c))
+abbrev pub Transacts : {X E : Type 0} → (Content → Content) → State → State → Result X E → Type 0
+Transacts f = TransactsAs Holds (λ c. Holds (f c))
 
 -- of a call that began with one of these databases, a fault says nothing of the store
 abbrev pub IsSure : {C X : Type 0} → (C → Database → Type 0) → State → State → Result X StoreFault → Type 0

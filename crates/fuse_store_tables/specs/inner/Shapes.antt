@@ -4,12 +4,12 @@ use Rattle.sqlite_value.specs.Keys.{plain}
 use Rattle.sqlite_schema.specs.declared.schema.Column.{Column}
 use Rattle.sqlite_schema.specs.declared.schema.Index.{Index}
 use Rattle.sqlite.specs.Table.{Table}
-use Rattle.fuse_store_tables.specs.Layout.{number, meta, nodes, entries, blocks, handles, answers, lots, kept}
+use Rattle.fuse_store_tables.specs.Layout.{number_column, meta, nodes, entries, blocks, handles, answers, lots, kept}
 
 abbrev pub node_times : List Column
 node_times =
-    number (codes "atime") ∷ number (codes "atimensec") ∷ number (codes "mtime") ∷ number (codes "mtimensec") ∷ number (codes "ctime") ∷ number (codes "ctimensec")
-    ∷ number (codes "up") ∷ number (codes "subdirs") ∷ []
+    number_column (codes "atime") ∷ number_column (codes "atimensec") ∷ number_column (codes "mtime") ∷ number_column (codes "mtimensec") ∷ number_column (codes "ctime") ∷ number_column (codes "ctimensec")
+    ∷ number_column (codes "up") ∷ number_column (codes "subdirs") ∷ []
 
 abbrev pub plain_index : List ℕ → ℕ → ℕ → List ℕ → Bool → Index
 plain_index name tree table places unique = record { name = name; tree = tree; table = table; columns = places; order = plain; is_unique = unique }

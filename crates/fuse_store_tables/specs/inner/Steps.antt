@@ -2,7 +2,7 @@
 use Rattle.std.specs.Prelude.{ℕ, ◌-◌, List, [], ◌∷◌, ⊤, not, map, filter, fold, Result, OnOk}
 use Rattle.std.specs.List.{sum_by}
 use Rattle.sqlite.specs.Order.{Row}
-use Rattle.fuse_tree.specs.declared.rows.NodeRow.{NodeRow}
+use Rattle.fuse_rows.specs.declared.rows.NodeRow.{NodeRow}
 use Rattle.sqlite.specs.Effect.{Database}
 use Rattle.fuse_store_tables.specs.Content.{Content, Holds, HoldsAs, is_unnamed, kept_key, put_by, with_counter, set_counter, stored, with_lot, without_blocks_from}
 use Rattle.fuse_store_tables.specs.Making.{counters_alone}
@@ -11,7 +11,7 @@ use Rattle.sqlite.specs.State.{State, HasCleanDisk}
 use Rattle.fuse_store_tables.specs.Moves.{InsideAs}
 use Rattle.fuse_store_tables.specs.Opening.{IsLaid, IsOld, under}
 use Rattle.fuse_store_tables.specs.Clearing.{counted_to, has_unnamed, blocks_in, unnamed_blocks}
-use Rattle.fuse_store_tables.specs.inner.Columns.{number_of}
+use Rattle.fuse_store_tables.specs.inner.Columns.{number_of_row}
 
 abbrev pub HasCounters : ⊤ → Database → Type 0
 HasCounters _ = Holds counters_alone
@@ -30,8 +30,8 @@ Tests P old new r = HasCleanDisk new → OnOk r ((c : Content) → InsideAs (IsL
 abbrev pub with_copies : Content → Content
 with_copies c = record c { kept = fold (λ all k. put_by kept_key k all) c.kept (map (under 0) c.answers) }
 
-abbrev pub moved : Content → Content
-moved c = without_answers (with_copies (with_lot 0 c))
+abbrev pub moved_answers : Content → Content
+moved_answers c = without_answers (with_copies (with_lot 0 c))
 
 -- the tables of version 1, and then those of version 2 one after the other, before they are refilled
 pub record HasLots (c : Content) (d : Database) : Type 0 where
@@ -63,7 +63,7 @@ unnamed_sizes nodes = map (λ n. n.size) (filter is_unnamed nodes)
 
 -- the blocks of sizes that were read
 abbrev pub read_blocks : List Row → ℕ
-read_blocks rows = sum_by (λ r. blocks_in (number_of r)) rows
+read_blocks rows = sum_by (λ r. blocks_in (number_of_row r)) rows
 
 abbrev pub lowered_from : ℕ → Content → Content
 lowered_from used c = set_counter 14 (used - unnamed_blocks c.nodes) c

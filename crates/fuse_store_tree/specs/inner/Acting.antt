@@ -4,16 +4,16 @@ use Rattle.sqlite.specs.State.{State, HasCleanDisk}
 use Rattle.fuse_answer.specs.Said.{Said}
 use Rattle.fuse_tree.specs.State.{State as TreeState, Tree}
 use Rattle.fuse_tree.specs.Done.{Done}
-use Rattle.fuse_tree.specs.Rows.{rowed}
+use Rattle.fuse_tree.specs.Rowed.{rowed}
 use Rattle.fuse_store_tables.specs.Moves.{InsideAs}
 use Rattle.fuse_store_tree.specs.declared.meta.Meta.{Meta}
 use Rattle.fuse_store_tree.specs.Store.{Store, Held}
 use Rattle.fuse_store_tree.specs.Knowing.{Knows}
 use Rattle.fuse_keeper.specs.declared.fault.StoreFault.{StoreFault}
 use Rattle.fuse_keeper.specs.declared.fault.StoreFault.TheVariants.{Memory, Damaged}
-use Rattle.fuse_tree.specs.declared.planning.fault.PlanFault.{PlanFault}
+use Rattle.fuse_plan.specs.declared.planning.fault.PlanFault.{PlanFault}
 use Rattle.fuse_store_tree.specs.inner.Writing.{with_rows}
-use Rattle.fuse_tree.specs.declared.planning.fault.PlanFault.TheVariants as plans
+use Rattle.fuse_plan.specs.declared.planning.fault.PlanFault.TheVariants as plans
 
 -- the tables held the rows of this tree, and hold those of the tree after the request; the answer is the one said, and what is known is right
 pub record ActedInside (known : Option Meta) (new : State) (x : Store) (d : Done) (answer : Said) : Type 0 where
@@ -27,12 +27,12 @@ ActsInside was is old new s d answer =
     HasCleanDisk new → (x : Store) → x.rows ≡ rowed s → InsideAs (Held x) old → Knows was x.rows → ActedInside is new x d answer
 
 -- the fault that was the cause of one of a read
-abbrev pub cause_of : Option StoreFault → StoreFault
-cause_of None = Damaged
-cause_of (Some f) = f
+abbrev pub cause_in : Option StoreFault → StoreFault
+cause_in None = Damaged
+cause_in (Some f) = f
 
 -- the fault of a request without a plan
 abbrev pub why_no_plan : PlanFault → Option StoreFault → StoreFault
 why_no_plan plans.Memory looked = Memory
 why_no_plan plans.NotATree looked = Damaged
-why_no_plan (plans.Look f) looked = cause_of looked
+why_no_plan (plans.Look f) looked = cause_in looked

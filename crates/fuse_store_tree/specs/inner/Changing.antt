@@ -1,6 +1,6 @@
 -- The effect of a step within a transaction on the content of the tables (defined by this project).
 use Rattle.sqlite.specs.State.{State, HasCleanDisk}
-use Rattle.fuse_tree.specs.Rows.{IsRowed}
+use Rattle.fuse_tree.specs.Rowed.{IsRowed}
 use Rattle.fuse_store_tables.specs.Moves.{Stays, StaysInside, TurnsTo, InsideAs, IsReady}
 use Rattle.std.specs.Prelude.{ℕ, List, Option, Result, IfErr}
 use Rattle.fuse_store_tree.specs.Store.{Store, Held, HeldAs}

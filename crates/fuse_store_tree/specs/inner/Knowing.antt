@@ -2,12 +2,12 @@
 use Rattle.std.specs.Prelude.{◌==◌, if◌then◌else◌, ℕ, List, Option, Some, None, Result, IfErr}
 use Rattle.sqlite.specs.Effect.{Database}
 use Rattle.sqlite.specs.State.{State, HasCleanDisk}
-use Rattle.fuse_tree.specs.State.{profile_for}
+use Rattle.fuse_rows.specs.Rows.{profile_for}
 use Rattle.fuse_tree.specs.declared.agreement.Agreement.{Agreement}
-use Rattle.fuse_tree.specs.declared.rows.Counters.{Counters as CountersRow}
-use Rattle.fuse_tree.specs.declared.rows.Room.{Room}
-use Rattle.fuse_tree.specs.declared.rows.Change.{Change}
-use Rattle.fuse_tree.specs.declared.rows.Change.TheVariants as changes
+use Rattle.fuse_rows.specs.declared.rows.Counters.{Counters as CountersRow}
+use Rattle.fuse_rows.specs.declared.rows.Room.{Room}
+use Rattle.fuse_rows.specs.declared.rows.Change.{Change}
+use Rattle.fuse_rows.specs.declared.rows.Change.TheVariants as changes
 use Rattle.fuse_keeper.specs.declared.fault.StoreFault.{StoreFault}
 use Rattle.fuse_store_tables.specs.Content.{Content, Counter, counter_key, set_by, valued, set_counter}
 use Rattle.fuse_store_tables.specs.Faults.{IsOutside}

@@ -4,10 +4,10 @@ use Rattle.std.specs.Prelude.{Option, IfSome}
 use Rattle.std.proofs.Math.Nat.{le_refl}
 use Rattle.sqlite.specs.Tree.{Trees}
 use Rattle.sqlite.specs.State.{State, HasCleanDisk, Survives}
-use Rattle.fuse_tree.specs.Rows.{Rows}
+use Rattle.fuse_rows.specs.Rows.{Rows}
 use Rattle.fuse_keeper.specs.declared.fault.StoreFault.{StoreFault}
 use Rattle.fuse_store_tables.specs.Faults.{IsOutside, IsPlain}
-use Rattle.fuse_store_tables.specs.Moves.{IsReady, Stays, Looked}
+use Rattle.fuse_store_tables.specs.Moves.{IsReady, Stays, LookedInside}
 use Rattle.fuse_store_tables.specs.inner.Following.{earlier, inside_then, stays_then}
 use Rattle.fuse_store_tree.specs.declared.look.LastNode.{LastNode}
 use Rattle.fuse_store_tree.specs.declared.meta.Meta.{Meta}
@@ -32,23 +32,23 @@ same_stays a = record {
   kept = λ clean inside. record { was_open = λ is. is; committed = λ is. refl };
 }
 
-pub looked_still : (a : State) → Looked a a
+pub looked_still : (a : State) → LookedInside a a
 looked_still a = record { stays = same_stays a; within = λ clean inside. inside; same = λ clean c at. at }
 
-pub looked_then : (a b d : State) → Looked a b → Looked b d → Looked a d
+pub looked_then : (a b d : State) → LookedInside a b → LookedInside b d → LookedInside a d
 looked_then a b d p q = record {
   stays = stays_then a b d p.stays p.within q.stays;
   within = inside_then a b d p.within q.stays.survives q.within;
   same = λ clean c at. q.same clean c (p.same (earlier b d _ q.stays.survives clean) c at);
 }
 
-pub looked_fails : (a b d : State) → Looked a b → Stays b d → Stays a d
+pub looked_fails : (a b d : State) → LookedInside a b → Stays b d → Stays a d
 looked_fails a b d p q = stays_then a b d p.stays p.within q
 
-pub looked_clean : (a b : State) → Looked a b → HasCleanDisk b → HasCleanDisk a
+pub looked_clean : (a b : State) → LookedInside a b → HasCleanDisk b → HasCleanDisk a
 looked_clean a b p clean = earlier a b _ p.stays.survives clean
 
-pub looked_kept : (a b : State) → Looked a b → HasCleanDisk b → (rows : Rows) → sees_in a rows → sees_in b rows
+pub looked_kept : (a b : State) → LookedInside a b → HasCleanDisk b → (rows : Rows) → sees_in a rows → sees_in b rows
 looked_kept a b p clean rows (x, at, is) =
     let now = p.same clean at.holds.0 (record { is_open = at.is_open; in_transaction = at.in_transaction; holds = at.holds.1 }) in
     (x, record { is_open = now.is_open; in_transaction = now.in_transaction; holds = (at.holds.0, now.holds, at.holds.2) }, is)
@@ -56,7 +56,7 @@ looked_kept a b p clean rows (x, at, is) =
 -- ---- looks, and the fault
 
 -- a read keeps what is held
-pub looked_ready : (a b : State) → Looked a b → HasCleanDisk b → IsReady HeldFor a → IsReady HeldFor b
+pub looked_ready : (a b : State) → LookedInside a b → HasCleanDisk b → IsReady HeldFor a → IsReady HeldFor b
 looked_ready a b p clean (y, at) =
     let c = at.holds.held.0 in
     let now = p.same clean c (record { is_open = at.is_open; in_transaction = at.in_transaction; holds = at.holds.held.1 }) in (

@@ -2,12 +2,12 @@
 use Rattle.std.specs.Prelude.{◌≡◌, ◌++◌, ◌==◌, if◌then◌else◌, ◌+◌, replicate, zero, suc, nat_lt, min, length, ◌-◌, ℕ, List, [], ◌∷◌, Option, Some, None, IfSome, slice_index_or}
 use Rattle.sqlite.specs.Order.{Row}
 use Rattle.fuse_init.specs.declared.settings.Settings.{Settings}
-use Rattle.fuse_tree.specs.Bounds.{block_bytes}
-use Rattle.fuse_tree.specs.declared.rows.NodeRow.{NodeRow}
-use Rattle.fuse_tree.specs.declared.rows.EntryRow.{EntryRow}
-use Rattle.fuse_tree.specs.declared.rows.Child.{Child}
-use Rattle.fuse_tree.specs.declared.rows.Counters.{Counters as CountersRow}
-use Rattle.fuse_tree.specs.declared.rows.Room.{Room}
+use Rattle.fuse_rows.specs.Bounds.{block_bytes}
+use Rattle.fuse_rows.specs.declared.rows.NodeRow.{NodeRow}
+use Rattle.fuse_rows.specs.declared.rows.EntryRow.{EntryRow}
+use Rattle.fuse_rows.specs.declared.rows.Child.{Child}
+use Rattle.fuse_rows.specs.declared.rows.Counters.{Counters as CountersRow}
+use Rattle.fuse_rows.specs.declared.rows.Room.{Room}
 use Rattle.fuse_store_tables.specs.Blocks.{Block}
 use Rattle.fuse_store_tables.specs.Content.{Content, Counter, at_by, node_key, columns_of, shown_entry}
 use Rattle.fuse_store_tree.specs.Fits.{KeepsNode}
@@ -18,8 +18,8 @@ abbrev pub value_of : List Counter → ℕ → ℕ
 value_of cs at = (slice_index_or cs at (counter 0 0)).value
 
 -- a store with a room has 14
-abbrev pub room_in : List Counter → Option Room
-room_in cs = if length cs == 14 then Some (record { capacity = value_of cs 12; used = value_of cs 13 }) else None
+abbrev pub room_of_counters : List Counter → Option Room
+room_of_counters cs = if length cs == 14 then Some (record { capacity = value_of cs 12; used = value_of cs 13 }) else None
 
 abbrev pub counted_in : List Counter → CountersRow
 counted_in cs = record {
@@ -28,7 +28,7 @@ counted_in cs = record {
   next_cookie = value_of cs 3;
   nodes = value_of cs 4;
   handles = value_of cs 5;
-  room = room_in cs;
+  room = room_of_counters cs;
 }
 
 abbrev pub agreed_in : List Counter → Option Settings

@@ -1,9 +1,9 @@
 -- How rows are written into the tables (defined by this project).
 use Rattle.std.specs.Prelude.{◌==◌, if◌then◌else◌, ◌+◌, ◌++◌, ◌&&◌, take, drop, length, not, nat_lt, ◌-◌, min, max, ℕ, Bool, List, [], ◌∷◌, Option, Some, None}
-use Rattle.fuse_tree.specs.declared.rows.Room.{Room}
-use Rattle.fuse_tree.specs.declared.rows.Change.{Change}
-use Rattle.fuse_tree.specs.declared.rows.Change.TheVariants as changes
-use Rattle.fuse_tree.specs.Rows.{Rows, apply_one}
+use Rattle.fuse_rows.specs.declared.rows.Room.{Room}
+use Rattle.fuse_rows.specs.declared.rows.Change.{Change}
+use Rattle.fuse_rows.specs.declared.rows.Change.TheVariants as changes
+use Rattle.fuse_rows.specs.Rows.{Rows, apply_one}
 use Rattle.fuse_store_tables.specs.Content.{Content, Counter, counter_key, set_by, valued, set_block, with_block}
 use Rattle.fuse_store_tree.specs.Store.{Store, Bodies, byte_at}
 
@@ -20,25 +20,25 @@ abbrev pub overlay : ℕ → ℕ → List ℕ → (ℕ → ℕ → ℕ) → ℕ 
 overlay node at part g n i = if (n == node) && (not (nat_lt i at) && nat_lt i (at + length part)) then byte_at part (i - at) else g n i
 
 -- the bytes of nodes with those of one node from a place on set to 0
-abbrev pub cut : ℕ → ℕ → (ℕ → ℕ → ℕ) → ℕ → ℕ → ℕ
-cut node at g n i = if (n == node) && not (nat_lt i at) then 0 else g n i
+abbrev pub zeroed_from : ℕ → ℕ → (ℕ → ℕ → ℕ) → ℕ → ℕ → ℕ
+zeroed_from node at g n i = if (n == node) && not (nat_lt i at) then 0 else g n i
 
 -- the ends of nodes, where one has bytes up to a place, or none from a place on
-abbrev pub grown : ℕ → ℕ → (ℕ → ℕ) → ℕ → ℕ
-grown node end ends n = if n == node then max (ends n) end else ends n
+abbrev pub ends_grown : ℕ → ℕ → (ℕ → ℕ) → ℕ → ℕ
+ends_grown node end ends n = if n == node then max (ends n) end else ends n
 
 abbrev pub shortened : ℕ → ℕ → (ℕ → ℕ) → ℕ → ℕ
 shortened node end ends n = if n == node then min (ends n) end else ends n
 
 -- the same of bytes and ends; where zeros are written, the end stays
 abbrev pub overlay_in : ℕ → ℕ → List ℕ → Bodies → Bodies
-overlay_in node at part b = record { byte = overlay node at part b.byte; ends = grown node (at + length part) b.ends }
+overlay_in node at part b = record { byte = overlay node at part b.byte; ends = ends_grown node (at + length part) b.ends }
 
 abbrev pub zeros_in : ℕ → ℕ → List ℕ → Bodies → Bodies
 zeros_in node at zeros b = record b { byte = overlay node at zeros b.byte }
 
 abbrev pub cut_in : ℕ → ℕ → Bodies → Bodies
-cut_in node at b = record { byte = cut node at b.byte; ends = shortened node at b.ends }
+cut_in node at b = record { byte = zeroed_from node at b.byte; ends = shortened node at b.ends }
 
 abbrev pub with_rows : Rows → Store → Store
 with_rows rows x = record x { rows = rows }

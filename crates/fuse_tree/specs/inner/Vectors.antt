@@ -10,7 +10,8 @@ use Rattle.fuse_answer.specs.Bodies.{entry_bytes, attr_out_bytes}
 use Rattle.fuse_answer.specs.declared.records.Attr.{Attr}
 use Rattle.fuse_init.specs.declared.settings.Settings.{Settings}
 use Rattle.fuse_init.specs.declared.profile.Profile.TheVariants as profiles
-use Rattle.fuse_tree.specs.State.{State, new_store, made_at}
+use Rattle.fuse_rows.specs.Origins.{made_at}
+use Rattle.fuse_tree.specs.State.{State, new_store}
 use Rattle.fuse_tree.specs.Do.{done}
 
 abbrev pub at : ℕ → Moment
@@ -28,8 +29,8 @@ refuses errno = record { errno = errno.0; body = [] }
 
 -- ---- INIT, in a store made at second 0
 
-abbrev pub init : ℕ → ℕ → ℕ → Option ℕ → Act
-init major minor flags flags2 = acts.Init (record { major = major; minor = minor; max_readahead = 131072; flags = flags; flags2 = flags2 })
+abbrev pub init_act : ℕ → ℕ → ℕ → Option ℕ → Act
+init_act major minor flags flags2 = acts.Init (record { major = major; minor = minor; max_readahead = 131072; flags = flags; flags2 = flags2 })
 
 abbrev pub after_init : State → Act → State
 after_init s a = (done s (asks 2 0 a) (at 1000)).state
@@ -39,7 +40,7 @@ unmounted = new_store profiles.Plain 0 (made_at (at 0))
 
 -- init-agreed, on which the other examples stand
 abbrev pub first : State
-first = after_init unmounted (init 7 40 0x40002021 (Some 0x80))
+first = after_init unmounted (init_act 7 40 0x40002021 (Some 0x80))
 
 abbrev pub agrees : ℕ → ℕ → Option Settings
 agrees minor flags = Some (record { minor = minor; max_readahead = 131072; flags = record { 0 = flags } })
@@ -47,10 +48,10 @@ agrees minor flags = Some (record { minor = minor; max_readahead = 131072; flags
 abbrev pub Inits : Type 0
 Inits =
     (first.settings ≡ agrees 40 (2 ^ 0 + 2 ^ 5 + 2 ^ 30 + 2 ^ 39))
-    × ((after_init first (init 7 31 0x21 None)).settings ≡ agrees 31 (2 ^ 0 + 2 ^ 5))
-    × ((after_init unmounted (init 8 0 0x21 None)).settings ≡ None)
-    × ((after_init first (init 8 0 0x21 None)).settings ≡ first.settings)
-    × ((done unmounted (asks 2 0 (init 7 22 0x21 None)) (at 1000)).said ≡ refuses eproto)
+    × ((after_init first (init_act 7 31 0x21 None)).settings ≡ agrees 31 (2 ^ 0 + 2 ^ 5))
+    × ((after_init unmounted (init_act 8 0 0x21 None)).settings ≡ None)
+    × ((after_init first (init_act 8 0 0x21 None)).settings ≡ first.settings)
+    × ((done unmounted (asks 2 0 (init_act 7 22 0x21 None)) (at 1000)).said ≡ refuses eproto)
     × ((done unmounted (asks 4 1 (acts.Getattr 0 0)) (at 1000)).said ≡ refuses eproto)
     × ((done unmounted (asks 4 9 acts.Destroy) (at 1000)).said ≡ refuses eproto)
 
@@ -108,4 +109,4 @@ Refusals =
     × (lookup_of 1 (replicate 256 97) ≡ refuses enametoolong)
     × (lookup_of 1 (replicate 255 97) ≡ refuses enoent)
     × (lookup_of 2 (codes "hello") ≡ refuses estale)
-    × ((done first (asks 4 1 (acts.Unsupported 35 [])) (at 1000)).said ≡ refuses enosys)
+    × ((done first (asks 4 1 (acts.Further 35 [])) (at 1000)).said ≡ refuses enosys)

@@ -8,7 +8,7 @@ use Rattle.fuse_answer.specs.declared.records.EntryOut.{EntryOut}
 use Rattle.fuse_answer.specs.declared.records.AttrOut.{AttrOut}
 use Rattle.fuse_answer.specs.declared.init_out.InitOut.{InitOut}
 use Rattle.fuse_answer.specs.Bodies.{header_bytes, attr_bytes, entry_bytes, attr_out_bytes, open_bytes, write_bytes, init_bytes}
-use Rattle.fuse_answer.specs.Entries.{Entry, entries_bytes}
+use Rattle.fuse_answer.specs.Entries.{DirectoryEntry, entries_bytes}
 use Rattle.fuse_answer.specs.Wire.{negated, wire_head, wire}
 use Rattle.fuse_answer.specs.Notice.{resend_bytes}
 
@@ -141,7 +141,7 @@ Inits =
     × (wire 0 (init_bytes (init 0x21 0)) 2 ≡ init_answer (hex (codes "21000000")) (hex (codes "00000000")))
 
 -- the first two entries of the root
-abbrev pub dots : List Entry
+abbrev pub dots : List DirectoryEntry
 dots =
     record { ino = 1; off = 1; kind = 4; name = codes "." }
     ∷ record { ino = 1; off = 2; kind = 4; name = codes ".." }

@@ -33,7 +33,7 @@ link_said opcode [] = if opcode == 5 then give target else if opcode == 17 then 
 link_said opcode (b ∷ bs) = refuse einval
 
 abbrev pub said : Act → Said
-said (acts.Unsupported opcode body) = link_said opcode body
+said (acts.Further opcode body) = link_said opcode body
 said _ = refuse enosys
 
 -- it stays as it is

@@ -2,9 +2,9 @@
 use Rattle.fuse_keeper.specs.declared.plain.PlainKeeper.{PlainKeeper}
 use Rattle.fuse_keeper.specs.KeeperState.{KeeperState}
 use Rattle.fuse_keeper.specs.PlainKeeper.{plain_told}
-use Rattle.fuse_tree.specs.declared.plain_tree.PlainTree.{PlainTree}
+use Rattle.fuse_lists.specs.declared.plain_tree.PlainTree.{PlainTree}
 use Rattle.fuse_init.specs.declared.profile.PlainProfile.{PlainProfile}
-use Rattle.fuse_tree.specs.PlainTree.{tree_held}
+use Rattle.fuse_lists.specs.PlainTree.{tree_held}
 use Rattle.fuse_init.specs.declared.profile.Profile.TheVariants.{Plain}
 use Rattle.fuse_tree.specs.TheTree.{tree_of}
 

@@ -2,8 +2,8 @@
 use crate::hex::put_hex;
 use fuse_init::PlainProfile;
 use fuse_keeper::{Keeper, PlainKeeper, Restart};
+use fuse_lists::PlainTree;
 use fuse_session::{Ended, Fixed, Port, SessionCounts, serve};
-use fuse_tree::PlainTree;
 use fuse_wire::Moment;
 use lossy_port::LossyPort;
 use messages::*;

@@ -305,7 +305,7 @@ fn class_of_message(bytes: &[u8], served: bool) -> Option<Class> {
 fn is_readlink(message: &[u8]) -> bool {
     match decode(message) {
         Ok(request) => match request.op {
-            Op::Unsupported { opcode, body } => opcode == READLINK && body.is_empty(),
+            Op::Further { opcode, body } => opcode == READLINK && body.is_empty(),
             _ => false,
         },
         Err(_fault) => false,

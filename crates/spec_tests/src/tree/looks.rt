@@ -1,11 +1,10 @@
 //! A `Look` of the tests that counts its calls, about which contracts say nothing.
 use crate::tree::requests::request_of;
 use fuse_init::{Profile, Settings};
+use fuse_plan::{Planned, plan};
 use fuse_request::{Op, ReadIn};
-use fuse_tree::{
-    Agreement, Child, Counters, EntryRow, HandleRow, Look, LookFault, NodeRow, Planned, ROOT_ID,
-    S_IFDIR, S_IFREG, plan,
-};
+use fuse_rows::{Child, Counters, EntryRow, HandleRow, NodeRow, ROOT_ID};
+use fuse_tree::{Agreement, Look, LookFault, S_IFDIR, S_IFREG};
 use fuse_wire::{AccessMode, ByteList, InitFlags, Memory, Moment};
 use std::alloc::Global;
 use std::test::*;

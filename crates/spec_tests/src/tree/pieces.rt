@@ -1,8 +1,8 @@
 //! Case pieces, and as many pieces as the largest file has blocks.
 ghost use Rattle.std.specs.Prelude.{◌≤◌, ◌+◌};
-ghost use Rattle.fuse_tree.specs.declared.limits.TheConstants.{MAX_FILE as max_file};
+ghost use Rattle.fuse_rows.specs.declared.limits.TheConstants.{MAX_FILE as max_file};
 
-use fuse_tree::{Piece, Pieces};
+use fuse_rows::{Piece, Pieces};
 use std::alloc::{AllocError, Global};
 
 fn cut(alloc: Global, offset: u64, len: u32) -> Result<Vec<Piece>, AllocError>

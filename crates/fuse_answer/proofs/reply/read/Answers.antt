@@ -2,7 +2,7 @@ use Rattle.std.proofs.Common.{◌≡◌, ◌-◌, List, ℕ, take, drop, length,
 use Rattle.std.proofs.lemmas.List.{take_all, length-drop, nil_from_length}
 use Rattle.std.proofs.lemmas.Bool.{eqb-true}
 use Rattle.std.proofs.lemmas.Result.{err_from_is_err_and}
-use Rattle.fuse_answer.specs.Replies.{kind_of, most_of, Holds, IsAtMost, content, BodyFault}
+use Rattle.fuse_answer.specs.Replies.{kind_of, most_of, HoldsBody, IsAtMost, reply_content, BodyFault}
 use Rattle.fuse_answer.proofs.Answering.{answered, body_fault}
 use Rattle.fuse_answer.proofs.reply.read.Goals as goal
 
@@ -38,7 +38,7 @@ returns-clause-found c =
     (sym c.u32_at.ensures ∙ c.if-u32_at-bytes.false)
     (sym c.if-errno-ne0.false ∙ c.errno_at-errno.ensures) c.u64_at-unique.ensures
     (
-    let held = subst (λ (b : List ℕ). Holds (kind_of c.args.opcode c.args.size) (content c.in_ok-body.body) b
+    let held = subst (λ (b : List ℕ). HoldsBody (kind_of c.args.opcode c.args.size) (reply_content c.in_ok-body.body) b
     × IsAtMost (most_of c.args.opcode c.args.size) (length b)) rest c.in_ok-body.ensures in
     inl (refl, held.0, held.1)
     )

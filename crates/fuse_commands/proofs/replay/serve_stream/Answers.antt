@@ -5,7 +5,7 @@ use Rattle.fuse_session.specs.Port.{fresh}
 use Rattle.fuse_session.specs.Stream.{stream_told}
 use Rattle.fuse_commands.specs.Endings.{IsOfStream}
 use Rattle.fuse_commands.specs.Replaying.{Replayed}
-use Rattle.fuse_commands.specs.inner.Sending.{Sends}
+use Rattle.fuse_commands.specs.inner.Sending.{SendsAnswers}
 use Rattle.fuse_commands.proofs.Streams.{session_replayed, session_faulted, session_kept, counts_shown}
 use Rattle.fuse_commands.proofs.replay.serve_stream.Goals as goal
 
@@ -20,7 +20,7 @@ returns-clause-replayed g c = λ of_stream input known.
     ends.told_are c.counts_of.ensures in
     subst
     (λ m. Replayed (g.K.Keeper.told c.args.keeper.now) (g.K.Keeper.told c.serve-served.new.keeper) c.args.moment input c.of_session.result
-    (Sends c.into_writer.result.items m)) (sym n)
+    (SendsAnswers c.into_writer.result.items m)) (sym n)
     (session_replayed c.cut_joins.ensures c.cut_steps.ensures (g.K.Keeper.told c.args.keeper.now)
     (g.K.Keeper.told c.serve-served.new.keeper) c.args.moment (λ (d : Deeds). d ≡ session.deeds) input c.into_writer.result.items
     (stream_told (λ r. g.R.Read.remaining r.now) (λ w. Some w.items) c.new-port.result)

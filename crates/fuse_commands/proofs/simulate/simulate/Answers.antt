@@ -11,7 +11,7 @@ pub returns-clause-ok : goal.returns-clause-ok
 returns-clause-ok g c =
     let k = g.K.Keeper in
     ran (driven k.told k.became k.performed g.K.Restart.refuses) c.args.keeper.now c.run_events.new.keeper _ _ _ _ _ _ c.run_events.ensures.ok
-    c.run_events.ensures.count c.run_events.ensures.begin c.run_events.ensures.asked c.run_events.ensures.opened c.in_ok-script.ensures.ok c.as_slice.ensures.value
+    c.run_events.ensures.count c.run_events.ensures.begin c.run_events.ensures.asked c.run_events.ensures.opened c.run_events.ensures.counts c.in_ok-script.ensures.ok c.as_slice.ensures.value
     c.in_ok-events.ensures.found c.as_slice-2.ensures.value
 
 pub returns-clause-store : goal.returns-clause-store

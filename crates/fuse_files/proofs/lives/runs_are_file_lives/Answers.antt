@@ -3,14 +3,15 @@ use Rattle.std.specs.Prelude.{IfSome}
 use Rattle.fuse_store_files.specs.Left.{LeavesOpening}
 use Rattle.fuse_store_files.specs.Files.{FilesStand}
 use Rattle.fuse_sim.specs.inner.FilesLived.{ran_nothing}
-use Rattle.fuse_files.proofs.FileRuns.{file_lives}
+use Rattle.fuse_files.proofs.FileRuns.{file_lives, resumed_how}
 use Rattle.fuse_files.proofs.Refused.{still_stands}
 use Rattle.fuse_files.proofs.lives.runs_are_file_lives.Goals as goal
 
 pub returns-clause-served : goal.returns-clause-served
-returns-clause-served g c = λ first sides begin kind run served image left. file_lives g.P.Profiled.PROFILE first _ _ sides begin kind run served c.runs_are_lives.ensures image left
+returns-clause-served g c = λ x task run served image left. file_lives g.P.Profiled.PROFILE _ x task run served c.runs_are_lives.ensures image left
 
 pub returns-clause-refused : goal.returns-clause-refused
-returns-clause-refused g c = λ first sides kind run refused image left at stand new.
+returns-clause-refused g c = λ x task run refused resumes image left at stand new.
     ran_nothing (FilesStand g.P.Profiled.PROFILE) at image
-    (still_stands g.P.Profiled.PROFILE first at stand run.left image (subst (λ how. IfSome run.left (LeavesOpening how first)) refused.opens.0 refused.crash) left)
+    (still_stands g.P.Profiled.PROFILE task.first at stand run.left image
+    (subst (λ how. IfSome run.left (LeavesOpening how task.first)) (resumed_how g.C.Clock.gave task.begin task.kind x.clock x.clock' refused.how resumes refused.opens) refused.crash) left)

@@ -2,7 +2,7 @@ use Rattle.std.proofs.Common.{◌≡◌, ℕ, refl}
 use Rattle.fuse_init.specs.declared.profile.Profile.{Profile}
 use Rattle.fuse_init.specs.declared.profile.Profile.TheVariants.{Plain, Everyday}
 use Rattle.fuse_tree.specs.State.{profile_of, new_store}
-use Rattle.fuse_tree.specs.declared.origin.Origin.{Origin}
+use Rattle.fuse_rows.specs.declared.origin.Origin.{Origin}
 use Rattle.fuse_store.specs.Creating.{origin_of}
 use Rattle.fuse_files.specs.StoreReplays.{made_then}
 use Rattle.fuse_files.specs.StoreSimulations.{new_state}

@@ -1,13 +1,28 @@
 use Rattle.std.proofs.Common.{sym, subst}
 use Rattle.sqlite.specs.Held.{state}
-use Rattle.fuse_files.specs.StoreShown.{Shows}
+use Rattle.fuse_files.specs.StoreShown.{IsTextOf, OutputsAs, Shows, ShowsText}
 use Rattle.fuse_files.specs.declared.showing.Show.{Show}
 use Rattle.fuse_files.specs.inner.Showing.{ShowsOver}
 use Rattle.fuse_files.proofs.showing.show_of.Goals as goal
 
-pub returns-in-Summary : goal.returns-in-Summary
-returns-in-Summary g c = λ clean.
-    let old = g.W.Write.contents c.args.writer.now in
-    let new = g.W.Write.contents c.summary_of.new.writer in
+pub returns-in-Summary-clause-shown : goal.returns-in-Summary-clause-shown
+returns-in-Summary-clause-shown g c = λ clean.
+    let old = g.W.Sink.contents c.args.writer.now in
+    let new = g.W.Sink.contents c.summary_of.new.writer in
     subst (λ (what : Show). ShowsOver (λ z. Shows what z old new c.summary_of.result) (state g.S.Store c.args.conn) old new c.summary_of.result)
-    (sym c.in-Summary.is) (c.summary_of.ensures clean)
+    (sym c.in-Summary.is) (c.summary_of.ensures.shown clean)
+
+pub returns-in-Summary-clause-written : goal.returns-in-Summary-clause-written
+returns-in-Summary-clause-written g c =
+    subst (λ (what : Show). OutputsAs g.W.Sink.was_written g.W.Sink.was_flushed c.args.writer.now c.summary_of.new.writer (ShowsText (IsTextOf what) c.summary_of.result)) (sym c.in-Summary.is)
+    c.summary_of.ensures.written
+
+pub returns-in-Directory-clause-written : goal.returns-in-Directory-clause-written
+returns-in-Directory-clause-written g c =
+    subst (λ (what : Show). OutputsAs g.W.Sink.was_written g.W.Sink.was_flushed c.args.writer.now c.list_of.new.writer (ShowsText (IsTextOf what) c.list_of.result)) (sym c.in-Directory.is)
+    c.list_of.ensures.written
+
+pub returns-in-File-clause-written : goal.returns-in-File-clause-written
+returns-in-File-clause-written g c =
+    subst (λ (what : Show). OutputsAs g.W.Sink.was_written g.W.Sink.was_flushed c.args.writer.now c.print_of.new.writer (ShowsText (IsTextOf what) c.print_of.result)) (sym c.in-File.is)
+    c.print_of.ensures.written

@@ -1,13 +1,13 @@
 use Rattle.std.proofs.Common.{◌≡◌, [], inl, refl, sym, subst}
 use Rattle.std.specs.Prelude.{IsErrAnd}
-use Rattle.sqlite.specs.Files.{over_files, image_of}
+use Rattle.sqlite.specs.Files.{over_files, image_of, file_state}
 use Rattle.fuse_keeper.specs.KeeperState.{StandsFor, IsFirm}
 use Rattle.fuse_store.specs.TableKeeper.{keeper_told}
 use Rattle.fuse_commands.specs.Endings.{store_ending}
 use Rattle.fuse_files.specs.StoreSimulations.{new_state}
 use Rattle.fuse_files.specs.StoreShown.{IsUnopened}
 use Rattle.fuse_files.proofs.Ends.{says_nothing_in}
-use Rattle.fuse_files.proofs.Opened.{not_opened_in}
+use Rattle.fuse_files.proofs.Opened.{clean_conn, not_opened_in, finds_blank}
 use Rattle.fuse_files.proofs.simulating.new_keeper.Goals as goal
 
 pub returns-in-Ok-create-clause-stands : goal.returns-in-Ok-create-clause-stands
@@ -30,3 +30,11 @@ pub returns-clause-fault : goal.returns-clause-fault
 returns-clause-fault g c = λ sure.
     inl (says_nothing_in c.create.result c.in-Err-create.fault c.create.ensures.outside
     (subst (λ r. IsErrAnd r (λ p. p.0 ≡ c.in-Err-create.fault)) (sym c.in-Err-create.is) refl))
+
+pub returns-in-Ok-create-clause-blank : goal.returns-in-Ok-create-clause-blank
+returns-in-Ok-create-clause-blank g c = λ sure.
+    let clean = clean_conn sure c.in-Ok.conn in
+    let live = c.in-Ok.ensures.opened clean in
+    let found = c.in-Ok.ensures.found clean in
+    finds_blank (image_of g.D.Disk c.args.files) (file_state c.in-Ok.conn) live.0 live.1 (record { holds = found.holds; reads = found.reads })
+    c.in-Ok-create.ensures.blank

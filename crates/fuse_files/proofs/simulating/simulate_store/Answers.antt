@@ -6,7 +6,7 @@ use Rattle.fuse_tree.specs.TheTree.{tree_of}
 use Rattle.fuse_commands.specs.Endings.{status_of}
 use Rattle.fuse_commands.specs.Simulating.{SimulatedFrom}
 use Rattle.fuse_files.specs.StoreReplays.{Streams}
-use Rattle.fuse_files.specs.StoreSimulations.{IsSimulated, NotSimulated, AreSure, new_state}
+use Rattle.fuse_files.specs.StoreSimulations.{IsSimulated, NotSimulated, AreSure, WereBlank, new_state}
 use Rattle.fuse_files.proofs.simulating.simulate_store.Goals as goal
 
 pub returns-in-Plain-clause-ran : goal.returns-in-Plain-clause-ran
@@ -16,7 +16,8 @@ returns-in-Plain-clause-ran g c =
       written = g.W.Write.contents c.args.writer.now;
       written' = g.W.Write.contents c.simulate_under.new.writer;
     } in
-    subst (λ (p : Profile). IsSimulated p c.args.kind g.D.Disk g.D.Crashing.crashed streams c.simulate_under.result ⊎ NotSimulated g.D.Disk c.args.files streams c.simulate_under.result)
+    subst (λ (p : Profile). (IsSimulated p c.args.kind g.D.Disk g.D.Crashing.crashed streams c.simulate_under.result × WereBlank g.D.Disk c.args.files)
+    ⊎ NotSimulated g.D.Disk c.args.files streams c.simulate_under.result)
     (sym c.in-Plain.is) c.simulate_under.ensures.ran
 
 pub returns-in-Plain-clause-simulated : goal.returns-in-Plain-clause-simulated
@@ -32,7 +33,7 @@ returns-in-Everyday-clause-ran g c =
       written = g.W.Write.contents c.args.writer.now;
       written' = g.W.Write.contents c.simulate_under-in-Everyday.new.writer;
     } in
-    subst (λ (p : Profile). IsSimulated p c.args.kind g.D.Disk g.D.Crashing.crashed streams c.simulate_under-in-Everyday.result
+    subst (λ (p : Profile). (IsSimulated p c.args.kind g.D.Disk g.D.Crashing.crashed streams c.simulate_under-in-Everyday.result × WereBlank g.D.Disk c.args.files)
     ⊎ NotSimulated g.D.Disk c.args.files streams c.simulate_under-in-Everyday.result)
     (sym c.in-Everyday.is) c.simulate_under-in-Everyday.ensures.ran
 

@@ -9,4 +9,4 @@ returns-clause-simulated g c = λ sure.
 pub returns-clause-ran : goal.returns-clause-ran
 returns-clause-ran g c =
     ran_new g.P.Profiled.PROFILE c.args.kind g.D.Crashing.crashed _ _ c.args.files c.new_keeper-keeper.result c.new_keeper-keeper.ensures.stands
-    c.new_keeper-keeper.ensures.firm c.new_keeper-keeper.ensures.fault c.simulate_opened.ensures.ran c.simulate_opened.ensures.fault
+    c.new_keeper-keeper.ensures.firm c.new_keeper-keeper.ensures.blank c.new_keeper-keeper.ensures.fault c.simulate_opened.ensures.ran c.simulate_opened.ensures.fault

@@ -1,6 +1,6 @@
 use Rattle.std.proofs.Common.{◌≡◌, ℕ, List, take, length, All}
 use Rattle.fuse_keeper.specs.History.{History, Includes, IsUnsettled, ids_in}
-use Rattle.fuse_keeper.specs.Model.{IsRowed}
+use Rattle.fuse_keeper.specs.Model.{IsOfGoodState}
 use Rattle.fuse_keeper.specs.Stands.{Stands, AreThese, PerformedBy, without}
 use Rattle.fuse_keeper.specs.Group.{entries_of, ids_of}
 use Rattle.fuse_keeper.specs.Taking.{TakesAll}
@@ -21,6 +21,6 @@ invariant-loop-one g l = record {
       (record { rows = g.F.FileSystem.held l.draft.rows; records = over l.draft.added.items (without (ids_of l.settled) (mapped l.records)) }) l.dones.items;
   count : length l.dones.items ≡ l.one-index;
   ready : g.F.FileSystem.is_ready l.draft.rows;
-  rowed : IsRowed g.F.FileSystem.model (g.F.FileSystem.held l.rows) → IsRowed g.F.FileSystem.model (g.F.FileSystem.held l.draft.rows);
+  rowed : IsOfGoodState g.F.FileSystem.model (g.F.FileSystem.held l.rows) → IsOfGoodState g.F.FileSystem.model (g.F.FileSystem.held l.draft.rows);
   ids : Includes (ids_in (entries_of (take l.one-index l.group))) (record_ids l.draft.added.items);
 }

@@ -6,7 +6,7 @@ use Rattle.fuse_session.specs.declared.ended.Ended.TheVariants.{Memory, Turns}
 use Rattle.fuse_session.specs.Counting.{plus, none_counted}
 use Rattle.fuse_session.specs.Deeds.{Deeds}
 use Rattle.fuse_session.specs.Serving.{nothing_waits}
-use Rattle.fuse_session.specs.Starts.{Kept}
+use Rattle.fuse_session.specs.Starts.{KeptRecords}
 use Rattle.fuse_session.specs.inner.Counting.{IsBelow}
 use Rattle.fuse_session.specs.inner.Finishing.{ended_port}
 use Rattle.fuse_session.specs.inner.Moves.{HandsOn, FailedBy}
@@ -66,7 +66,7 @@ loop-turn-init g c = record {
   few = omega (arith, ap length c.new-pending.ensures.items);
   going = c.requires.going;
   firm = λ _ firm. firm;
-  more = λ _ _ (before : Kept) h. subst (λ xs. HandsOn before (g.K.Keeper.told c.args.keeper.now) (ids_of xs)) (sym c.new-pending.ensures.items) h;
+  more = λ _ _ (before : KeptRecords) h. subst (λ xs. HandsOn before (g.K.Keeper.told c.args.keeper.now) (ids_of xs)) (sym c.new-pending.ensures.items) h;
   receives = omega arith;
   failures = refl;
   receive_failures = refl;
@@ -112,7 +112,7 @@ loop-turn-preserved g c =
       few = e.few;
       going = t.going;
       firm = λ honest firm. t.firm honest (inv.firm (e.honest honest) firm);
-      more = λ confirms honest (before : Kept) h. t.more (inv.confirms ∙ confirms) honest before (inv.more confirms (e.honest honest) before h);
+      more = λ confirms honest (before : KeptRecords) h. t.more (inv.confirms ∙ confirms) honest before (inv.more confirms (e.honest honest) before h);
       receives = omega (arith, e.receives, inv.receives);
       failures = t.failures ∙ inv.failures;
       receive_failures = t.receive_failures ∙ inv.receive_failures;
@@ -175,7 +175,7 @@ returns-in-Err-clause-session g c =
         groups_more c.cut_joins.ensures M.serves before t.deeds _ _ _ _ inv.whole.turned.work.done.1 inv.whole.rest_is inv.whole.turned.work.done.0.groups t.done,
       );
       lots = λ confirms intact rows (records : Records) held rowed.
-          let before : Kept = record { records = records; lots = k.lots } in
+          let before : KeptRecords = record { records = records; lots = k.lots } in
           t.at_most (inv.confirms ∙ confirms) intact before
           (inv.more confirms (e.honest intact.honest) before (hands_start M k [] rows records held rowed));
       receives = omega (arith, e.receives, inv.receives, c.loop-turn-test.true);
@@ -211,7 +211,7 @@ returns-clause-session g c =
       prompt = record { first = work.done.0.first; stops = work.done.0.stops };
       groups = ([], work.done.0.groups ∙ sym (append-nil (groups_asked work.deeds.asked)));
       lots = λ confirms intact rows (records : Records) held rowed.
-          let before : Kept = record { records = records; lots = k.lots } in
+          let before : KeptRecords = record { records = records; lots = k.lots } in
           holds_under M before k' (ids_of c.loop-turn.pending.items) (inv.more confirms intact.honest before (hands_start M k [] rows records held rowed));
       receives = omega (arith, inv.receives);
       failed = failed_both Turns _ _ inv.failures;

@@ -10,7 +10,7 @@ use Rattle.fuse_session.specs.Serving.{nothing_waits, Whole}
 use Rattle.fuse_session.specs.inner.Turn.{waits}
 use Rattle.fuse_session.specs.Deeds.{Did}
 use Rattle.fuse_session.specs.Ends.{EndsNot}
-use Rattle.fuse_session.specs.Starts.{Kept}
+use Rattle.fuse_session.specs.Starts.{KeptRecords}
 use Rattle.fuse_session.proofs.Prompting.{Answering}
 use Rattle.fuse_session.proofs.session.serve.Given as goal
 
@@ -26,7 +26,7 @@ invariant-loop-turn g l = record {
   going : (g.K.Keeper.told l.keeper).has_failed ≡ false;
   firm : (g.K.Keeper.told l.keeper).is_honest → IsFirm (g.K.Keeper.told l.fn.keeper)
       → IsFirm (g.K.Keeper.told l.keeper);
-  more : (g.P.Port.told l.fn.port).confirms ≡ true → (g.K.Keeper.told l.keeper).is_honest → (before : Kept) → HandsOn before (g.K.Keeper.told l.fn.keeper) []
+  more : (g.P.Port.told l.fn.port).confirms ≡ true → (g.K.Keeper.told l.keeper).is_honest → (before : KeptRecords) → HandsOn before (g.K.Keeper.told l.fn.keeper) []
       → HandsOn before (g.K.Keeper.told l.keeper) (ids_of l.pending.items);
   receives : (g.P.Port.told l.port).receives ≡ (g.P.Port.told l.fn.port).receives + l.turn;
   failures : (g.P.Port.told l.port).failures ≡ (g.P.Port.told l.fn.port).failures;

@@ -1,8 +1,8 @@
 use Rattle.std.proofs.Common.{◌≡◌, ◌≤◌, ◌-◌, None, Some, take}
-use Rattle.std.specs.Io.KnownBytes.{Appends}
-use Rattle.fuse_tree.specs.Rows.{row_at}
+use Rattle.fuse_rows.specs.Rows.{row_at}
 use Rattle.fuse_show.specs.Looks.{ReadOff}
 use Rattle.fuse_show.specs.Content.{content_at}
+use Rattle.fuse_show.proofs.Sinking.{Took}
 use Rattle.fuse_show.proofs.content.copy.Given as goal
 
 abbrev pub decreases-loop-offset : goal.decreases-loop-offset
@@ -13,6 +13,6 @@ invariant-loop-offset g l = record {
   fault : g.L.Look.fault l.look ≡ None;
   looks : g.L.Look.looks l.fn.look l.look;
   within : l.offset ≤ l.row.size;
-  bytes : ReadOff (g.L.Look.is_clean l.look) (g.L.Look.sees l.fn.look) (λ rows. row_at rows l.row.node ≡ Some l.row
-      → Appends (g.W.Write.contents l.fn.writer) (g.W.Write.contents l.writer) (take l.offset (content_at rows l.row.node)));
+  bytes : Took g.W.Sink.was_written l.fn.writer l.writer (λ bytes. ReadOff (g.L.Look.is_clean l.look) (g.L.Look.sees l.fn.look) (λ rows.
+      row_at rows l.row.node ≡ Some l.row → bytes ≡ take l.offset (content_at rows l.row.node)));
 }

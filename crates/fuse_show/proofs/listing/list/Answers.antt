@@ -1,15 +1,18 @@
-use Rattle.std.proofs.Common.{refl, subst, Option, ℕ, [], Some}
+use Rattle.std.proofs.Common.{◌≡◌, ◌++◌, refl, subst, Option, ℕ, List, Some, ◌∙◌, ap}
 use Rattle.fuse_show.specs.Listing.{listing}
-use Rattle.fuse_show.specs.inner.Pages.{lines_left, WritesPrefix}
-use Rattle.fuse_show.proofs.Lines.{none_written}
-use Rattle.fuse_show.proofs.Pages.{all_left, prefix_more, prefix_all, page_fails}
+use Rattle.fuse_show.specs.inner.Pages.{lines_left}
+use Rattle.fuse_show.proofs.AnyLines.{lines_none, lines_then, lines_part}
+use Rattle.fuse_show.proofs.Looking.{up_to_here, up_to_after, read_off}
+use Rattle.fuse_show.proofs.Pages.{all_left, pages_more, pages_part, pages_all}
+use Rattle.fuse_show.proofs.Sinking.{takes_none, took_more, took_stop, took_all}
 use Rattle.fuse_show.proofs.listing.list.Goals as goal
 
 pub loop-left-init : goal.loop-left-init
 loop-left-init g c = record {
   fault = c.requires;
   looks = g.met.L.Look.still _;
-  lines = λ clean rows is sees. record { prefix = []; written = none_written _; parts = all_left c.rows_of_trees.ensures rows c.args.dir is };
+  lines = record { bytes = _; takes = takes_none g.W.Sink.was_written _; so = λ clean rows is sees. all_left c.rows_of_trees.ensures rows c.args.dir is };
+  any = record { bytes = _; takes = takes_none g.W.Sink.was_written _; so = lines_none };
 }
 
 pub loop-left-preserved : goal.loop-left-preserved
@@ -20,16 +23,15 @@ loop-left-preserved g c =
     record {
       fault = one.looked.fault;
       looks = g.met.L.Look.and_then _ _ _ before.looks looks;
-      lines = λ clean rows is sees.
+      lines = took_more g.W.Sink.was_written _ _ _ c.in-Ok.rest _ _ _ before.lines one.page (λ xs ys so is. λ clean rows rowed sees.
+          let now = read_off (g.L.Look.is_clean) (g.L.Look.looks) (g.L.Look.sees) g.met.L.Look.and_then g.met.L.Look.was_clean g.met.L.Look.kept _ _ _ is in
           let clean_before = g.met.L.Look.was_clean _ _ looks clean in
           let sees_before = g.met.L.Look.kept _ _ before.looks clean_before rows sees in
-          prefix_more (g.W.Write.contents c.args.writer.now) (g.W.Write.contents c.loop-left.writer) (g.W.Write.contents c.list_page.new.writer)
-          (listing rows c.args.dir) (lines_left rows c.args.dir (Some c.in-Some.after)) (lines_left rows c.args.dir c.in-Ok.rest)
-          (subst
-          (λ (o : Option ℕ).
-          WritesPrefix (g.W.Write.contents c.args.writer.now) (g.W.Write.contents c.loop-left.writer) (listing rows c.args.dir) (lines_left rows c.args.dir o))
-          c.in-Some.is (before.lines clean_before rows is sees))
-          (one.page clean rows is sees_before);
+          let was : listing rows c.args.dir ≡ xs ++ lines_left rows c.args.dir (Some c.in-Some.after) =
+          so clean_before rows rowed sees ∙ ap (λ (o : Option ℕ). xs ++ lines_left rows c.args.dir o) c.in-Some.is in
+          pages_more (listing rows c.args.dir) xs (lines_left rows c.args.dir (Some c.in-Some.after)) ys (lines_left rows c.args.dir c.in-Ok.rest) was
+          (now clean rows rowed sees_before));
+      any = took_more g.W.Sink.was_written _ _ _ c.in-Ok.rest _ _ _ before.any one.written (λ xs ys p q. lines_then xs ys p q);
     }
 
 pub returns-in-Err : goal.returns-in-Err
@@ -37,12 +39,13 @@ returns-in-Err g c =
     let before = c.loop-left.invariant in
     let one = c.in-Err.ensures in
     record {
-      listed = λ clean rows is sees.
-          page_fails rows c.args.dir c.in-Some.after (g.W.Write.contents c.args.writer.now) (g.W.Write.contents c.loop-left.writer)
-          (g.W.Write.contents c.list_page.new.writer) (listing rows c.args.dir) c.in-Err.fault
-          (λ none.
-          let clean_before = g.met.L.Look.was_clean _ _ (one.looked.looks none) clean in
-          one.page clean rows is (g.met.L.Look.kept _ _ before.looks clean_before rows sees));
+      listed = took_stop g.W.Sink.was_written _ _ _ c.in-Err.fault _ _ _ before.lines one.page (λ xs ys so is.
+          up_to_after (g.L.Look.is_clean) (g.L.Look.looks) (g.L.Look.sees) g.met.L.Look.and_then g.met.L.Look.was_clean g.met.L.Look.kept _ _ _ _ _ _ _
+          before.looks so is (λ rows rowed p q.
+          let was : listing rows c.args.dir ≡ xs ++ lines_left rows c.args.dir (Some c.in-Some.after) =
+          p ∙ ap (λ (o : Option ℕ). xs ++ lines_left rows c.args.dir o) c.in-Some.is in
+          (pages_part (listing rows c.args.dir) xs (lines_left rows c.args.dir (Some c.in-Some.after)) ys was q.0, q.1)));
+      written = took_stop g.W.Sink.was_written _ _ _ c.in-Err.fault _ _ _ before.any one.written (λ xs ys p q. lines_part xs ys p q);
       looked = record {
         fault = one.looked.fault;
         looks = λ none. g.met.L.Look.and_then _ _ _ before.looks (one.looked.looks none);
@@ -55,12 +58,11 @@ pub returns : goal.returns
 returns g c =
     let before = c.loop-left.invariant in
     record {
-      listed = λ clean rows is sees.
-          prefix_all (g.W.Write.contents c.args.writer.now) (g.W.Write.contents c.loop-left.writer) (listing rows c.args.dir)
-          (subst
-          (λ (o : Option ℕ).
-          WritesPrefix (g.W.Write.contents c.args.writer.now) (g.W.Write.contents c.loop-left.writer) (listing rows c.args.dir) (lines_left rows c.args.dir o))
-          c.in_default.is (before.lines clean rows is sees));
+      listed = took_all g.W.Sink.was_written _ _ _ _ _ before.lines (λ xs so.
+          up_to_here (g.L.Look.is_clean) (g.L.Look.looks) (g.L.Look.sees) _ _ _ _ before.looks (λ clean rows is sees.
+          pages_all (listing rows c.args.dir) xs
+          (so clean rows is sees ∙ ap (λ (o : Option ℕ). xs ++ lines_left rows c.args.dir o) c.in_default.is)));
+      written = took_all g.W.Sink.was_written _ _ _ _ _ before.any (λ xs p. p);
       looked = record { fault = before.fault; looks = λ _. before.looks; fails = tt };
       reasons = tt;
     }

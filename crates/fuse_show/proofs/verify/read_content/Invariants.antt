@@ -8,6 +8,6 @@ abbrev pub invariant-loop-offset : goal.invariant-loop-offset
 invariant-loop-offset g l = record {
   fault : g.L.Look.fault l.look ≡ None;
   looks : g.L.Look.looks l.fn.look l.look;
-  silent : g.W.Write.contents l.writer ≡ g.W.Write.contents l.fn.writer;
+  silent : l.writer ≡ l.fn.writer;
   within : l.offset ≤ l.row.size;
 }

@@ -5,5 +5,5 @@ abbrev pub invariant-loop-entry : goal.invariant-loop-entry
 invariant-loop-entry g l = record {
   fault : g.L.Look.fault l.look ≡ None;
   looks : g.L.Look.looks l.fn.look l.look;
-  silent : g.W.Write.contents l.writer ≡ g.W.Write.contents l.fn.writer;
+  silent : l.writer ≡ l.fn.writer;
 }

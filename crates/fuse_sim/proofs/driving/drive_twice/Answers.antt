@@ -45,6 +45,7 @@ returns-in_err-first-clause-stopped g c =
     c.args.keeper.now c.drive.new.keeper c.args.events.now c.args.more.now c.in_err-first.field-0.0 (record {
       named = e.fault_causes;
       stands = e.after_fault;
+      records = e.records_at_fault;
       opened = e.opened_before;
       stood = e.stood_at_fault;
       asked = e.asked_before;
@@ -64,6 +65,7 @@ returns-in_err-second-clause-stopped g c =
     c.in_err-second.field-0.0 (λ x. (g.met.K.Keeper.sound x).clean_is_honest) c.drive-2.ensures.honest (record {
       fit = first.fault_causes;
       stands = first.tree_stands;
+      records = first.records;
       opened = first.opened;
       stood = first.stood_before;
       asked = first.asked;
@@ -71,6 +73,7 @@ returns-in_err-second-clause-stopped g c =
     }) (record {
       named = e.fault_causes;
       stands = e.after_fault;
+      records = e.records_at_fault;
       opened = e.opened_before;
       stood = e.stood_at_fault;
       asked = e.asked_before;

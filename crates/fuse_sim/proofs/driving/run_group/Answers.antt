@@ -3,7 +3,7 @@ use Rattle.std.proofs.lemmas.Result.{err_from_is_err_and}
 use Rattle.fuse_keeper.specs.Group.{ids_of}
 use Rattle.fuse_sim.specs.Driving.{told_in, commits_in}
 use Rattle.fuse_sim.specs.Twice.{seen_of}
-use Rattle.fuse_sim.specs.inner.Running.{Gathers}
+use Rattle.fuse_sim.specs.inner.Running.{GathersEvents}
 use Rattle.fuse_sim.proofs.Moves.{worked_over, group_moved, ids_left, few_taken, few_left}
 use Rattle.fuse_sim.proofs.Openings.{group_opens}
 use Rattle.fuse_sim.proofs.Stopping.{stops_here, stops_store, stops_restart, dies_at, begins_fit, within_rest, run_slice, group_read, group_stops}
@@ -27,7 +27,7 @@ work_group-requires-clause-gathers g c =
     let group = c.in-Ok.group in
     let events = c.args.events.now in
     let count = c.len-count.result in
-    subst (λ x. Gathers g.K.Keeper.model x group) (sym (run_slice events c.args.at count))
+    subst (λ x. GathersEvents g.K.Keeper.model x group) (sym (run_slice events c.args.at count))
     (group_read g.K.Keeper.model events c.args.at count group (omega (arith, c.len-count.ensures, group.classes.ok))
     c.in-Ok.ensures.gathers)
 

@@ -4,7 +4,7 @@ use Rattle.std.specs.Vec.{with_items}
 use Rattle.std.proofs.lemmas.List.{with_items_is}
 use Rattle.fuse_request.specs.Places.{asked_at}
 use Rattle.fuse_sim.specs.KeptMessages.{IsOwed}
-use Rattle.fuse_sim.specs.inner.Marking.{marked}
+use Rattle.fuse_sim.specs.inner.Marking.{marked_as_resend}
 use Rattle.fuse_sim.proofs.Marks.{marked_owed}
 use Rattle.fuse_sim.proofs.kernel.mark.Goals as goal
 
@@ -15,9 +15,9 @@ set_bit-requires c =
     omega arith
 
 -- the bytes of the message, once they were written back
-written : (m : Vec ℕ Global) (old new : List ℕ) → old ≡ m.items → length old ≡ m.len → length new ≡ length old → new ≡ marked old
-    → (with_items m new).items ≡ marked m.items
-written m old new before long same is = with_items_is m new (same ∙ long) ∙ is ∙ ap marked before
+written : (m : Vec ℕ Global) (old new : List ℕ) → old ≡ m.items → length old ≡ m.len → length new ≡ length old → new ≡ marked_as_resend old
+    → (with_items m new).items ≡ marked_as_resend m.items
+written m old new before long same is = with_items_is m new (same ∙ long) ∙ is ∙ ap marked_as_resend before
 
 pub returns-clause-owed : goal.returns-clause-owed
 returns-clause-owed c =

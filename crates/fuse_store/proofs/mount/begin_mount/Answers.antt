@@ -22,3 +22,9 @@ returns-clause-open g c = c.begin_mount.ensures.open
 
 pub returns-clause-undone : goal.returns-clause-undone
 returns-clause-undone g c = c.begin_mount.ensures.undone
+
+pub returns-clause-rows : goal.returns-clause-rows
+returns-clause-rows g c = c.begin_mount.ensures.serves
+
+pub returns-clause-once : goal.returns-clause-once
+returns-clause-once g c = c.begin_mount.ensures.once

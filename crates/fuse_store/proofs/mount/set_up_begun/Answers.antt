@@ -7,10 +7,10 @@ use Rattle.fuse_store_tables.specs.Opening.{IsStored}
 use Rattle.fuse_store.specs.Opening.{StoredFor, WasFor}
 use Rattle.fuse_store.specs.Starting.{BegunFor}
 use Rattle.fuse_store.proofs.Retelling.{served_undone, safe_undone, done_so, kept_so, crash_so, sure_so}
-use Rattle.fuse_store.proofs.MadeNew.{no_transaction}
+use Rattle.fuse_store.proofs.MadeNew.{no_transaction, in_one}
 use Rattle.fuse_store.proofs.Begun.{begun_read}
 use Rattle.fuse_store.specs.inner.Leaving.{rests_was}
-use Rattle.fuse_store.proofs.Reopening.{profile_so, has_meta, no_none, meta_whole, left_here}
+use Rattle.fuse_store.proofs.Reopening.{profile_so, has_meta, no_none, meta_whole, left_here, back_here, once_here}
 use Rattle.fuse_store.proofs.mount.set_up_begun.Goals as goal
 
 -- ---- without `meta`
@@ -96,3 +96,24 @@ returns-clause-profile g c =
     let a = state g.S.Store c.args.conn.now in
     profile_so a (state g.S.Store c.set_up_fresh.new.conn) c.set_up_fresh.result
     (λ z was. rests_was z a c.schema.ensures.live (c.if-not-is_autocommit.ensures.settled refl) was) c.set_up_fresh.ensures.profile
+
+-- ---- whatever the database is
+
+pub returns-then-not-is_autocommit-clause-undone : goal.returns-then-not-is_autocommit-clause-undone
+returns-then-not-is_autocommit-clause-undone g c = λ outside.
+    in_one (state g.S.Store c.args.conn.now).in_transaction c.if-not-is_autocommit.ensures.value outside
+
+pub returns-then-not-is_autocommit-clause-once : goal.returns-then-not-is_autocommit-clause-once
+returns-then-not-is_autocommit-clause-once g c = once_here (state g.S.Store c.args.conn.now) _
+
+pub returns-then-is_none-clause-undone : goal.returns-then-is_none-clause-undone
+returns-then-is_none-clause-undone g c = λ outside. back_here (state g.S.Store c.args.conn.now) (c.if-not-is_autocommit.ensures.settled refl)
+
+pub returns-then-is_none-clause-once : goal.returns-then-is_none-clause-once
+returns-then-is_none-clause-once g c = once_here (state g.S.Store c.args.conn.now) _
+
+pub returns-clause-undone : goal.returns-clause-undone
+returns-clause-undone g c = λ outside. c.set_up_fresh.ensures.undone
+
+pub returns-clause-once : goal.returns-clause-once
+returns-clause-once g c = c.set_up_fresh.ensures.once

@@ -92,7 +92,7 @@ pub returns-clause-kept : goal.returns-clause-kept
 returns-clause-kept g c = IfErr-weaker c.open_begun.result _ _ (λ r refused. refused.kept) c.open_begun.ensures.refused
 
 pub returns-clause-fault : goal.returns-clause-fault
-returns-clause-fault g c = IfErr-weaker c.open_begun.result _ _ (λ r refused. refused.outside) c.open_begun.ensures.refused
+returns-clause-fault g c = IfErr-weaker c.open_begun.result _ _ (λ r refused clean z was. refused.outside clean z was tt) c.open_begun.ensures.refused
 
 pub returns-clause-says : goal.returns-clause-says
 returns-clause-says g c = IfErr-weaker c.open_begun.result _ _ (λ r refused clean stored. refused.says clean) c.open_begun.ensures.refused
@@ -146,3 +146,12 @@ returns-clause-profile g c = c.open_begun.ensures.profile
 pub returns-clause-new_profile : goal.returns-clause-new_profile
 returns-clause-new_profile g c =
     IfOk-weaker c.open_begun.result _ _ (λ k going blank. let e = c.is_blank-blank.ensures.blank.1 blank in let n = c.if-blank.false in cc) c.open_begun.ensures.going
+
+-- ---- whatever the database is
+
+pub returns-then-blank-clause-undone : goal.returns-then-blank-clause-undone
+returns-then-blank-clause-undone g c =
+    IfErr-weaker c.create.result _ _ (λ r outside stored. absurd (stored (c.is_blank-blank.ensures.blank.0 c.if-blank.true))) c.create.ensures.outside
+
+pub returns-clause-undone : goal.returns-clause-undone
+returns-clause-undone g c = IfErr-weaker c.open_begun.result _ _ (λ r refused stored. refused.undone) c.open_begun.ensures.refused

@@ -85,7 +85,7 @@ pub returns-else-is_blank-clause-kept : goal.returns-else-is_blank-clause-kept
 returns-else-is_blank-clause-kept g c = IfErr-weaker c.open.result _ _ (λ r refused. refused.kept) c.open.ensures.refused
 
 pub returns-else-is_blank-clause-fault : goal.returns-else-is_blank-clause-fault
-returns-else-is_blank-clause-fault g c = IfErr-weaker c.open.result _ _ (λ r refused. refused.outside) c.open.ensures.refused
+returns-else-is_blank-clause-fault g c = IfErr-weaker c.open.result _ _ (λ r refused clean z was. refused.outside clean z was tt) c.open.ensures.refused
 
 pub returns-else-is_blank-clause-says : goal.returns-else-is_blank-clause-says
 returns-else-is_blank-clause-says g c = IfErr-weaker c.open.result _ _ (λ r refused clean stored. refused.says clean) c.open.ensures.refused
@@ -147,3 +147,12 @@ returns-else-is_blank-clause-profile g c = c.open.ensures.profile
 pub returns-else-is_blank-clause-new_profile : goal.returns-else-is_blank-clause-new_profile
 returns-else-is_blank-clause-new_profile g c =
     IfOk-weaker c.open.result _ _ (λ k going blank. let e = c.is_blank.ensures.blank.1 blank in let n = c.if-is_blank.false in cc) c.open.ensures.going
+
+-- ---- whatever the database is
+
+pub returns-then-is_blank-clause-undone : goal.returns-then-is_blank-clause-undone
+returns-then-is_blank-clause-undone g c =
+    IfErr-weaker c.create.result _ _ (λ r outside stored. absurd (stored (c.is_blank.ensures.blank.0 c.if-is_blank.true))) c.create.ensures.outside
+
+pub returns-else-is_blank-clause-undone : goal.returns-else-is_blank-clause-undone
+returns-else-is_blank-clause-undone g c = IfErr-weaker c.open.result _ _ (λ r refused stored. refused.undone) c.open.ensures.refused

@@ -1,5 +1,5 @@
 use Rattle.std.proofs.Common.{subst, IfOk, IfErr}
-use Rattle.fuse_store_files.specs.inner.Connections.{Ends, IsClosedAs, IsCopiedTo, IsUncopied}
+use Rattle.fuse_store_files.specs.inner.Connections.{EndsAsStore, IsClosedAs, IsCopiedTo, IsUncopied}
 use Rattle.fuse_store_files.proofs.Closed.{closes}
 use Rattle.fuse_store_files.proofs.closing.close_store.Goals as goal
 
@@ -7,7 +7,7 @@ pub returns-clause-closes : goal.returns-clause-closes
 returns-clause-closes g c =
     let left = c.close_connection.result in
     let same = c.into_connection.ensures.same in
-    closes g.P.Profiled.PROFILE c.args.keeper (subst Ends same c.close_connection.ensures.ended) left (subst (λ conn. IfOk left (IsClosedAs conn)) same c.close_connection.ensures.closed)
+    closes g.P.Profiled.PROFILE c.args.keeper (subst EndsAsStore same c.close_connection.ensures.ended) left (subst (λ conn. IfOk left (IsClosedAs conn)) same c.close_connection.ensures.closed)
     (subst (λ conn. IfErr left (IsUncopied conn)) same c.close_connection.ensures.unclosed)
     (subst (λ conn. IfOk left (IsCopiedTo conn)) same c.close_connection.ensures.copied)
 

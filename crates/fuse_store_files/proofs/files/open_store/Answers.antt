@@ -5,10 +5,10 @@ use Rattle.sqlite.specs.State.{HasCleanDisk}
 use Rattle.sqlite.specs.Files.{file_state, over_files}
 use Rattle.fuse_store_tables.specs.Faults.{IsOutside}
 use Rattle.fuse_store.specs.Storing.{opening_fault}
-use Rattle.fuse_store.specs.StoreKeeper.{own_profile, store_told}
+use Rattle.fuse_store.specs.StoreKeeper.{own_profile, own_conn, store_told}
 use Rattle.fuse_store_files.proofs.Fresh.{some_weaker}
 use Rattle.fuse_store_files.proofs.Found.{keeps, opens_as, was_for, rests, left_open, left_alone, stays_found, not_opened, not_wanting}
-use Rattle.fuse_store_files.proofs.Found.{opens_own, fails_unopened, fails_open}
+use Rattle.fuse_store_files.proofs.Found.{opens_own, keeps_found, fails_unopened, fails_open}
 use Rattle.fuse_store_files.specs.Databases.{FailsOver, IsNeverOpened}
 use Rattle.fuse_store_files.proofs.files.open_store.Goals as goal
 
@@ -103,4 +103,10 @@ returns-in-Err-open_as-clause-fails g c =
     fails_open (image_at g.S.Start) c.args.how c.in-Ok.conn (λ f. inl refl) c.in-Ok.ensures.opened c.in-Ok.ensures.found
     (file_state c.in-Err-open_as.conn) c.into_store.result c.in-Err-open_as.fault c.in-Err-open_as.ensures.crash c.into_store.ensures.quiet.clean
     c.into_store.ensures.quiet.outcomes c.into_store.ensures.sound c.in-Err-open_as.ensures.says c.in-Err-open_as.ensures.alone
-    c.in-Err-open_as.ensures.blank
+    c.in-Err-open_as.ensures.undone c.in-Err-open_as.ensures.blank
+
+pub returns-in-Ok-open_as-clause-found : goal.returns-in-Ok-open_as-clause-found
+returns-in-Ok-open_as-clause-found g c = λ honest.
+    let clean = c.in-Ok-open_as.ensures.honest honest in
+    keeps_found (image_at g.S.Start) c.args.how c.in-Ok.conn (λ f. inl refl) (c.in-Ok.ensures.opened clean) (c.in-Ok.ensures.found clean)
+    (file_state (own_conn c.in-Ok-open_as.keeper)) (c.in-Ok-open_as.ensures.medium.honest.0 honest) (c.in-Ok-open_as.ensures.stays honest)

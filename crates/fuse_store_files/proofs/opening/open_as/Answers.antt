@@ -14,7 +14,7 @@ pub returns-in-Existing-clause-crash : goal.returns-in-Existing-clause-crash
 returns-in-Existing-clause-crash g c = rw c.in-Existing.is (IfErr-weaker c.open.result _ _ (λ r refused. refused.crash) c.open.ensures.refused)
 
 pub returns-in-Existing-clause-fault : goal.returns-in-Existing-clause-fault
-returns-in-Existing-clause-fault g c = IfErr-weaker c.open.result _ _ (λ r refused. refused.outside) c.open.ensures.refused
+returns-in-Existing-clause-fault g c = IfErr-weaker c.open.result _ _ (λ r refused clean z was. refused.outside clean z was tt) c.open.ensures.refused
 
 pub returns-in-Any-clause-opens : goal.returns-in-Any-clause-opens
 returns-in-Any-clause-opens g c =
@@ -118,3 +118,26 @@ returns-in-Fresh-clause-absent g c = rw c.in-Fresh.is (λ outside ours none. c.o
 
 pub returns-in-Fresh-clause-blank : goal.returns-in-Fresh-clause-blank
 returns-in-Fresh-clause-blank g c = IfErr-weaker c.open_fresh.result _ _ (λ r outside made blank. outside blank) c.open_fresh.ensures.fault_blank
+
+pub returns-in-Existing-clause-undone : goal.returns-in-Existing-clause-undone
+returns-in-Existing-clause-undone g c = IfErr-weaker c.open.result _ _ (λ r refused ours. refused.undone) c.open.ensures.refused
+
+pub returns-in-Any-clause-undone : goal.returns-in-Any-clause-undone
+returns-in-Any-clause-undone g c =
+    rw c.in-Any.is (IfErr-weaker c.open_or_create.result _ _ (λ r undone ours. undone (λ blank. ours blank.1)) c.open_or_create.ensures.undone)
+
+pub returns-in-Fresh-clause-undone : goal.returns-in-Fresh-clause-undone
+returns-in-Fresh-clause-undone g c =
+    rw c.in-Fresh.is (IfErr-weaker c.open_fresh.result _ _ (λ r undone ours. undone (λ blank. ours blank.1)) c.open_fresh.ensures.undone)
+
+pub returns-in-Existing-clause-stays : goal.returns-in-Existing-clause-stays
+returns-in-Existing-clause-stays g c =
+    rw c.in-Existing.is (IfOk-weaker c.open.result _ _ (λ k rows honest ours same. rows.alone same) c.open.ensures.rows)
+
+pub returns-in-Any-clause-stays : goal.returns-in-Any-clause-stays
+returns-in-Any-clause-stays g c =
+    rw c.in-Any.is (IfOk-weaker c.open_or_create.result _ _ (λ k rows honest ours same. (rows (λ blank. ours blank.1)).alone same) c.open_or_create.ensures.rows)
+
+pub returns-in-Fresh-clause-stays : goal.returns-in-Fresh-clause-stays
+returns-in-Fresh-clause-stays g c =
+    rw c.in-Fresh.is (IfOk-weaker c.open_fresh.result _ _ (λ k tabled honest ours other. absurd (other (tabled honest (λ blank. ours blank.1)))) c.open_fresh.ensures.tabled)

@@ -2,7 +2,7 @@ use Rattle.std.specs.Prelude.{None, ⊤}
 use Rattle.sqlite.specs.Held.{state}
 use Rattle.fuse_store_tables.specs.Layout.{no_schema}
 use Rattle.fuse_store_tables.specs.Content.{Holds, with_node}
-use Rattle.fuse_store_tables.specs.Making.{IsBare, IsNew, root, counters_alone, new_store}
+use Rattle.fuse_store_tables.specs.Making.{IsBare, IsNew, root, counters_alone, new_content}
 use Rattle.fuse_store_tables.specs.inner.Steps.{HasCounters}
 use Rattle.fuse_store_tables.proofs.Joining.{then_as, taken_from}
 use Rattle.fuse_store_tables.proofs.Either.{narrowed_if}
@@ -22,9 +22,9 @@ returns-clause-made g c =
     let last =
     taken_from Holds (λ k. Holds (with_node node k)) (λ (_ : ⊤). counters_alone) b d c.write_node.result c.write_node.ensures.made in
     let all =
-    then_as (IsBare no_schema) HasCounters (λ _. Holds (new_store None c.args.from)) a b d _ c.write_node.result c.in_ok-make_tables.ensures.made
+    then_as (IsBare no_schema) HasCounters (λ _. Holds (new_content None c.args.from)) a b d _ c.write_node.result c.in_ok-make_tables.ensures.made
     last in
-    narrowed_if (IsBare no_schema) (λ _. Holds (new_store None c.args.from)) (IsNew None c.args.from) a d c.write_node.result all
+    narrowed_if (IsBare no_schema) (λ _. Holds (new_content None c.args.from)) (IsNew None c.args.from) a d c.write_node.result all
     (λ clean k at on. record {
       is_open = on.is_open;
       in_transaction = on.in_transaction;

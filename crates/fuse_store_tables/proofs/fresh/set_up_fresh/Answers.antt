@@ -1,5 +1,5 @@
 use Rattle.sqlite.specs.Held.{state}
-use Rattle.fuse_store_tables.proofs.Alone.{left_alone, undone_alone, undone_kept}
+use Rattle.fuse_store_tables.proofs.Alone.{left_alone, undone_alone, undone_kept, once_undone}
 use Rattle.fuse_store_tables.proofs.fresh.set_up_fresh.Goals as goal
 
 pub returns-in-Ok-clause-alone : goal.returns-in-Ok-clause-alone
@@ -26,3 +26,8 @@ pub returns-in-Err-clause-undone : goal.returns-in-Err-clause-undone
 returns-in-Err-clause-undone g c = λ clean is_open.
     undone_kept (state g.S.Store c.args.conn.now) (state g.S.Store c.transact.new.conn) (state g.S.Store c.undo.new.conn) c.in-Err.ensures.keeps c.undo.ensures
     clean is_open
+
+pub returns-in-Err-clause-once : goal.returns-in-Err-clause-once
+returns-in-Err-clause-once g c =
+    once_undone (state g.S.Store c.args.conn.now) (state g.S.Store c.transact.new.conn) (state g.S.Store c.undo.new.conn) c.in-Err.fault c.in-Err.fault
+    c.in-Err.ensures.once c.undo.ensures

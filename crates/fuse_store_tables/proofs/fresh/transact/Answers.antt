@@ -5,16 +5,16 @@ use Rattle.fuse_store_tables.specs.inner.Following.{earlier}
 use Rattle.fuse_store_tables.specs.Opening.{IsStored, IsLaid}
 use Rattle.fuse_store_tables.specs.Clearing.{IsBegun}
 use Rattle.fuse_store_tables.specs.Saying.{IsTabled, Says}
-use Rattle.fuse_store_tables.specs.Moves.{RestsAs}
-use Rattle.fuse_store_tables.specs.inner.Performing.{PerformsAs}
-use Rattle.fuse_store_tables.proofs.Alone.{commits_then, begins_nothing, failed_same, committed_same, on_refusal, outside_err}
+use Rattle.fuse_store_tables.specs.Moves.{RestsAs, CommitsOnce}
+use Rattle.fuse_store_tables.specs.inner.Performing.{TransactsAs}
+use Rattle.fuse_store_tables.proofs.Alone.{commits_then, begins_nothing, failed_same, committed_same, on_refusal, outside_err, once_none, once_failed, once_committed}
 use Rattle.fuse_store_tables.proofs.Joining.{failed_first, failed_inside, failed_commit, committed, on_err}
 use Rattle.fuse_store_tables.proofs.Within.{nothing_within, keeps_within, keeps_commit}
 use Rattle.fuse_store_tables.proofs.fresh.transact.Goals as goal
 
 pub returns-in_err-begin-clause-performs : goal.returns-in_err-begin-clause-performs
 returns-in_err-begin-clause-performs g c =
-    on_err (PerformsAs IsStored IsBegun (state g.S.Store c.args.conn.now) (state g.S.Store c.begin.new.conn)) c.from_residual.result c.from_residual.ensures.0
+    on_err (TransactsAs IsStored IsBegun (state g.S.Store c.args.conn.now) (state g.S.Store c.begin.new.conn)) c.from_residual.result c.from_residual.ensures.0
     (λ e. failed_first IsStored IsBegun _ _ _ e c.in_err-begin.ensures)
 
 pub returns-in-Err-clause-performs : goal.returns-in-Err-clause-performs
@@ -23,7 +23,7 @@ returns-in-Err-clause-performs g c =
 
 pub returns-in_err-commit-in-Ok-clause-performs : goal.returns-in_err-commit-in-Ok-clause-performs
 returns-in_err-commit-in-Ok-clause-performs g c =
-    on_err (PerformsAs IsStored IsBegun (state g.S.Store c.args.conn.now) (state g.S.Store c.commit.new.conn)) c.from_residual-in_err-commit-in-Ok.result
+    on_err (TransactsAs IsStored IsBegun (state g.S.Store c.args.conn.now) (state g.S.Store c.commit.new.conn)) c.from_residual-in_err-commit-in-Ok.result
     c.from_residual-in_err-commit-in-Ok.ensures.0
     (λ e. failed_commit IsStored IsBegun _ _ _ _ _ _ _ e c.in_ok-begin.ensures c.in-Ok.ensures.begun c.in_err-commit-in-Ok.ensures)
 
@@ -122,3 +122,42 @@ returns-in_ok-commit-in-Ok-clause-profile g c = λ clean k at.
     let late = earlier d (state g.S.Store c.commit.new.conn) _ c.in_ok-commit-in-Ok.ensures.survives clean in
     let on = c.in_ok-begin.ensures.begun (earlier b d _ c.in-Ok.ensures.begun.stays.survives late) in
     c.in-Ok.ensures.profile late k (record { is_open = on.0; in_transaction = on.1; holds = subst (IsLaid k) (sym on.2) at.holds })
+
+-- ---- what a crash leaves
+
+pub returns-in_err-begin-clause-once : goal.returns-in_err-begin-clause-once
+returns-in_err-begin-clause-once g c =
+    on_err (CommitsOnce (state g.S.Store c.args.conn.now) (state g.S.Store c.begin.new.conn)) c.from_residual.result c.from_residual.ensures.0
+    (λ e. once_none _ _ e (begins_nothing _ _ _ c.in_err-begin.ensures))
+
+pub returns-in-Err-clause-once : goal.returns-in-Err-clause-once
+returns-in-Err-clause-once g c =
+    once_none (state g.S.Store c.args.conn.now) (state g.S.Store c.renew.new.conn) c.in-Err.fault
+    (commits_then _ _ _ (begins_nothing _ _ _ c.in_ok-begin.ensures) (nothing_within _ _ _ (λ clean. (c.in_ok-begin.ensures.begun clean).1) c.in-Err.ensures.within))
+
+pub returns-in_err-commit-in-Ok-clause-once : goal.returns-in_err-commit-in-Ok-clause-once
+returns-in_err-commit-in-Ok-clause-once g c =
+    on_err (CommitsOnce (state g.S.Store c.args.conn.now) (state g.S.Store c.commit.new.conn)) c.from_residual-in_err-commit-in-Ok.result
+    c.from_residual-in_err-commit-in-Ok.ensures.0
+    (λ e. once_failed (state g.S.Store c.args.conn.now) (state g.S.Store c.renew.new.conn) (state g.S.Store c.commit.new.conn) _ e
+    (commits_then _ _ _ (begins_nothing _ _ _ c.in_ok-begin.ensures) (nothing_within _ _ _ (λ clean. (c.in_ok-begin.ensures.begun clean).1) c.in-Ok.ensures.within))
+    c.in_err-commit-in-Ok.ensures)
+
+pub returns-in_ok-commit-in-Ok-clause-once : goal.returns-in_ok-commit-in-Ok-clause-once
+returns-in_ok-commit-in-Ok-clause-once g c =
+    once_committed (state g.S.Store c.args.conn.now) (state g.S.Store c.renew.new.conn) (state g.S.Store c.commit.new.conn) _ _
+    (commits_then _ _ _ (begins_nothing _ _ _ c.in_ok-begin.ensures) (nothing_within _ _ _ (λ clean. (c.in_ok-begin.ensures.begun clean).1) c.in-Ok.ensures.within))
+    c.in_ok-commit-in-Ok.ensures
+
+pub returns-in_ok-commit-in-Ok-clause-left : goal.returns-in_ok-commit-in-Ok-clause-left
+returns-in_ok-commit-in-Ok-clause-left g c = λ clean k at.
+    let b = state g.S.Store c.begin.new.conn in
+    let d = state g.S.Store c.renew.new.conn in
+    let late = earlier d (state g.S.Store c.commit.new.conn) _ c.in_ok-commit-in-Ok.ensures.survives clean in
+    let inside = (c.in_ok-begin.ensures.begun (earlier b d _ c.in-Ok.ensures.begun.stays.survives late)).1 in
+    let on = c.in_ok-commit-in-Ok.ensures.ended clean in
+    c.in-Ok.ensures.left late inside k (record {
+      is_open = c.in_ok-commit-in-Ok.ensures.was clean;
+      in_transaction = c.in-Ok.ensures.within.within late inside;
+      holds = subst (IsLaid k) on.2 at.holds;
+    })

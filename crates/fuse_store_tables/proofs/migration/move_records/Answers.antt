@@ -1,5 +1,5 @@
 use Rattle.fuse_store_tables.specs.Content.{Holds}
-use Rattle.fuse_store_tables.specs.inner.Steps.{with_copies, moved, without_answers}
+use Rattle.fuse_store_tables.specs.inner.Steps.{with_copies, moved_answers, without_answers}
 use Rattle.fuse_store_tables.specs.Content.{with_lot}
 use Rattle.fuse_store_tables.proofs.Joining.{makes_then, fails_next, made_from}
 use Rattle.fuse_store_tables.proofs.Within.{within_then, within_fails, within_failed}
@@ -7,7 +7,7 @@ use Rattle.fuse_store_tables.proofs.migration.move_records.Goals as goal
 
 pub returns-in_err-copy_answers-clause-made : goal.returns-in_err-copy_answers-clause-made
 returns-in_err-copy_answers-clause-made g c =
-    fails_next Holds (λ k. Holds (with_lot 0 k)) (λ k. Holds (with_copies (with_lot 0 k))) (λ k. Holds (moved k)) _ _ _ _ _ _ c.in_ok-write_lot.ensures.made
+    fails_next Holds (λ k. Holds (with_lot 0 k)) (λ k. Holds (with_copies (with_lot 0 k))) (λ k. Holds (moved_answers k)) _ _ _ _ _ _ c.in_ok-write_lot.ensures.made
     (made_from (with_lot 0) with_copies _ _ _ c.in_err-copy_answers.ensures.made) c.from_residual-in_err-copy_answers.ensures.0
 
 pub returns-clause-made : goal.returns-clause-made

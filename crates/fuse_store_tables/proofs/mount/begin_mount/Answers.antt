@@ -7,7 +7,7 @@ use Rattle.fuse_store_tables.specs.Moves.{Serves}
 use Rattle.fuse_store_tables.proofs.Joining.{served, undone}
 use Rattle.fuse_store_tables.proofs.Fitting.{fit_cleared, second_serves}
 use Rattle.fuse_store_tables.specs.inner.Transaction.{open_undone}
-use Rattle.fuse_store_tables.proofs.Alone.{undone_alone, undone_kept}
+use Rattle.fuse_store_tables.proofs.Alone.{undone_alone, undone_kept, once_undone}
 use Rattle.fuse_store_tables.proofs.mount.begin_mount.Goals as goal
 
 pub returns-in-Ok-clause-fit : goal.returns-in-Ok-clause-fit
@@ -41,3 +41,8 @@ pub returns-in-Err-clause-undone : goal.returns-in-Err-clause-undone
 returns-in-Err-clause-undone g c = λ clean is_open.
     undone_kept (state g.S.Store c.args.conn.now) (state g.S.Store c.transact.new.conn) (state g.S.Store c.undo.new.conn) c.in-Err.ensures.keeps c.undo.ensures
     clean is_open
+
+pub returns-in-Err-clause-once : goal.returns-in-Err-clause-once
+returns-in-Err-clause-once g c =
+    once_undone (state g.S.Store c.args.conn.now) (state g.S.Store c.transact.new.conn) (state g.S.Store c.undo.new.conn) c.in-Err.fault c.in-Err.fault
+    c.in-Err.ensures.once c.undo.ensures

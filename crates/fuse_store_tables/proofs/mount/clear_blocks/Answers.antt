@@ -2,7 +2,7 @@ use Rattle.std.proofs.Common.{◌≡◌, map, ◌∙◌}
 use Rattle.sqlite.specs.Held.{state}
 use Rattle.fuse_store_tables.specs.Content.{Holds}
 use Rattle.fuse_store_tables.specs.Clearing.{unnamed_numbers}
-use Rattle.fuse_store_tables.specs.inner.Columns.{number_of, shown_number}
+use Rattle.fuse_store_tables.specs.inner.Columns.{number_of_row, shown_number}
 use Rattle.fuse_store_tables.specs.inner.Steps.{without_blocks_of, without_unnamed_blocks}
 use Rattle.fuse_store_tables.proofs.BlocksOf.{unnamed_blocks}
 use Rattle.fuse_store_tables.proofs.Joining.{makes_as_too, sure_after, told_of}
@@ -11,7 +11,7 @@ use Rattle.fuse_store_tables.proofs.mount.clear_blocks.Goals as goal
 
 pub returns-clause-made : goal.returns-clause-made
 returns-clause-made g c =
-    makes_as_too (without_blocks_of (map number_of c.as_slice.result.now)) without_unnamed_blocks (state g.S.Store c.args.conn.now)
+    makes_as_too (without_blocks_of (map number_of_row c.as_slice.result.now)) without_unnamed_blocks (state g.S.Store c.args.conn.now)
     (state g.S.Store c.select_unnamed.new.conn) (state g.S.Store c.delete_blocks_of.new.conn) _
     c.delete_blocks_of.result c.in_ok-nodes.ensures.made (λ k clean at. unnamed_blocks c.as_slice.result.now k (c.as_slice.ensures.value
     ∙ c.in_ok-nodes.ensures.found clean k at)) c.delete_blocks_of.ensures.made

@@ -2,7 +2,7 @@ use Rattle.std.proofs.Common.{◌≡◌, ◌+◌, refl, sym, ap, subst, ◌∙�
 use Rattle.sqlite.specs.Held.{state}
 use Rattle.sqlite.specs.Order.{column}
 use Rattle.fuse_store_tables.specs.Content.{without_blocks_from}
-use Rattle.fuse_store_tables.specs.inner.Columns.{number_in, number_of, shown_number}
+use Rattle.fuse_store_tables.specs.inner.Columns.{number_in, number_of_row, shown_number}
 use Rattle.fuse_store_tables.specs.inner.Steps.{without_blocks_of}
 use Rattle.fuse_store_tables.proofs.BlocksOf.{with_more, shown_at}
 use Rattle.fuse_store_tables.proofs.Joining.{makes_then, makes_none, makes_same}
@@ -11,9 +11,9 @@ use Rattle.fuse_store_tables.proofs.mount.delete_blocks_of.Goals as goal
 
 pub returns-in-Err-remove_blocks_from-clause-made : goal.returns-in-Err-remove_blocks_from-clause-made
 returns-in-Err-remove_blocks_from-clause-made g c =
-    let so_far = without_blocks_of (map number_of (take c.nodes.at c.args.nodes.now)) in
+    let so_far = without_blocks_of (map number_of_row (take c.nodes.at c.args.nodes.now)) in
     let last = without_blocks_from c.in-Ok.node 0 in
-    makes_none (λ k. last (so_far k)) (without_blocks_of (map number_of c.args.nodes.now)) _ _ c.in-Err-remove_blocks_from.error c.into.result
+    makes_none (λ k. last (so_far k)) (without_blocks_of (map number_of_row c.args.nodes.now)) _ _ c.in-Err-remove_blocks_from.error c.into.result
     (makes_then so_far last _ (state g.S.Store c.nodes.conn) _ c.nodes.at (Err c.in-Err-remove_blocks_from.error) c.nodes.invariant.2
     c.in-Err-remove_blocks_from.ensures.made)
 
@@ -28,7 +28,7 @@ returns-in-Err-clause-fault g c ns same =
 pub nodes-preserved : goal.nodes-preserved
 nodes-preserved g c =
     let nodes = c.args.nodes.now in
-    let so_far = without_blocks_of (map number_of (take c.nodes.at nodes)) in
+    let so_far = without_blocks_of (map number_of_row (take c.nodes.at nodes)) in
     let last = without_blocks_from c.in-Ok.node 0 in
     let a = state g.S.Store c.args.conn.now in
     let d = state g.S.Store c.remove_blocks_from.new.conn in
@@ -36,10 +36,10 @@ nodes-preserved g c =
     c.in-Ok-remove_blocks_from.ensures.made in (
       refl,
       omega (arith, c.nodes-test.true),
-      makes_same (λ k. last (so_far k)) (without_blocks_of (map number_of (take (c.nodes.at + 1) nodes))) a d _
+      makes_same (λ k. last (so_far k)) (without_blocks_of (map number_of_row (take (c.nodes.at + 1) nodes))) a d _
           (c.nodes.at + 1)
           (λ k. rw add-one (ap (λ n. without_blocks_from n 0 (so_far k)) (sym (ap number_in c.in-Ok.ensures.value))
-          ∙ ap (λ r. without_blocks_from (number_of r) 0 (so_far k)) (c.index-nodes-at.is)
+          ∙ ap (λ r. without_blocks_from (number_of_row r) 0 (so_far k)) (c.index-nodes-at.is)
           ∙ sym (with_more nodes c.nodes.at c.index-nodes-at.result k c.nodes-test.true))) both,
       within_told a d _ (Ok (c.nodes.at + 1)) (within_then a (state g.S.Store c.nodes.conn) d _ (Ok _) c.nodes.invariant.3
           c.in-Ok-remove_blocks_from.ensures.within),
@@ -47,6 +47,6 @@ nodes-preserved g c =
 
 pub returns-clause-made : goal.returns-clause-made
 returns-clause-made g c =
-    makes_same (without_blocks_of (map number_of (take c.nodes.at c.args.nodes.now))) (without_blocks_of (map number_of c.args.nodes.now))
+    makes_same (without_blocks_of (map number_of_row (take c.nodes.at c.args.nodes.now))) (without_blocks_of (map number_of_row c.args.nodes.now))
     (state g.S.Store c.args.conn.now) (state g.S.Store c.nodes.conn) c.nodes.at tt
-    (λ k. ap (λ l. without_blocks_of (map number_of l) k) (take_all c.nodes.at c.args.nodes.now c.nodes-test.false)) c.nodes.invariant.2
+    (λ k. ap (λ l. without_blocks_of (map number_of_row l) k) (take_all c.nodes.at c.args.nodes.now c.nodes-test.false)) c.nodes.invariant.2

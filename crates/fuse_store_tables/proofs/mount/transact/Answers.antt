@@ -3,17 +3,17 @@ use Rattle.std.proofs.Common.{OnErr}
 use Rattle.sqlite.specs.State.{HasCleanDisk, KeepsCommit}
 use Rattle.fuse_store_tables.specs.Content.{Holds}
 use Rattle.fuse_store_tables.specs.Clearing.{cleared}
-use Rattle.fuse_store_tables.specs.inner.Performing.{Performs}
+use Rattle.fuse_store_tables.specs.inner.Performing.{Transacts}
 use Rattle.fuse_store_tables.proofs.Joining.{failed_first, failed_inside, failed_commit, committed, on_err}
-use Rattle.fuse_store_tables.specs.Moves.{RestsAs, StaysOpen}
+use Rattle.fuse_store_tables.specs.Moves.{RestsAs, StaysOpen, CommitsOnce}
 use Rattle.fuse_store_tables.specs.inner.Transaction.{open_first, open_inside, open_failed, open_committed}
-use Rattle.fuse_store_tables.proofs.Alone.{commits_then, begins_nothing, on_refusal, outside_err}
+use Rattle.fuse_store_tables.proofs.Alone.{commits_then, begins_nothing, on_refusal, outside_err, once_none, once_failed, once_committed}
 use Rattle.fuse_store_tables.proofs.Within.{nothing_within, keeps_within, keeps_commit}
 use Rattle.fuse_store_tables.proofs.mount.transact.Goals as goal
 
 pub returns-in_err-begin-clause-performs : goal.returns-in_err-begin-clause-performs
 returns-in_err-begin-clause-performs g c =
-    on_err (Performs cleared (state g.S.Store c.args.conn.now) (state g.S.Store c.begin.new.conn)) c.from_residual.result c.from_residual.ensures.0
+    on_err (Transacts cleared (state g.S.Store c.args.conn.now) (state g.S.Store c.begin.new.conn)) c.from_residual.result c.from_residual.ensures.0
     (λ e. failed_first Holds (λ k. Holds (cleared k)) _ _ _ e c.in_err-begin.ensures)
 
 pub returns-in-Err-clause-performs : goal.returns-in-Err-clause-performs
@@ -22,7 +22,7 @@ returns-in-Err-clause-performs g c =
 
 pub returns-in_err-commit-in-Ok-clause-performs : goal.returns-in_err-commit-in-Ok-clause-performs
 returns-in_err-commit-in-Ok-clause-performs g c =
-    on_err (Performs cleared (state g.S.Store c.args.conn.now) (state g.S.Store c.commit.new.conn)) c.from_residual-in_err-commit-in-Ok.result
+    on_err (Transacts cleared (state g.S.Store c.args.conn.now) (state g.S.Store c.commit.new.conn)) c.from_residual-in_err-commit-in-Ok.result
     c.from_residual-in_err-commit-in-Ok.ensures.0
     (λ e. failed_commit Holds (λ k. Holds (cleared k)) _ _ _ _ _ _ _ e c.in_ok-begin.ensures c.in-Ok.ensures.made c.in_err-commit-in-Ok.ensures)
 
@@ -82,3 +82,29 @@ returns-in_err-commit-in-Ok-clause-keeps g c =
     c.from_residual-in_err-commit-in-Ok.result c.from_residual-in_err-commit-in-Ok.ensures.0
     (λ e. keeps_commit (state g.S.Store c.args.conn.now) (state g.S.Store c.begin.new.conn) (state g.S.Store c.clear.new.conn) (state g.S.Store c.commit.new.conn)
     _ _ _ c.in_ok-begin.ensures c.in-Ok.ensures.within c.in_err-commit-in-Ok.ensures)
+
+-- ---- what a crash leaves
+
+pub returns-in_err-begin-clause-once : goal.returns-in_err-begin-clause-once
+returns-in_err-begin-clause-once g c =
+    on_err (CommitsOnce (state g.S.Store c.args.conn.now) (state g.S.Store c.begin.new.conn)) c.from_residual.result c.from_residual.ensures.0
+    (λ e. once_none _ _ e (begins_nothing _ _ _ c.in_err-begin.ensures))
+
+pub returns-in-Err-clause-once : goal.returns-in-Err-clause-once
+returns-in-Err-clause-once g c =
+    once_none (state g.S.Store c.args.conn.now) (state g.S.Store c.clear.new.conn) c.in-Err.fault
+    (commits_then _ _ _ (begins_nothing _ _ _ c.in_ok-begin.ensures) (nothing_within _ _ _ (λ clean. (c.in_ok-begin.ensures.begun clean).1) c.in-Err.ensures.within))
+
+pub returns-in_err-commit-in-Ok-clause-once : goal.returns-in_err-commit-in-Ok-clause-once
+returns-in_err-commit-in-Ok-clause-once g c =
+    on_err (CommitsOnce (state g.S.Store c.args.conn.now) (state g.S.Store c.commit.new.conn)) c.from_residual-in_err-commit-in-Ok.result
+    c.from_residual-in_err-commit-in-Ok.ensures.0
+    (λ e. once_failed (state g.S.Store c.args.conn.now) (state g.S.Store c.clear.new.conn) (state g.S.Store c.commit.new.conn) _ e
+    (commits_then _ _ _ (begins_nothing _ _ _ c.in_ok-begin.ensures) (nothing_within _ _ _ (λ clean. (c.in_ok-begin.ensures.begun clean).1) c.in-Ok.ensures.within))
+    c.in_err-commit-in-Ok.ensures)
+
+pub returns-in_ok-commit-in-Ok-clause-once : goal.returns-in_ok-commit-in-Ok-clause-once
+returns-in_ok-commit-in-Ok-clause-once g c =
+    once_committed (state g.S.Store c.args.conn.now) (state g.S.Store c.clear.new.conn) (state g.S.Store c.commit.new.conn) _ _
+    (commits_then _ _ _ (begins_nothing _ _ _ c.in_ok-begin.ensures) (nothing_within _ _ _ (λ clean. (c.in_ok-begin.ensures.begun clean).1) c.in-Ok.ensures.within))
+    c.in_ok-commit-in-Ok.ensures

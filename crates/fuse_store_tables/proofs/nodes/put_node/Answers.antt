@@ -18,4 +18,4 @@ returns-in-Ok-false g c =
     let x = c.args.row.now in
     put_anew (set_node x) (with_node x) (with_node x) (λ k. is_some (at_by node_key x.node k.nodes)) (state g.S.Store c.args.conn.now)
     (state g.S.Store c.update_node.new.conn) c.in-Ok-false.field-0 c.in-Ok-false.ensures.made c.in-Ok-false.ensures.found
-    (state g.S.Store c.insert_node.new.conn) c.insert_node.result c.in-Ok-false.field-0-test c.insert_node.ensures (λ k at is. put_new x k is)
+    (state g.S.Store c.insert_node.new.conn) c.insert_node.result c.in-Ok-false.field-0-test c.insert_node.ensures.made (λ k at is. put_new x k is)

@@ -1,5 +1,5 @@
 use Rattle.sqlite.specs.Held.{state}
-use Rattle.fuse_store_tables.proofs.NodeRows.{adds}
+use Rattle.fuse_store_tables.proofs.NodeRows.{adds, adds_new}
 use Rattle.fuse_store_tables.proofs.Within.{edits_within, node_edit}
 use Rattle.fuse_store_tables.proofs.nodes.write_node.Goals as goal
 
@@ -12,3 +12,6 @@ returns-clause-made g c =
 pub returns-clause-within : goal.returns-clause-within
 returns-clause-within g c =
     edits_within _ _ node_edit (state g.S.Store c.args.conn.now) (state g.S.Store c.run.new.conn) c.run.result c.run.ensures.runs c.run.ensures.survives
+
+pub returns-clause-fresh : goal.returns-clause-fresh
+returns-clause-fresh g c = adds_new c.args.row.now (state g.S.Store c.args.conn.now) (state g.S.Store c.run.new.conn) c.run.result (rw c.node_values-values.ensures at c.run.ensures.runs)

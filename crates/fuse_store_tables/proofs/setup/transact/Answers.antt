@@ -2,18 +2,18 @@ use Rattle.sqlite.specs.Held.{state}
 use Rattle.std.proofs.Common.{OnErr, subst, sym}
 use Rattle.sqlite.specs.State.{HasCleanDisk, KeepsCommit}
 use Rattle.fuse_store_tables.specs.inner.Following.{earlier}
-use Rattle.fuse_store_tables.specs.Opening.{IsStored, IsOpened, IsLaid}
+use Rattle.fuse_store_tables.specs.Opening.{IsStored, IsOpened, IsLaid, IsWantedStore}
 use Rattle.fuse_store_tables.specs.Saying.{IsTabled, IsToMigrate, Says}
-use Rattle.fuse_store_tables.specs.Moves.{RestsAs}
-use Rattle.fuse_store_tables.specs.inner.Performing.{PerformsAs}
-use Rattle.fuse_store_tables.proofs.Alone.{commits_then, begins_nothing, failed_same, committed_same, on_refusal, outside_err}
+use Rattle.fuse_store_tables.specs.Moves.{RestsAs, CommitsOnce}
+use Rattle.fuse_store_tables.specs.inner.Performing.{TransactsAs}
+use Rattle.fuse_store_tables.proofs.Alone.{commits_then, begins_nothing, failed_same, committed_same, on_refusal, outside_err, once_none, once_failed, once_committed}
 use Rattle.fuse_store_tables.proofs.Joining.{failed_first, failed_inside, failed_commit, committed, on_err}
-use Rattle.fuse_store_tables.proofs.Within.{keeps_within, keeps_commit}
+use Rattle.fuse_store_tables.proofs.Within.{nothing_within, keeps_within, keeps_commit}
 use Rattle.fuse_store_tables.proofs.setup.transact.Goals as goal
 
 pub returns-in_err-begin-clause-performs : goal.returns-in_err-begin-clause-performs
 returns-in_err-begin-clause-performs g c =
-    on_err (PerformsAs IsStored IsOpened (state g.S.Store c.args.conn.now) (state g.S.Store c.begin.new.conn)) c.from_residual.result c.from_residual.ensures.0
+    on_err (TransactsAs IsStored IsOpened (state g.S.Store c.args.conn.now) (state g.S.Store c.begin.new.conn)) c.from_residual.result c.from_residual.ensures.0
     (λ e. failed_first IsStored IsOpened _ _ _ e c.in_err-begin.ensures)
 
 pub returns-in-Err-clause-performs : goal.returns-in-Err-clause-performs
@@ -22,7 +22,7 @@ returns-in-Err-clause-performs g c =
 
 pub returns-in_err-commit-in-Ok-clause-performs : goal.returns-in_err-commit-in-Ok-clause-performs
 returns-in_err-commit-in-Ok-clause-performs g c =
-    on_err (PerformsAs IsStored IsOpened (state g.S.Store c.args.conn.now) (state g.S.Store c.commit.new.conn)) c.from_residual-in_err-commit-in-Ok.result
+    on_err (TransactsAs IsStored IsOpened (state g.S.Store c.args.conn.now) (state g.S.Store c.commit.new.conn)) c.from_residual-in_err-commit-in-Ok.result
     c.from_residual-in_err-commit-in-Ok.ensures.0
     (λ e. failed_commit IsStored IsOpened _ _ _ _ _ _ _ e c.in_ok-begin.ensures c.in-Ok.ensures.opened c.in_err-commit-in-Ok.ensures)
 
@@ -32,7 +32,7 @@ returns-in_ok-commit-in-Ok-clause-performs g c = committed IsStored IsOpened _ _
 pub returns-in_ok-commit-in-Ok-clause-tabled : goal.returns-in_ok-commit-in-Ok-clause-tabled
 returns-in_ok-commit-in-Ok-clause-tabled g c = λ clean.
     let b = state g.S.Store c.begin.new.conn in
-    let d = state g.S.Store c.work.new.conn in
+    let d = state g.S.Store c.work_for.new.conn in
     let late = earlier d (state g.S.Store c.commit.new.conn) _ c.in_ok-commit-in-Ok.ensures.survives clean in
     let mid = earlier b d _ c.in-Ok.ensures.opened.stays.survives late in
     subst IsTabled (c.in_ok-begin.ensures.begun mid).2 (c.in-Ok.ensures.tabled late)
@@ -41,7 +41,7 @@ pub returns-in-Err-clause-alone : goal.returns-in-Err-clause-alone
 returns-in-Err-clause-alone g c = λ other.
     let a = state g.S.Store c.args.conn.now in
     let b = state g.S.Store c.begin.new.conn in
-    let d = state g.S.Store c.work.new.conn in
+    let d = state g.S.Store c.work_for.new.conn in
     commits_then a b d (begins_nothing a b _ c.in_ok-begin.ensures)
     (c.in-Err.ensures.alone (λ clean same. other (subst IsToMigrate (c.in_ok-begin.ensures.begun (earlier b d _ c.in-Err.ensures.opened.stays.survives clean)).2 same))).commits
 
@@ -53,13 +53,14 @@ returns-in_err-begin-clause-refused g c =
     on_refusal (state g.S.Store c.args.conn.now) (state g.S.Store c.begin.new.conn) c.from_residual.result (begins_nothing _ _ _ c.in_err-begin.ensures)
 
 pub returns-in-Err-clause-refused : goal.returns-in-Err-clause-refused
-returns-in-Err-clause-refused g c = λ refused. commits_then _ _ _ (begins_nothing _ _ _ c.in_ok-begin.ensures) (c.in-Err.ensures.refused refused)
+returns-in-Err-clause-refused g c = λ refused.
+    commits_then _ _ _ (begins_nothing _ _ _ c.in_ok-begin.ensures) (nothing_within _ _ _ (λ clean. (c.in_ok-begin.ensures.begun clean).1) c.in-Err.ensures.within)
 
 pub returns-in_err-commit-in-Ok-clause-alone : goal.returns-in_err-commit-in-Ok-clause-alone
 returns-in_err-commit-in-Ok-clause-alone g c = λ other.
     let a = state g.S.Store c.args.conn.now in
     let b = state g.S.Store c.begin.new.conn in
-    let d = state g.S.Store c.work.new.conn in
+    let d = state g.S.Store c.work_for.new.conn in
     failed_same a b d (state g.S.Store c.commit.new.conn) _ _ (g.met.S.Store.stays c.args.conn.now.store) c.law_of_rest.ensures c.in_ok-begin.ensures
     (c.in-Ok.ensures.alone (λ clean same. other (subst IsToMigrate (c.in_ok-begin.ensures.begun (earlier b d _ c.in-Ok.ensures.opened.stays.survives clean)).2 same)))
     _ c.in_err-commit-in-Ok.ensures
@@ -68,7 +69,7 @@ pub returns-in_ok-commit-in-Ok-clause-alone : goal.returns-in_ok-commit-in-Ok-cl
 returns-in_ok-commit-in-Ok-clause-alone g c = λ other.
     let a = state g.S.Store c.args.conn.now in
     let b = state g.S.Store c.begin.new.conn in
-    let d = state g.S.Store c.work.new.conn in
+    let d = state g.S.Store c.work_for.new.conn in
     committed_same a b d (state g.S.Store c.commit.new.conn) _ _ (g.met.S.Store.stays c.args.conn.now.store) c.law_of_rest.ensures c.in_ok-begin.ensures
     (c.in-Ok.ensures.alone (λ clean same. other (subst IsToMigrate (c.in_ok-begin.ensures.begun (earlier b d _ c.in-Ok.ensures.opened.stays.survives clean)).2 same)))
     _ c.in_ok-commit-in-Ok.ensures
@@ -78,19 +79,19 @@ returns-in_ok-commit-in-Ok-clause-ended g c = λ clean. let on = c.in_ok-commit-
 
 pub returns-in_err-commit-in-Ok-clause-fault : goal.returns-in_err-commit-in-Ok-clause-fault
 returns-in_err-commit-in-Ok-clause-fault g c = λ clean.
-    outside_err (λ k. RestsAs (IsStored k) (state g.S.Store c.args.conn.now)) _ c.from_residual-in_err-commit-in-Ok.result c.from_residual-in_err-commit-in-Ok.ensures.1
+    outside_err (λ k. RestsAs (IsWantedStore c.args.wanted k) (state g.S.Store c.args.conn.now)) _ c.from_residual-in_err-commit-in-Ok.result c.from_residual-in_err-commit-in-Ok.ensures.1
 
 pub returns-in-Err-clause-says : goal.returns-in-Err-clause-says
 returns-in-Err-clause-says g c = λ clean.
     let b = state g.S.Store c.begin.new.conn in
-    let d = state g.S.Store c.work.new.conn in
+    let d = state g.S.Store c.work_for.new.conn in
     subst (λ db. Says db c.in-Err.fault) (c.in_ok-begin.ensures.begun (earlier b d _ c.in-Err.ensures.opened.stays.survives clean)).2 (c.in-Err.ensures.says clean)
 
 pub returns-in-Err-clause-fault : goal.returns-in-Err-clause-fault
 returns-in-Err-clause-fault g c = λ clean k at.
-    let mid = earlier (state g.S.Store c.begin.new.conn) (state g.S.Store c.work.new.conn) _ c.in-Err.ensures.opened.stays.survives clean in
+    let mid = earlier (state g.S.Store c.begin.new.conn) (state g.S.Store c.work_for.new.conn) _ c.in-Err.ensures.opened.stays.survives clean in
     let on = c.in_ok-begin.ensures.begun mid in
-    c.in-Err.ensures.fault clean (k, record { is_open = on.0; in_transaction = on.1; holds = subst (IsStored k) (sym on.2) at.holds })
+    c.in-Err.ensures.fault clean (k, record { is_open = on.0; in_transaction = on.1; holds = subst (IsWantedStore c.args.wanted k) (sym on.2) at.holds })
 
 -- ---- what was committed is kept
 
@@ -101,14 +102,14 @@ returns-in_err-begin-clause-keeps g c =
 
 pub returns-in-Err-clause-keeps : goal.returns-in-Err-clause-keeps
 returns-in-Err-clause-keeps g c = λ clean.
-    keeps_within (state g.S.Store c.args.conn.now) (state g.S.Store c.begin.new.conn) (state g.S.Store c.work.new.conn) _ _ c.in_ok-begin.ensures
+    keeps_within (state g.S.Store c.args.conn.now) (state g.S.Store c.begin.new.conn) (state g.S.Store c.work_for.new.conn) _ _ c.in_ok-begin.ensures
     c.in-Err.ensures.within clean
 
 pub returns-in_err-commit-in-Ok-clause-keeps : goal.returns-in_err-commit-in-Ok-clause-keeps
 returns-in_err-commit-in-Ok-clause-keeps g c =
     on_err (λ r. OnErr r (HasCleanDisk (state g.S.Store c.commit.new.conn) → KeepsCommit (state g.S.Store c.args.conn.now) (state g.S.Store c.commit.new.conn)))
     c.from_residual-in_err-commit-in-Ok.result c.from_residual-in_err-commit-in-Ok.ensures.0
-    (λ e. keeps_commit (state g.S.Store c.args.conn.now) (state g.S.Store c.begin.new.conn) (state g.S.Store c.work.new.conn) (state g.S.Store c.commit.new.conn)
+    (λ e. keeps_commit (state g.S.Store c.args.conn.now) (state g.S.Store c.begin.new.conn) (state g.S.Store c.work_for.new.conn) (state g.S.Store c.commit.new.conn)
     _ _ _ c.in_ok-begin.ensures c.in-Ok.ensures.within c.in_err-commit-in-Ok.ensures)
 
 -- ---- the profile
@@ -116,7 +117,33 @@ returns-in_err-commit-in-Ok-clause-keeps g c =
 pub returns-in_ok-commit-in-Ok-clause-profile : goal.returns-in_ok-commit-in-Ok-clause-profile
 returns-in_ok-commit-in-Ok-clause-profile g c = λ clean k at.
     let b = state g.S.Store c.begin.new.conn in
-    let d = state g.S.Store c.work.new.conn in
+    let d = state g.S.Store c.work_for.new.conn in
     let late = earlier d (state g.S.Store c.commit.new.conn) _ c.in_ok-commit-in-Ok.ensures.survives clean in
     let on = c.in_ok-begin.ensures.begun (earlier b d _ c.in-Ok.ensures.opened.stays.survives late) in
     c.in-Ok.ensures.profile late k (record { is_open = on.0; in_transaction = on.1; holds = subst (IsLaid k) (sym on.2) at.holds })
+
+-- ---- what a crash leaves
+
+pub returns-in_err-begin-clause-once : goal.returns-in_err-begin-clause-once
+returns-in_err-begin-clause-once g c =
+    on_err (CommitsOnce (state g.S.Store c.args.conn.now) (state g.S.Store c.begin.new.conn)) c.from_residual.result c.from_residual.ensures.0
+    (λ e. once_none _ _ e (begins_nothing _ _ _ c.in_err-begin.ensures))
+
+pub returns-in-Err-clause-once : goal.returns-in-Err-clause-once
+returns-in-Err-clause-once g c =
+    once_none (state g.S.Store c.args.conn.now) (state g.S.Store c.work_for.new.conn) c.in-Err.fault
+    (commits_then _ _ _ (begins_nothing _ _ _ c.in_ok-begin.ensures) (nothing_within _ _ _ (λ clean. (c.in_ok-begin.ensures.begun clean).1) c.in-Err.ensures.within))
+
+pub returns-in_err-commit-in-Ok-clause-once : goal.returns-in_err-commit-in-Ok-clause-once
+returns-in_err-commit-in-Ok-clause-once g c =
+    on_err (CommitsOnce (state g.S.Store c.args.conn.now) (state g.S.Store c.commit.new.conn)) c.from_residual-in_err-commit-in-Ok.result
+    c.from_residual-in_err-commit-in-Ok.ensures.0
+    (λ e. once_failed (state g.S.Store c.args.conn.now) (state g.S.Store c.work_for.new.conn) (state g.S.Store c.commit.new.conn) _ e
+    (commits_then _ _ _ (begins_nothing _ _ _ c.in_ok-begin.ensures) (nothing_within _ _ _ (λ clean. (c.in_ok-begin.ensures.begun clean).1) c.in-Ok.ensures.within))
+    c.in_err-commit-in-Ok.ensures)
+
+pub returns-in_ok-commit-in-Ok-clause-once : goal.returns-in_ok-commit-in-Ok-clause-once
+returns-in_ok-commit-in-Ok-clause-once g c =
+    once_committed (state g.S.Store c.args.conn.now) (state g.S.Store c.work_for.new.conn) (state g.S.Store c.commit.new.conn) _ _
+    (commits_then _ _ _ (begins_nothing _ _ _ c.in_ok-begin.ensures) (nothing_within _ _ _ (λ clean. (c.in_ok-begin.ensures.begun clean).1) c.in-Ok.ensures.within))
+    c.in_ok-commit-in-Ok.ensures

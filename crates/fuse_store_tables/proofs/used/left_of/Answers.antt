@@ -1,7 +1,7 @@
 use Rattle.std.proofs.Common.{◌≡◌, ◌<◌, ◌-◌, refl, sym, ap, subst, arith, length, slice_index_or, take_all, ◌∙◌}
 use Rattle.sqlite.specs.Order.{column}
 use Rattle.fuse_store_tables.specs.Clearing.{blocks_in}
-use Rattle.fuse_store_tables.specs.inner.Columns.{number_in, number_of, shown_number}
+use Rattle.fuse_store_tables.specs.inner.Columns.{number_in, number_of_row, shown_number}
 use Rattle.fuse_store_tables.specs.inner.Steps.{read_blocks}
 use Rattle.fuse_store_tables.proofs.BlocksOf.{shown_at}
 use Rattle.fuse_store_tables.proofs.Lowering.{left_more, left_low}
@@ -23,7 +23,7 @@ returns-clause-small c = left_low c.args.used _ c.sizes.left c.sizes.invariant.3
 
 pub sizes-preserved : goal.sizes-preserved
 sizes-preserved c =
-    let size = ap blocks_in (sym (ap number_in c.in-Ok.ensures.value) ∙ ap number_of c.index-sizes-at.is) in (
+    let size = ap blocks_in (sym (ap number_in c.in-Ok.ensures.value) ∙ ap number_of_row c.index-sizes-at.is) in (
       refl,
       refl,
       omega (arith, c.sizes-test.true),

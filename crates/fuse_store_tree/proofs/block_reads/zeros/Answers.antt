@@ -1,5 +1,5 @@
 use Rattle.std.proofs.Common.{◌∙◌}
-use Rattle.fuse_tree.specs.Bounds.{block_bytes}
+use Rattle.fuse_rows.specs.Bounds.{block_bytes}
 use Rattle.fuse_store_tree.proofs.Ranges.{filled}
 use Rattle.fuse_store_tree.proofs.block_reads.zeros.Goals as goal
 

@@ -1,6 +1,6 @@
 use Rattle.std.proofs.Common.{◌≡◌, List, map, take}
 use Rattle.std.specs.List.{AllByRecursion}
-use Rattle.fuse_tree.specs.declared.rows.Child.{Child}
+use Rattle.fuse_rows.specs.declared.rows.Child.{Child}
 use Rattle.fuse_store_tree.specs.inner.Reading.{shown_beside, IsReadBack}
 use Rattle.fuse_store_tree.proofs.entries.read_children.Given as goal
 

@@ -1,7 +1,7 @@
 use Rattle.std.proofs.Common.{◌≡◌, None, take, length}
 use Rattle.sqlite.specs.Held.{state}
 use Rattle.fuse_keeper.specs.Group.{entries_of}
-use Rattle.fuse_store_tree.specs.Looking.{look_fault}
+use Rattle.fuse_store_tree.specs.Looking.{as_look_fault}
 use Rattle.fuse_store_tree.specs.inner.Knowing.{TurnedKnown}
 use Rattle.fuse_store_tree.specs.Group.{with_group}
 use Rattle.fuse_store_tree.proofs.Groups.{AreDones}
@@ -13,5 +13,5 @@ invariant-loop-one g l = record {
       (state g.S.Store l.look.conn);
   dones : AreDones l.fn.look.known l.lot (entries_of (take l.one-index l.group)) (state g.S.Store l.fn.look.conn) (state g.S.Store l.look.conn) l.dones.items;
   count : length l.dones.items ≡ l.one-index;
-  ready : look_fault l.look.fault ≡ None;
+  ready : as_look_fault l.look.fault ≡ None;
 }

@@ -1,6 +1,6 @@
 use Rattle.std.proofs.Common.{◌≡◌, List, map, take}
 use Rattle.std.specs.List.{AllByRecursion}
-use Rattle.fuse_tree.specs.declared.rows.HandleRow.{HandleRow}
+use Rattle.fuse_rows.specs.declared.rows.HandleRow.{HandleRow}
 use Rattle.fuse_store_tables.specs.Content.{shown_open}
 use Rattle.fuse_store_tree.proofs.handles.read_handles.Given as goal
 

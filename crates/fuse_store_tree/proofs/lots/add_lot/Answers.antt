@@ -7,4 +7,4 @@ use Rattle.fuse_store_tree.proofs.lots.add_lot.Goals as goal
 pub returns : goal.returns
 returns g c =
     makes_then (with_lot c.args.lot) (set_counter 11 (c.args.lot + 1)) (state g.S.Store c.args.conn.now) (state g.S.Store c.insert_lot.new.conn)
-    (state g.S.Store c.update_counter.new.conn) _ c.update_counter.result c.in_ok-insert_lot.ensures c.update_counter.ensures
+    (state g.S.Store c.update_counter.new.conn) _ c.update_counter.result c.in_ok-insert_lot.ensures.made c.update_counter.ensures

@@ -1,7 +1,7 @@
 use Rattle.std.proofs.Common.{◌++◌, ◌∷◌, [], ap, sym, subst, take, ◌∙◌}
 use Rattle.std.proofs.lemmas.List.{take_more}
 use Rattle.sqlite.specs.Held.{state}
-use Rattle.fuse_tree.specs.Columns.{FitsChange}
+use Rattle.fuse_rows.specs.Columns.{FitsChange}
 use Rattle.fuse_store_tree.specs.inner.Knowing.{ChangedKnown, HeldKnown}
 use Rattle.fuse_store_tree.specs.inner.Writing.{with_change, with_changes}
 use Rattle.fuse_store_tree.proofs.Changes.{known_more}

@@ -1,7 +1,7 @@
 use Rattle.std.proofs.Common.{◌≡◌, ◌∙◌}
 use Rattle.std.specs.List.{sum_by}
 use Rattle.sqlite.specs.Held.{state}
-use Rattle.fuse_tree.specs.Rows.{rowed}
+use Rattle.fuse_tree.specs.Rowed.{rowed}
 use Rattle.fuse_store_tree.proofs.Rests.{rests_for, describes_for, safe_for, sizes_held}
 use Rattle.fuse_store_tree.proofs.reads.size_at_rest.Goals as goal
 

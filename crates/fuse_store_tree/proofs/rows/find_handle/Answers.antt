@@ -1,7 +1,7 @@
 use Rattle.std.proofs.Common.{sym, ◌∙◌, arith}
 use Rattle.std.specs.Prelude.{◌^◌}
 use Rattle.fuse_store_tables.specs.Content.{fh_of, at_by}
-use Rattle.fuse_tree.specs.Columns.{FitsHandle}
+use Rattle.fuse_rows.specs.Columns.{FitsHandle}
 use Rattle.fuse_store_tree.proofs.Looks.{found_is, none_found, all_map, map_ok, drop_first}
 use Rattle.fuse_store_tree.proofs.rows.find_handle.Goals as goal
 

@@ -6,7 +6,7 @@ use Rattle.fuse_store_tree.specs.Knowing.{HeldForKnown}
 use Rattle.fuse_store_tree.specs.Group.{performed, all_dones, lot_for}
 use Rattle.fuse_store_tree.proofs.Whole.{takes_for, fails_for, told_after, lot_after}
 use Rattle.fuse_store_tables.specs.inner.Following.{earlier}
-use Rattle.fuse_store_tree.proofs.Whole.{begun_for, unrefusing, nothing_for, keeps_commit, once_first, once_inside, once_failed, once_committed}
+use Rattle.fuse_store_tree.proofs.Whole.{begun_for, unrefusing, nothing_for, keeps_commit, begins_nothing, once_none, once_failed, once_committed}
 use Rattle.fuse_store_tables.specs.inner.Transaction.{open_first, open_inside, open_failed, open_committed}
 use Rattle.fuse_store_tree.proofs.transaction.transact.Goals as goal
 
@@ -119,20 +119,27 @@ returns-in-Err-commit-clause-keeps g c =
 
 pub returns-in-Err-clause-once : goal.returns-in-Err-clause-once
 returns-in-Err-clause-once g c =
-    once_first (state g.S.Store c.args.look.now.conn) (state g.S.Store c.begin.new.conn) c.in-Err.error c.from.result c.in-Err.ensures
+    once_none (state g.S.Store c.args.look.now.conn) (state g.S.Store c.begin.new.conn) c.from.result
+    (begins_nothing (state g.S.Store c.args.look.now.conn) (state g.S.Store c.begin.new.conn) _ c.in-Err.ensures)
 
 pub returns-in-Err-perform_in-clause-once : goal.returns-in-Err-perform_in-clause-once
 returns-in-Err-perform_in-clause-once g c =
-    once_inside (state g.S.Store c.args.look.now.conn) (state g.S.Store c.begin.new.conn) (state g.S.Store c.perform_in.new.look.conn) _
-    c.in-Err-perform_in.fault c.in-Ok.ensures c.in-Err-perform_in.ensures.fails
+    once_none (state g.S.Store c.args.look.now.conn) (state g.S.Store c.perform_in.new.look.conn) c.in-Err-perform_in.fault
+    (nothing_for (state g.S.Store c.args.look.now.conn) (state g.S.Store c.begin.new.conn) (state g.S.Store c.perform_in.new.look.conn) _ c.in-Ok.ensures
+    c.in-Err-perform_in.ensures.fails)
 
 pub returns-in-Err-commit-clause-once : goal.returns-in-Err-commit-clause-once
 returns-in-Err-commit-clause-once g c =
-    once_failed (state g.S.Store c.args.look.now.conn) (state g.S.Store c.begin.new.conn) (state g.S.Store c.perform_in.new.look.conn)
-    (state g.S.Store c.commit.new.conn) _ c.in-Err-commit.error c.from-in-Err-commit.result c.in-Ok.ensures
-    c.in-Ok-perform_in.ensures.turned.stays c.in-Err-commit.ensures
+    once_failed (state g.S.Store c.args.look.now.conn) (state g.S.Store c.perform_in.new.look.conn) (state g.S.Store c.commit.new.conn)
+    c.in-Err-commit.error c.from-in-Err-commit.result
+    (nothing_for (state g.S.Store c.args.look.now.conn) (state g.S.Store c.begin.new.conn) (state g.S.Store c.perform_in.new.look.conn) _ c.in-Ok.ensures
+    c.in-Ok-perform_in.ensures.turned.stays)
+    c.in-Err-commit.ensures
 
 pub returns-in-Ok-commit-clause-once : goal.returns-in-Ok-commit-clause-once
 returns-in-Ok-commit-clause-once g c =
-    once_committed (state g.S.Store c.args.look.now.conn) (state g.S.Store c.begin.new.conn) (state g.S.Store c.perform_in.new.look.conn)
-    (state g.S.Store c.commit.new.conn) _ _ c.in-Ok-perform_in.performed c.in-Ok.ensures c.in-Ok-perform_in.ensures.turned.stays c.in-Ok-commit.ensures
+    once_committed (state g.S.Store c.args.look.now.conn) (state g.S.Store c.perform_in.new.look.conn) (state g.S.Store c.commit.new.conn)
+    _ c.in-Ok-perform_in.performed
+    (nothing_for (state g.S.Store c.args.look.now.conn) (state g.S.Store c.begin.new.conn) (state g.S.Store c.perform_in.new.look.conn) _ c.in-Ok.ensures
+    c.in-Ok-perform_in.ensures.turned.stays)
+    c.in-Ok-commit.ensures

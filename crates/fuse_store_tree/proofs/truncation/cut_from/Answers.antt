@@ -1,6 +1,6 @@
 use Rattle.std.proofs.Common.{◌≡◌, ◌*◌, ◌/◌, ◌%◌, subst, arith}
 use Rattle.sqlite.specs.Held.{state}
-use Rattle.fuse_tree.specs.Bounds.{block_bytes}
+use Rattle.fuse_rows.specs.Bounds.{block_bytes}
 use Rattle.fuse_store_tree.specs.inner.Changing.{Cut}
 use Rattle.fuse_store_tree.proofs.Steps.{on_ok}
 use Rattle.fuse_store_tree.proofs.truncation.cut_from.Goals as goal

@@ -1,6 +1,6 @@
 use Rattle.std.proofs.Common.{◌≡◌, ◌≤◌, ◌<◌, ℕ, ◌+◌, ◌-◌, ◌*◌, ◌/◌, ◌%◌, replicate, ap, arith, ◌∙◌}
 use Rattle.sqlite.specs.Held.{state}
-use Rattle.fuse_tree.specs.Bounds.{block_bytes}
+use Rattle.fuse_rows.specs.Bounds.{block_bytes}
 use Rattle.fuse_store_tree.specs.inner.Changing.{Cut}
 use Rattle.fuse_store_tree.proofs.Steps.{on_ok, on_error}
 use Rattle.fuse_store_tree.proofs.Cuts.{cut_keeps, cut_then}

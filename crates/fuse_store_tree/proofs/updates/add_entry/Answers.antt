@@ -5,7 +5,7 @@ use Rattle.fuse_store_tree.proofs.updates.add_entry.Goals as goal
 
 pub returns-in-Ok-clause-changed : goal.returns-in-Ok-clause-changed
 returns-in-Ok-clause-changed g c = made _ _ (state g.S.Store c.args.conn.now) (state g.S.Store c.insert_entry.new.conn) _
-    (entry_comes c.args.row.now c.requires) c.in-Ok.ensures
+    (entry_comes c.args.row.now c.requires) c.in-Ok.ensures.made
 
 pub returns-in-Err-clause-fails : goal.returns-in-Err-clause-fails
-returns-in-Err-clause-fails g c = c.in-Err.ensures.stays
+returns-in-Err-clause-fails g c = c.in-Err.ensures.made.stays

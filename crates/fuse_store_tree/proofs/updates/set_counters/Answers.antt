@@ -1,5 +1,5 @@
 use Rattle.sqlite.specs.Held.{state}
-use Rattle.fuse_tree.specs.declared.rows.Change.TheVariants as changes
+use Rattle.fuse_rows.specs.declared.rows.Change.TheVariants as changes
 use Rattle.fuse_store_tree.specs.inner.Knowing.{counters_written}
 use Rattle.fuse_store_tree.proofs.KnownSteps.{changed_where}
 use Rattle.fuse_store_tree.proofs.MovedCounters.{written_change}

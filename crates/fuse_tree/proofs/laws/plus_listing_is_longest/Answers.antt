@@ -1,4 +1,4 @@
-use Rattle.fuse_tree.proofs.PlusAgrees as listing
+use Rattle.fuse_tree.proofs.PlusListing as listing
 use Rattle.fuse_tree.proofs.laws.plus_listing_is_longest.Goals as goal
 
 pub returns : goal.returns

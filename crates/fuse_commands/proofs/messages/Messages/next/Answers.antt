@@ -1,6 +1,6 @@
 use Rattle.std.proofs.Common.{length, ◌≡◌, ℕ, List, Option, Some, None, Result, Ok, Err, inr, refl, sym, ap, subst, ◌∙◌, arith}
 use Rattle.std.specs.Io.KnownBytes.{Keeps, IsAtEnd, prepend_known}
-use Rattle.fuse_request.specs.Framing.{Held, HasNone}
+use Rattle.fuse_request.specs.Framing.{HeldBytes, HasNone}
 use Rattle.fuse_commands.specs.declared.ending.Ending.{Ending}
 use Rattle.fuse_commands.specs.declared.messages.Placed.{Placed}
 use Rattle.fuse_commands.specs.inner.Messages.{left_in, EndsSo, GivesPlaced}
@@ -49,10 +49,10 @@ returns-then-not-branch-clause-next g c =
     let stopped = read.end c.if-not-branch.true in
     let quiet = rw c.in-Ok-None.field-0-is at c.in-Ok-None.ensures.next in
     let kept = keeps_then (left_in g.R.Read.remaining c.args.self.now) (left_in g.R.Read.remaining c.loop-bytes.self)
-    (left_in g.R.Read.remaining c.read.new.self) c.loop-bytes.invariant.left (rw (ap (λ (h : Held). h.bytes) quiet.2) at read.left) in
+    (left_in g.R.Read.remaining c.read.new.self) c.loop-bytes.invariant.left (rw (ap (λ (h : HeldBytes). h.bytes) quiet.2) at read.left) in
     ends_here (left_in g.R.Read.remaining c.args.self.now) _ c.read.new.self.framer.bytes (g.R.Read.remaining c.read.new.self.pieces.reader) _ _
-    c.read.new.self.framer.at c.end.result kept stopped.1 (subst HasNone (sym (stopped.0 ∙ ap (λ (h : Held). h.bytes) quiet.2)) quiet.0)
-    (read.place ∙ ap (λ (h : Held). h.at) quiet.2 ∙ c.loop-bytes.invariant.place) c.end.ensures
+    c.read.new.self.framer.at c.end.result kept stopped.1 (subst HasNone (sym (stopped.0 ∙ ap (λ (h : HeldBytes). h.bytes) quiet.2)) quiet.0)
+    (read.place ∙ ap (λ (h : HeldBytes). h.at) quiet.2 ∙ c.loop-bytes.invariant.place) c.end.ensures
 
 pub loop-bytes-preserved : goal.loop-bytes-preserved
 loop-bytes-preserved g c =
@@ -60,7 +60,7 @@ loop-bytes-preserved g c =
     let quiet = rw c.in-Ok-None.field-0-is at c.in-Ok-None.ensures.next in
     record {
       left = keeps_then (left_in g.R.Read.remaining c.args.self.now) (left_in g.R.Read.remaining c.loop-bytes.self)
-          (left_in g.R.Read.remaining c.read.new.self) c.loop-bytes.invariant.left (rw (ap (λ (h : Held). h.bytes) quiet.2) at read.left);
-      place = read.place ∙ ap (λ (h : Held). h.at) quiet.2 ∙ c.loop-bytes.invariant.place;
-      work = omega (arith, read.work, ap (λ (h : Held). length h.bytes) quiet.2, c.loop-bytes.invariant.work);
+          (left_in g.R.Read.remaining c.read.new.self) c.loop-bytes.invariant.left (rw (ap (λ (h : HeldBytes). h.bytes) quiet.2) at read.left);
+      place = read.place ∙ ap (λ (h : HeldBytes). h.at) quiet.2 ∙ c.loop-bytes.invariant.place;
+      work = omega (arith, read.work, ap (λ (h : HeldBytes). length h.bytes) quiet.2, c.loop-bytes.invariant.work);
     }

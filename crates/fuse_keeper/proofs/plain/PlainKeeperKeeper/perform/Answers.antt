@@ -1,7 +1,7 @@
 use Rattle.std.proofs.Common.{◌∙◌, refl, sym, subst, inl, inr}
 use Rattle.fuse_keeper.specs.Group.{ids_of, entries_of}
-use Rattle.fuse_keeper.specs.Model.{IsRowed}
-use Rattle.fuse_keeper.specs.Stands.{Content, without}
+use Rattle.fuse_keeper.specs.Model.{IsOfGoodState}
+use Rattle.fuse_keeper.specs.Stands.{KeeperContent, without}
 use Rattle.fuse_keeper.specs.Plain.{mapped}
 use Rattle.fuse_keeper.proofs.Overlays.{without-same}
 use Rattle.fuse_keeper.proofs.InARow.{named_taken, led_same}
@@ -13,7 +13,7 @@ returns-in-Ok-clause-others g c = λ honest rows records held rowed. record {
   rows = g.F.FileSystem.held c.perform_group.new.self.rows;
   records = mapped c.perform_group.new.self.records;
   held = (refl, λ i. refl);
-  rowed = c.in-Ok.ensures.rowed (subst (IsRowed g.F.FileSystem.model) held.0 rowed);
+  rowed = c.in-Ok.ensures.rowed (subst (IsOfGoodState g.F.FileSystem.model) held.0 rowed);
   others = λ i isnt. c.in-Ok.ensures.others i isnt ∙ without-same (ids_of c.args.settled.now) (mapped c.args.self.now.records) records i (sym (held.1 i));
 }
 
@@ -49,9 +49,9 @@ returns-in-Err-clause-crash g c = λ s h t so within fresh firm. (
 pub returns-in-Ok-clause-crash_acts : goal.returns-in-Ok-clause-crash_acts
 returns-in-Ok-clause-crash_acts g c = λ firm rows records held rowed.
     let M = g.F.FileSystem.model in
-    let old : Content M = record { rows = g.F.FileSystem.held c.args.self.now.rows; records = mapped c.args.self.now.records } in
-    let before : Content M = record { rows = rows; records = records } in
-    let after : Content M = record { rows = g.F.FileSystem.held c.perform_group.new.self.rows; records = mapped c.perform_group.new.self.records } in
+    let old : KeeperContent M = record { rows = g.F.FileSystem.held c.args.self.now.rows; records = mapped c.args.self.now.records } in
+    let before : KeeperContent M = record { rows = rows; records = records } in
+    let after : KeeperContent M = record { rows = g.F.FileSystem.held c.perform_group.new.self.rows; records = mapped c.perform_group.new.self.records } in
     let taken = named_taken M old before (ids_of c.args.settled.now) (entries_of c.args.group.now) after c.in-Ok.dones.items held c.in-Ok.ensures.acts in (
       tt,
       λ x r left. inr (

@@ -5,7 +5,7 @@ use Rattle.fuse_session.proofs.Grouping.{grouped_one}
 use Rattle.std.proofs.lemmas.List.{length-map}
 use Rattle.fuse_wire.specs.declared.id.Id.{Id}
 use Rattle.fuse_keeper.specs.History.{ids_in}
-use Rattle.fuse_session.specs.Starts.{Kept}
+use Rattle.fuse_session.specs.Starts.{KeptRecords}
 use Rattle.fuse_session.specs.inner.Moves.{HandsOn}
 use Rattle.fuse_keeper.specs.Group.{ids_of, entry_of, entries_of}
 use Rattle.fuse_session.specs.inner.Group.{classes_in}
@@ -34,11 +34,11 @@ returns-in_default-clause-err g c =
     (λ rows records held. held) (λ firm s h t so. firm_leaves g.K.Keeper.model (g.K.Keeper.told k) s h t firm so)
 
 pub returns-in_default-clause-at_most : goal.returns-in_default-clause-at_most
-returns-in_default-clause-at_most g c = λ intact (before : Kept) h.
+returns-in_default-clause-at_most g c = λ intact (before : KeptRecords) h.
     holds_under g.K.Keeper.model before (g.K.Keeper.told c.args.self.now.keeper.now) (ids_of c.args.self.now.pending.now.items) h
 
 pub returns-in-Err-clause-at_most : goal.returns-in-Err-clause-at_most
-returns-in-Err-clause-at_most g c = λ intact (before : Kept) h.
+returns-in-Err-clause-at_most g c = λ intact (before : KeptRecords) h.
     let called = c.in-Err.ensures.called in
     let clean = intact.clean refl in
     under_kept g.K.Keeper.model before (g.K.Keeper.told c.args.self.now.keeper.now) (g.K.Keeper.told c.perform_group.new.keeper)
@@ -133,7 +133,7 @@ returns-in-Ok-send_answers-clause-ok g c =
     c.in-Ok-send_answers.ensures.ok c.as_slice-answered.ensures.value c.next_of.ensures c.count_all.ensures.tallied
 
 pub returns-in-Ok-send_answers-clause-more : goal.returns-in-Ok-send_answers-clause-more
-returns-in-Ok-send_answers-clause-more g c = λ confirms honest (before : Kept) h.
+returns-in-Ok-send_answers-clause-more g c = λ confirms honest (before : KeptRecords) h.
     let M = g.K.Keeper.model in
     let k = g.K.Keeper.told c.args.self.now.keeper.now in
     let k' = g.K.Keeper.told c.perform_group.new.keeper in
@@ -187,7 +187,7 @@ returns-clause-err g c =
     few done.acts c.as_slice-answered.ensures.value c.in-Err-send_answers.ensures.err
 
 pub returns-clause-at_most : goal.returns-clause-at_most
-returns-clause-at_most g c = λ intact (before : Kept) h.
+returns-clause-at_most g c = λ intact (before : KeptRecords) h.
     let M = g.K.Keeper.model in
     let k = g.K.Keeper.told c.args.self.now.keeper.now in
     let k' = g.K.Keeper.told c.perform_group.new.keeper in

@@ -1,6 +1,6 @@
 use Rattle.std.proofs.Common.{◌∙◌, ◌+◌, ◌-◌, ◌^◌, take, drop, length, arith, refl, sym, subst}
 use Rattle.fuse_keeper.specs.Group.{ids_of}
-use Rattle.fuse_session.specs.Starts.{Kept}
+use Rattle.fuse_session.specs.Starts.{KeptRecords}
 use Rattle.fuse_session.specs.Deeds.{Did}
 use Rattle.fuse_session.specs.Grouping.{groups_of}
 use Rattle.fuse_session.specs.inner.Turn.{Mute, Grouped}
@@ -8,7 +8,7 @@ use Rattle.fuse_session.proofs.Doing.{mute_none}
 use Rattle.fuse_session.proofs.Grouping.{mute_grouped, mute_some, left_is}
 use Rattle.fuse_session.specs.inner.Counting.{IsBelow}
 use Rattle.fuse_session.specs.Passage.{passage}
-use Rattle.fuse_session.specs.Serving.{Turned, goes_on, lasts}
+use Rattle.fuse_session.specs.Serving.{TookTurn, goes_on, lasts}
 use Rattle.fuse_session.proofs.Bytes.{quiet_none, quiet_more}
 use Rattle.fuse_session.proofs.Counted.{plus_below, below_more}
 use Rattle.fuse_session.proofs.Turns.{turned_none, group_more, group_broken, worked_part, worked_all, lasts_on, within_parts, is_over, isnt_over}
@@ -27,7 +27,7 @@ loop-at-init g c = record {
   few = c.requires.few;
   going = c.requires.going;
   firm = λ _ firm. firm;
-  more = λ _ _ (before : Kept) h. h;
+  more = λ _ _ (before : KeptRecords) h. h;
   failures = refl;
   honest = λ is. is;
   unopened = (g.met.K.Keeper.counted).none c.args.self.now.keeper.now;
@@ -89,7 +89,7 @@ loop-at-preserved g c =
     let k' = c.serve_group.new.self.keeper.now in
     record {
       within = within_parts ms i n inv.within c.in-Ok.ensures.within;
-      turned = subst (λ b. Turned (passage (g.K.Keeper.told c.args.self.now.keeper.now) (g.K.Keeper.told k')
+      turned = subst (λ b. TookTurn (passage (g.K.Keeper.told c.args.self.now.keeper.now) (g.K.Keeper.told k')
           (g.P.Port.told c.args.self.now.port.now) (g.P.Port.told c.serve_group.new.self.port.now)
           (Mute (Did (g.C.Clock.gave c.args.self.now.clock.now c.serve_group.new.self.clock.now)
           (Grouped g.K.Keeper.model.serves ms (groups_of g.K.Keeper.model.serves (drop (i + n) ms)) (g.K.Keeper.performed c.args.self.now.keeper.now k'))
@@ -110,7 +110,7 @@ loop-at-preserved g c =
       few = c.in-Ok.ensures.few;
       going = c.in-Ok.ensures.going;
       firm = λ honest firm. c.in-Ok.ensures.firm honest (inv.firm (c.in-Ok.ensures.honest honest) firm);
-      more = λ confirms honest (before : Kept) h. c.in-Ok.ensures.more (inv.quiet.confirms ∙ confirms) honest before
+      more = λ confirms honest (before : KeptRecords) h. c.in-Ok.ensures.more (inv.quiet.confirms ∙ confirms) honest before
           (inv.more confirms (c.in-Ok.ensures.honest honest) before h);
       failures = c.in-Ok.ensures.failures ∙ inv.failures;
       honest = λ honest. inv.honest (c.in-Ok.ensures.honest honest);
@@ -150,7 +150,7 @@ pub returns-then-over-clause-may : goal.returns-then-over-clause-may
 returns-then-over-clause-may g c = λ honest f may. c.loop-at.invariant.may (c.in-Ok.ensures.honest honest) f (c.in-Ok.ensures.may honest f may)
 
 pub returns-then-over-clause-more : goal.returns-then-over-clause-more
-returns-then-over-clause-more g c = λ confirms honest (before : Kept) h.
+returns-then-over-clause-more g c = λ confirms honest (before : KeptRecords) h.
     let inv = c.loop-at.invariant in
     c.in-Ok.ensures.more (inv.quiet.confirms ∙ confirms) honest before (inv.more confirms (c.in-Ok.ensures.honest honest) before h)
 
@@ -158,7 +158,7 @@ pub returns-clause-medium : goal.returns-clause-medium
 returns-clause-medium g c = c.loop-at.invariant.medium
 
 pub returns-in-Err-clause-at_most : goal.returns-in-Err-clause-at_most
-returns-in-Err-clause-at_most g c = λ confirms intact (before : Kept) h.
+returns-in-Err-clause-at_most g c = λ confirms intact (before : KeptRecords) h.
     let inv = c.loop-at.invariant in
     c.in-Err.ensures.at_most intact before (inv.more confirms (c.in-Err.ensures.honest intact.honest) before h)
 

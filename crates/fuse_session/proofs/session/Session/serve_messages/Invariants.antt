@@ -1,5 +1,5 @@
 use Rattle.std.proofs.Common.{◌≡◌, ◌≤◌, ◌-◌, length, take, drop, true, false}
-use Rattle.fuse_session.specs.Starts.{Kept}
+use Rattle.fuse_session.specs.Starts.{KeptRecords}
 use Rattle.fuse_session.specs.Deeds.{Did}
 use Rattle.fuse_session.specs.Grouping.{groups_of}
 use Rattle.fuse_session.specs.inner.Turn.{Mute, Grouped}
@@ -10,14 +10,14 @@ use Rattle.fuse_session.specs.Port.{IsQuiet}
 use Rattle.fuse_session.specs.inner.Moves.{HandsOn}
 use Rattle.fuse_session.specs.inner.Counting.{IsBelow}
 use Rattle.fuse_session.specs.Passage.{passage}
-use Rattle.fuse_session.specs.Serving.{Turned}
+use Rattle.fuse_session.specs.Serving.{TookTurn}
 use Rattle.fuse_session.proofs.session.Session.serve_messages.Given as goal
 
 abbrev pub invariant-loop-at : goal.invariant-loop-at
 invariant-loop-at g l = record {
   within : l.at ≤ length l.messages;
   loans : SameLoans l.fn.self l.self;
-  turned : Turned (passage (g.K.Keeper.told l.fn.self.keeper.now) (g.K.Keeper.told l.self.keeper.now)
+  turned : TookTurn (passage (g.K.Keeper.told l.fn.self.keeper.now) (g.K.Keeper.told l.self.keeper.now)
       (g.P.Port.told l.fn.self.port.now) (g.P.Port.told l.self.port.now) (Mute (Did (g.C.Clock.gave l.fn.self.clock.now l.self.clock.now)
       (Grouped g.K.Keeper.model.serves l.messages (groups_of g.K.Keeper.model.serves (drop l.at l.messages)) (g.K.Keeper.performed l.fn.self.keeper.now l.self.keeper.now))
       (g.P.Port.became l.fn.self.port.now l.self.port.now))))
@@ -27,7 +27,7 @@ invariant-loop-at g l = record {
   going : (g.K.Keeper.told l.self.keeper.now).has_failed ≡ false;
   firm : (g.K.Keeper.told l.self.keeper.now).is_honest → IsFirm (g.K.Keeper.told l.fn.self.keeper.now)
       → IsFirm (g.K.Keeper.told l.self.keeper.now);
-  more : (g.P.Port.told l.fn.self.port.now).confirms ≡ true → (g.K.Keeper.told l.self.keeper.now).is_honest → (before : Kept)
+  more : (g.P.Port.told l.fn.self.port.now).confirms ≡ true → (g.K.Keeper.told l.self.keeper.now).is_honest → (before : KeptRecords)
       → HandsOn before (g.K.Keeper.told l.fn.self.keeper.now) (ids_of l.fn.self.pending.now.items)
       → HandsOn before (g.K.Keeper.told l.self.keeper.now) (ids_of l.self.pending.now.items);
   failures : (g.P.Port.told l.self.port.now).failures ≡ (g.P.Port.told l.fn.self.port.now).failures;

@@ -1,6 +1,6 @@
 use Rattle.std.proofs.Common.{◌∙◌, ℕ, true, false, List, [], ◌∷◌, ◌^◌, ap, arith, length, sym, subst, All}
 use Rattle.fuse_request.specs.Stream.{IsMessage, joined}
-use Rattle.fuse_session.specs.Starts.{Kept}
+use Rattle.fuse_session.specs.Starts.{KeptRecords}
 use Rattle.fuse_session.specs.declared.port.Received.{Received as Receipt}
 use Rattle.fuse_session.specs.Transcript.{Received}
 use Rattle.fuse_session.specs.Deeds.{Did}
@@ -48,7 +48,7 @@ returns-in-Err-clause-err g c =
       ends = ends_unheard g.K.Keeper.model k _ (by_just one) _ _ (ids_of c.args.self.now.pending.now.items) c.args.framer.now e 0 alone c.requires.opened
           just c.in-Err.ensures.hearing;
       told_are = unheard_counts e became _ _ c.args.framer.now _ none_counted c.in-Err.ensures.err c.counts_of-counts.ensures;
-      at_most = λ _ _ (before : Kept) h. holds_under g.K.Keeper.model before k _ h;
+      at_most = λ _ _ (before : KeptRecords) h. holds_under g.K.Keeper.model before k _ h;
       firm = λ _ _ firm. firm;
       failed = by.1;
       store = c.requires.going ∙ sym by.0;
@@ -117,7 +117,7 @@ returns-in-Err-serve_messages-clause-err g c =
           (s.quiet.receive_failures ∙ c.in-Ok.ensures.ok.came.receive_failures);
       told_are = fault_counts c.ended_of.result p r none_counted c.ended_of.ensures.fault
           (s.quiet.receive_failures ∙ c.in-Ok.ensures.ok.came.receive_failures);
-      at_most = λ confirms intact (before : Kept) h. s.at_most (c.in-Ok.ensures.hearing.confirms ∙ confirms) (subst (IsIntact k') e intact) before h;
+      at_most = λ confirms intact (before : KeptRecords) h. s.at_most (c.in-Ok.ensures.hearing.confirms ∙ confirms) (subst (IsIntact k') e intact) before h;
       failed = subst (λ x. FailedBy (ended_port x) p.failures r.failures) (sym e)
           (subst (λ n. FailedBy (ended_port (ended_at c.in-Err-serve_messages.fault)) n r.failures) c.in-Ok.ensures.ok.came.failures s.failed);
       firm = λ isnt. s.firm_still (ap ended_store (sym e) ∙ isnt);
@@ -159,7 +159,7 @@ returns-in-Ok-finish-clause-ok g c =
           (omega (arith, ap length c.as_slice-slice.ensures.value, took.few, took.at, c.in-Ok.ensures.fed, short, room)) s.below);
       going = s.going;
       firm = s.firm;
-      more = λ confirms honest (before : Kept) h. s.more (c.in-Ok.ensures.hearing.confirms ∙ confirms) honest before h;
+      more = λ confirms honest (before : KeptRecords) h. s.more (c.in-Ok.ensures.hearing.confirms ∙ confirms) honest before h;
       failures = s.failures ∙ heard.came.failures;
       receive_failures = s.quiet.receive_failures ∙ heard.came.receive_failures;
       not_ended = record { ends = s.quiet.ends ∙ heard.came.ends; has_ended = s.quiet.has_ended ∙ heard.came.has_ended };
@@ -208,7 +208,7 @@ returns-clause-err g c =
           progress 0 e fin.1 heard (λ b two. just_more (one_heard heard.came.result heard.received) work.deeds b _ two turn.1)
           c.in-Ok.ensures.hearing c.as_slice-slice.ensures.value (omega (arith, c.fed.ensures, c.held.ensures)) just s.quiet;
       told_are = finished_counts e _ _ _ c.in-Err-finish.served.counts progress.counts fin.1 _ fin.0;
-      at_most = λ confirms is (before : Kept) h. holds_under g.K.Keeper.model before k' _ (s.more (c.in-Ok.ensures.hearing.confirms ∙ confirms) is.honest
+      at_most = λ confirms is (before : KeptRecords) h. holds_under g.K.Keeper.model before k' _ (s.more (c.in-Ok.ensures.hearing.confirms ∙ confirms) is.honest
           before h);
       failed = subst (λ b. FailedBy b (g.P.Port.told c.args.self.now.port.now).failures (g.P.Port.told c.serve_messages.new.self.port.now).failures)
           (sym by.1) (s.failures ∙ heard.came.failures);

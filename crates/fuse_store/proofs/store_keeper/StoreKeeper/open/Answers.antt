@@ -1,24 +1,30 @@
 use Rattle.std.proofs.Common.{None, false, sym, ◌∙◌}
 use Rattle.sqlite.specs.Held.{state}
-use Rattle.fuse_tree.specs.Rows.{rowed}
+use Rattle.fuse_tree.specs.Rowed.{rowed}
 use Rattle.fuse_init.specs.declared.profile.Profile.TheVariants as profiles
 use Rattle.fuse_store_tables.specs.inner.Following.{earlier}
 use Rattle.fuse_store_tree.specs.Store.{records_of}
 use Rattle.fuse_store.specs.Opening.{opened_for}
 use Rattle.fuse_store.proofs.Serving.{holds_at, firm, rests_unknown}
 use Rattle.fuse_store.proofs.Grouping.{its_own}
-use Rattle.fuse_store.proofs.Reopening.{not_busy}
+use Rattle.fuse_store.proofs.Reopening.{not_busy, is_undone, once_seen}
 use Rattle.fuse_store.proofs.store_keeper.StoreKeeper.open.Goals as goal
+
+pub returns-in-Ok-Plain-clause-profile : goal.returns-in-Ok-Plain-clause-profile
+returns-in-Ok-Plain-clause-profile g c = λ clean z was. sym (c.in-Ok-Plain.ensures.profile clean z was) ∙ c.in-Ok-Plain.field-0-is
+
+pub returns-in-Ok-Everyday-clause-profile : goal.returns-in-Ok-Everyday-clause-profile
+returns-in-Ok-Everyday-clause-profile g c = λ clean z was. sym (c.in-Ok-Everyday.ensures.profile clean z was) ∙ c.in-Ok-Everyday.field-0-is
 
 pub returns-in-Ok-Plain-clause-holds : goal.returns-in-Ok-Plain-clause-holds
 returns-in-Ok-Plain-clause-holds g c = λ clean z was.
     holds_at c.one_holding.ensures None (state g.S.Store c.set_up_for.new.conn) (opened_for z) (rowed (opened_for z).tree) (records_of (opened_for z).kept)
-    (rests_unknown (opened_for z) (state g.S.Store c.set_up_for.new.conn) (c.in-Ok-Plain.ensures.ok clean z was)) (its_own (opened_for z))
+    (returns-in-Ok-Plain-clause-profile g c clean z was) (rests_unknown (opened_for z) (state g.S.Store c.set_up_for.new.conn) (c.in-Ok-Plain.ensures.ok clean z was)) (its_own (opened_for z))
 
 pub returns-in-Ok-Everyday-clause-holds : goal.returns-in-Ok-Everyday-clause-holds
 returns-in-Ok-Everyday-clause-holds g c = λ clean z was.
     holds_at c.one_holding.ensures None (state g.S.Store c.set_up_for.new.conn) (opened_for z) (rowed (opened_for z).tree) (records_of (opened_for z).kept)
-    (rests_unknown (opened_for z) (state g.S.Store c.set_up_for.new.conn) (c.in-Ok-Everyday.ensures.ok clean z was)) (its_own (opened_for z))
+    (returns-in-Ok-Everyday-clause-profile g c clean z was) (rests_unknown (opened_for z) (state g.S.Store c.set_up_for.new.conn) (c.in-Ok-Everyday.ensures.ok clean z was)) (its_own (opened_for z))
 
 pub returns-in-Ok-Plain-clause-lots : goal.returns-in-Ok-Plain-clause-lots
 returns-in-Ok-Plain-clause-lots g c = λ clean z was.
@@ -63,6 +69,7 @@ returns-in-Ok-Plain-clause-rows g c =
       alone = λ other. c.in-Ok-Plain.ensures.alone (not_busy a.in_transaction c.in-Ok-Plain.ensures.busy) other;
       opened = c.in-Ok-Plain.ensures.rows.done;
       ended = λ clean. c.in-Ok-Plain.ensures.ended clean (c.in-Ok-Plain.ensures.was clean).1;
+      once = once_seen a (state g.S.Store c.set_up_for.new.conn) _ c.in-Ok-Plain.ensures.once;
     }
 
 pub returns-in-Ok-Everyday-clause-rows : goal.returns-in-Ok-Everyday-clause-rows
@@ -72,6 +79,7 @@ returns-in-Ok-Everyday-clause-rows g c =
       alone = λ other. c.in-Ok-Everyday.ensures.alone (not_busy a.in_transaction c.in-Ok-Everyday.ensures.busy) other;
       opened = c.in-Ok-Everyday.ensures.rows.done;
       ended = λ clean. c.in-Ok-Everyday.ensures.ended clean (c.in-Ok-Everyday.ensures.was clean).1;
+      once = once_seen a (state g.S.Store c.set_up_for.new.conn) _ c.in-Ok-Everyday.ensures.once;
     }
 
 pub returns-in-Ok-Plain-clause-busy : goal.returns-in-Ok-Plain-clause-busy
@@ -92,10 +100,6 @@ returns-in-Err-clause-refused g c = record {
   refused = c.in-Err.ensures.refused;
   alone = c.in-Err.ensures.alone;
   ended = c.in-Err.ensures.ended;
+  undone =
+      is_undone (state g.S.Store c.args.conn) (state g.S.Store c.set_up_for.new.conn) c.in-Err.fault c.in-Err.ensures.undone c.in-Err.ensures.once;
 }
-
-pub returns-in-Ok-Plain-clause-profile : goal.returns-in-Ok-Plain-clause-profile
-returns-in-Ok-Plain-clause-profile g c = λ clean z was. sym (c.in-Ok-Plain.ensures.profile clean z was) ∙ c.in-Ok-Plain.field-0-is
-
-pub returns-in-Ok-Everyday-clause-profile : goal.returns-in-Ok-Everyday-clause-profile
-returns-in-Ok-Everyday-clause-profile g c = λ clean z was. sym (c.in-Ok-Everyday.ensures.profile clean z was) ∙ c.in-Ok-Everyday.field-0-is

@@ -1,6 +1,6 @@
 use Rattle.std.proofs.Common.{None, false, sym, ◌∙◌}
 use Rattle.sqlite.specs.Held.{state}
-use Rattle.fuse_tree.specs.Rows.{rowed}
+use Rattle.fuse_tree.specs.Rowed.{rowed}
 use Rattle.fuse_init.specs.declared.profile.Profile.TheVariants as profiles
 use Rattle.fuse_store_tables.specs.inner.Following.{earlier}
 use Rattle.fuse_store_tree.specs.Store.{records_of}
@@ -10,17 +10,24 @@ use Rattle.fuse_store.specs.Starting.{begun_for}
 use Rattle.fuse_store.proofs.Serving.{holds_at, firm, rests_unknown}
 use Rattle.fuse_store.proofs.Grouping.{its_own}
 use Rattle.fuse_store.proofs.Beginning.{begun_after, clears_all}
+use Rattle.fuse_store.proofs.Reopening.{is_undone, once_seen}
 use Rattle.fuse_store.proofs.store_keeper.StoreKeeper.open_begun.Goals as goal
+
+pub returns-in-Ok-Plain-clause-profile : goal.returns-in-Ok-Plain-clause-profile
+returns-in-Ok-Plain-clause-profile g c = λ clean z was. sym (c.in-Ok-Plain.ensures.profile clean z was) ∙ c.in-Ok-Plain.field-0-is
+
+pub returns-in-Ok-Everyday-clause-profile : goal.returns-in-Ok-Everyday-clause-profile
+returns-in-Ok-Everyday-clause-profile g c = λ clean z was. sym (c.in-Ok-Everyday.ensures.profile clean z was) ∙ c.in-Ok-Everyday.field-0-is
 
 pub returns-in-Ok-Plain-clause-holds : goal.returns-in-Ok-Plain-clause-holds
 returns-in-Ok-Plain-clause-holds g c = λ clean z was.
     holds_at c.one_holding.ensures None (state g.S.Store c.set_up_begun.new.conn) (begun_for z) (rowed (begun_for z).tree) (records_of (begun_for z).kept)
-    (rests_unknown (begun_for z) (state g.S.Store c.set_up_begun.new.conn) (c.in-Ok-Plain.ensures.begun clean z was)) (its_own (begun_for z))
+    (returns-in-Ok-Plain-clause-profile g c clean z was) (rests_unknown (begun_for z) (state g.S.Store c.set_up_begun.new.conn) (c.in-Ok-Plain.ensures.begun clean z was)) (its_own (begun_for z))
 
 pub returns-in-Ok-Everyday-clause-holds : goal.returns-in-Ok-Everyday-clause-holds
 returns-in-Ok-Everyday-clause-holds g c = λ clean z was.
     holds_at c.one_holding.ensures None (state g.S.Store c.set_up_begun.new.conn) (begun_for z) (rowed (begun_for z).tree) (records_of (begun_for z).kept)
-    (rests_unknown (begun_for z) (state g.S.Store c.set_up_begun.new.conn) (c.in-Ok-Everyday.ensures.begun clean z was)) (its_own (begun_for z))
+    (returns-in-Ok-Everyday-clause-profile g c clean z was) (rests_unknown (begun_for z) (state g.S.Store c.set_up_begun.new.conn) (c.in-Ok-Everyday.ensures.begun clean z was)) (its_own (begun_for z))
 
 pub returns-in-Ok-Plain-clause-begins : goal.returns-in-Ok-Plain-clause-begins
 returns-in-Ok-Plain-clause-begins g c = λ clean z was s h t stands.
@@ -72,12 +79,14 @@ pub returns-in-Ok-Plain-clause-rows : goal.returns-in-Ok-Plain-clause-rows
 returns-in-Ok-Plain-clause-rows g c = record {
   begun = c.in-Ok-Plain.ensures.rows.done;
   ended = λ clean. c.in-Ok-Plain.ensures.ended clean (c.in-Ok-Plain.ensures.was clean).1;
+  once = once_seen (state g.S.Store c.args.conn) (state g.S.Store c.set_up_begun.new.conn) _ c.in-Ok-Plain.ensures.once;
 }
 
 pub returns-in-Ok-Everyday-clause-rows : goal.returns-in-Ok-Everyday-clause-rows
 returns-in-Ok-Everyday-clause-rows g c = record {
   begun = c.in-Ok-Everyday.ensures.rows.done;
   ended = λ clean. c.in-Ok-Everyday.ensures.ended clean (c.in-Ok-Everyday.ensures.was clean).1;
+  once = once_seen (state g.S.Store c.args.conn) (state g.S.Store c.set_up_begun.new.conn) _ c.in-Ok-Everyday.ensures.once;
 }
 
 pub returns-in-Ok-Plain-clause-busy : goal.returns-in-Ok-Plain-clause-busy
@@ -93,15 +102,12 @@ pub returns-in-Err-clause-refused : goal.returns-in-Err-clause-refused
 returns-in-Err-clause-refused g c = record {
   crash = c.in-Err.ensures.crash;
   kept = c.in-Err.ensures.kept;
-  outside = c.in-Err.ensures.fault;
+  outside = λ clean z was _. c.in-Err.ensures.fault clean z was;
   says = c.in-Err.ensures.says;
   refused = c.in-Err.ensures.refused;
   alone = c.in-Err.ensures.alone;
   ended = c.in-Err.ensures.ended;
+  undone =
+      is_undone (state g.S.Store c.args.conn) (state g.S.Store c.set_up_begun.new.conn) c.in-Err.fault c.in-Err.ensures.undone
+      c.in-Err.ensures.once;
 }
-
-pub returns-in-Ok-Plain-clause-profile : goal.returns-in-Ok-Plain-clause-profile
-returns-in-Ok-Plain-clause-profile g c = λ clean z was. sym (c.in-Ok-Plain.ensures.profile clean z was) ∙ c.in-Ok-Plain.field-0-is
-
-pub returns-in-Ok-Everyday-clause-profile : goal.returns-in-Ok-Everyday-clause-profile
-returns-in-Ok-Everyday-clause-profile g c = λ clean z was. sym (c.in-Ok-Everyday.ensures.profile clean z was) ∙ c.in-Ok-Everyday.field-0-is

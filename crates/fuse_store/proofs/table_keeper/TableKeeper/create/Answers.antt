@@ -4,7 +4,7 @@ use Rattle.fuse_init.specs.declared.profile.Profile.{Profile}
 use Rattle.fuse_tree.specs.State.{new_store}
 use Rattle.fuse_store_tables.specs.Moves.{RestsAs}
 use Rattle.fuse_store_tree.specs.Holding.{HeldFor}
-use Rattle.fuse_tree.specs.Rows.{rowed}
+use Rattle.fuse_tree.specs.Rowed.{rowed}
 use Rattle.fuse_store_tables.specs.inner.Following.{earlier}
 use Rattle.fuse_store_tree.specs.Store.{records_of}
 use Rattle.fuse_store.specs.Creating.{new_holding}
@@ -25,6 +25,7 @@ returns-in-Ok-clause-stands g c = λ clean is_open.
       held =
           holds_at c.one_holding.ensures None (state g.S.Store c.make_for.new.conn) (new_holding g.P.Profiled.PROFILE c.args.capacity c.args.from)
           (rowed (new_store g.P.Profiled.PROFILE c.args.capacity c.args.from)) (records_of [])
+          (new_profile g.P.Profiled.PROFILE c.args.capacity c.args.from)
           (rests_unknown (new_holding g.P.Profiled.PROFILE c.args.capacity c.args.from) (state g.S.Store c.make_for.new.conn) at)
           (its_own (new_holding g.P.Profiled.PROFILE c.args.capacity c.args.from));
       stands =
@@ -58,3 +59,8 @@ returns-in-Err-clause-busy g c = c.in-Err.ensures.busy
 
 pub returns-in-Ok-clause-medium : goal.returns-in-Ok-clause-medium
 returns-in-Ok-clause-medium g c = record { honest = (λ honest. honest, λ clean. clean); memory = (λ memory. memory, λ memory. memory) }
+
+pub returns-in-Ok-clause-held : goal.returns-in-Ok-clause-held
+returns-in-Ok-clause-held g c = λ clean is_open.
+    subst (λ (p : Profile). RestsAs (HeldFor (new_holding p c.args.capacity c.args.from)) (state g.S.Store c.make_for.new.conn)) c.PROFILE.ensures
+    (c.in-Ok.ensures.done clean is_open)

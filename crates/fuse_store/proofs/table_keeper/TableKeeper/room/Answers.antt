@@ -1,6 +1,7 @@
 use Rattle.std.proofs.Common.{◌∙◌, sym, ap}
 use Rattle.sqlite.specs.Held.{state}
-use Rattle.fuse_tree.specs.Rows.{Rows, rowed}
+use Rattle.fuse_rows.specs.Rows.{Rows}
+use Rattle.fuse_tree.specs.Rowed.{rowed}
 use Rattle.fuse_store.proofs.Peeking.{looked_well, looked_wrong}
 use Rattle.fuse_store.proofs.table_keeper.TableKeeper.room.Goals as goal
 

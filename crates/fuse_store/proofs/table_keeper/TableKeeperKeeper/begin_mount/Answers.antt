@@ -61,3 +61,23 @@ returns-in-Err-clause-crash g c =
 
 pub returns-in-Err-clause-undone : goal.returns-in-Err-clause-undone
 returns-in-Err-clause-undone g c = c.in-Err.ensures.undone
+
+-- ---- whatever the rows are
+
+pub returns-in-Ok-clause-held : goal.returns-in-Ok-clause-held
+returns-in-Ok-clause-held g c = c.in-Ok.ensures.serves
+
+pub returns-in-Err-clause-held : goal.returns-in-Err-clause-held
+returns-in-Err-clause-held g c = c.in-Err.ensures.serves
+
+pub returns-in-Ok-clause-rows : goal.returns-in-Ok-clause-rows
+returns-in-Ok-clause-rows g c = c.in-Ok.ensures.rows
+
+pub returns-in-Err-clause-rows : goal.returns-in-Err-clause-rows
+returns-in-Err-clause-rows g c = c.in-Err.ensures.rows
+
+pub returns-in-Ok-clause-once : goal.returns-in-Ok-clause-once
+returns-in-Ok-clause-once g c = c.in-Ok.ensures.once
+
+pub returns-in-Err-clause-once : goal.returns-in-Err-clause-once
+returns-in-Err-clause-once g c = c.in-Err.ensures.once

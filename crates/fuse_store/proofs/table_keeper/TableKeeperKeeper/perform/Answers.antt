@@ -1,7 +1,7 @@
 use Rattle.std.proofs.Common.{true, Some, Ok, Err, sym, subst}
 use Rattle.sqlite.specs.Held.{state}
 use Rattle.fuse_keeper.specs.Group.{ids_of, entries_of}
-use Rattle.fuse_tree.specs.Rows.{rowed}
+use Rattle.fuse_tree.specs.Rowed.{rowed}
 use Rattle.fuse_store_tree.specs.Group.{performed}
 use Rattle.fuse_store_tree.specs.Knowing.{Knows}
 use Rattle.fuse_store.proofs.Serving.{firm}
@@ -109,3 +109,15 @@ pub returns-in-Err-clause-once : goal.returns-in-Err-clause-once
 returns-in-Err-clause-once g c =
     let once = c.in-Err.ensures.once in
     record { trees = once.trees; survives = once.survives; made = tt }
+
+-- ---- what is held
+
+pub returns-in-Ok-clause-held : goal.returns-in-Ok-clause-held
+returns-in-Ok-clause-held g c =
+    let serves = c.in-Ok.ensures.serves in
+    record { survives = serves.survives; kept = tt; done = serves.done }
+
+pub returns-in-Err-clause-held : goal.returns-in-Err-clause-held
+returns-in-Err-clause-held g c =
+    let serves = c.in-Err.ensures.serves in
+    record { survives = serves.survives; kept = serves.kept; done = tt }

@@ -7,7 +7,8 @@ use Rattle.fuse_store.specs.Opening.Stored.{Second}
 use Rattle.fuse_store.specs.TableKeeper.{conn_of}
 use Rattle.fuse_store_files.specs.Crashing.{Crashes}
 use Rattle.fuse_store_files.proofs.Crashed.{reopened, was, found_left}
-use Rattle.fuse_store_files.proofs.Found.{wanting, has_some, was_for}
+use Rattle.fuse_store_files.specs.declared.files.Opening.TheVariants.{Existing}
+use Rattle.fuse_store_files.proofs.Found.{wanting, has_some, was_for, left_open, left_crashed}
 use Rattle.fuse_store_files.proofs.crash_keeper.CrashKeeperFileStoreRestart.restart.Goals as goal
 
 pub returns-in-Err-clause-refused : goal.returns-in-Err-clause-refused
@@ -19,6 +20,7 @@ returns-in-Err-clause-refused g c =
       files = cr;
       fault = λ clean whole kept.
           subst IsOutside (sym c.opening_fault.ensures) (wanting left c.in-Err.left c.in-Err.error (c.in-Err.ensures.cause kept) (has_some _ _ (cr.holds clean)));
+      leaves = left_crashed left c.in-Err.left c.in-Err.ensures.unharmed;
     }
 
 pub returns-in-Ok-open-clause-reopened : goal.returns-in-Ok-open-clause-reopened
@@ -63,5 +65,10 @@ returns-in-Err-open-clause-refused g c =
           let h = (found_left g.D.Crashing.crashed conn c.in-Ok.conn left cr c.in-Ok.ensures.opened c.in-Ok.ensures.found now).0 in
           let some = whole (cr.honest (c.in-Ok.ensures.found now).honest) h.trees h.so in
           refused.outside after (Second some.holding)
-          (was g.D.Crashing.crashed conn c.in-Ok.conn left cr c.in-Ok.ensures.opened c.in-Ok.ensures.found now some.holding some.left);
+          (was g.D.Crashing.crashed conn c.in-Ok.conn left cr c.in-Ok.ensures.opened c.in-Ok.ensures.found now some.holding some.left) some.profile;
+      leaves =
+          left_open (image_of g.D.Disk left) Existing c.in-Ok.conn g.met.D.Disk.seen_may_stay c.in-Ok.ensures.opened
+          (λ clean. let found = c.in-Ok.ensures.found clean in record { holds = found.holds; reads = found.reads })
+          (file_state c.in-Err-open.conn) c.into_store.result refused.crash c.into_store.ensures.quiet.clean
+          c.into_store.ensures.quiet.outcomes c.into_store.ensures.sound;
     }

@@ -1,6 +1,7 @@
 use Rattle.std.proofs.Common.{sym, ap, subst, ◌∙◌}
 use Rattle.sqlite.specs.Held.{state}
-use Rattle.fuse_tree.specs.Rows.{Rows, IsRowed, row_at, bytes_at}
+use Rattle.fuse_rows.specs.Rows.{Rows, row_at, bytes_at}
+use Rattle.fuse_tree.specs.Rowed.{IsRowed}
 use Rattle.fuse_store_tree.specs.inner.Reading.{bytes_told}
 use Rattle.fuse_store_tree.proofs.Described.{inside_of, row_told, bytes_are}
 use Rattle.fuse_store_tree.proofs.Few.{sizes_fit}

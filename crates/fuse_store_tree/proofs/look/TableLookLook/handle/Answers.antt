@@ -1,6 +1,7 @@
 use Rattle.std.proofs.Common.{sym, ap, subst, ◌∙◌}
 use Rattle.sqlite.specs.Held.{state}
-use Rattle.fuse_tree.specs.Rows.{Rows, IsRowed, handle_at}
+use Rattle.fuse_rows.specs.Rows.{Rows, handle_at}
+use Rattle.fuse_tree.specs.Rowed.{IsRowed}
 use Rattle.fuse_store_tree.proofs.Described.{inside_of, handle_told}
 use Rattle.fuse_store_tree.proofs.look.TableLookLook.handle.Goals as goal
 

@@ -1,6 +1,7 @@
 use Rattle.std.proofs.Common.{sym, ap, subst, ◌∙◌}
 use Rattle.sqlite.specs.Held.{state}
-use Rattle.fuse_tree.specs.Rows.{Rows, IsRowed, handles_of}
+use Rattle.fuse_rows.specs.Rows.{Rows, handles_of}
+use Rattle.fuse_tree.specs.Rowed.{IsRowed}
 use Rattle.fuse_store_tree.proofs.Described.{inside_of, handles_told}
 use Rattle.fuse_store_tree.proofs.Turning.{content_in}
 use Rattle.fuse_store_tree.proofs.Sure.{failed_so}

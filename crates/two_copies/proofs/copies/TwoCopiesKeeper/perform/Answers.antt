@@ -2,7 +2,8 @@ use Rattle.std.proofs.Common.{refl, inl, ◌∙◌}
 use Rattle.fuse_keeper.specs.PlainKeeper.{plain_told}
 use Rattle.fuse_keeper.specs.Group.{ids_of, entries_of}
 use Rattle.fuse_keeper.specs.Stands.{without}
-use Rattle.two_copies.proofs.Both.{Commits, plain_firm, working_stands, leaves_old, leaves_either, left_held, leaves_held, working_acted, or-true, both_performed, both_taken, both_others, called_working}
+use Rattle.two_copies.proofs.Both.{Commits, plain_firm, working_stands, leaves_old, leaves_either, left_held, leaves_held, working_acted, both_performed, both_taken, both_others, called_working}
+use Rattle.fuse_keeper.proofs.Keeping.{or-true}
 use Rattle.two_copies.proofs.copies.TwoCopiesKeeper.perform.Goals as goal
 
 pub returns-in_ok-commit-in-Ok-clause-ok : goal.returns-in_ok-commit-in-Ok-clause-ok

@@ -1,0 +1,2 @@
+pub mod NumbersOnce
+pub mod Causing

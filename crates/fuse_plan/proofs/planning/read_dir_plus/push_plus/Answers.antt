@@ -1,0 +1,25 @@
+use Rattle.std.proofs.Common.{map, sym}
+use Rattle.std.proofs.lemmas.List.Elements.{All-push}
+use Rattle.fuse_answer.specs.Entries.{directory_entry_of, IsNamed}
+use Rattle.fuse_answer.specs.PlusEntries.{plus_of}
+use Rattle.fuse_plan.specs.inner.PlanPlus.{listed_plus}
+use Rattle.fuse_plan.specs.inner.PlanListing.{IsShown}
+use Rattle.fuse_tree.proofs.Shown.{all_at, one_more}
+use Rattle.fuse_plan.proofs.planning.read_dir_plus.push_plus.Goals as goal
+
+pub returns-in_err-dirent-clause-shown : goal.returns-in_err-dirent-clause-shown
+returns-in_err-dirent-clause-shown c all =
+    absurd (c.in_err-dirent.ensures.shown (all_at IsShown c.args.children.now c.loop-child.child-index c.child-item.result all c.loop-child-test.true
+    (sym c.child-item.is)))
+
+pub loop-child-preserved : goal.loop-child-preserved
+loop-child-preserved c =
+    let before = c.loop-child.invariant in
+    let dirents = c.loop-child.dirents.items in
+    let one = c.in_ok-dirent.ensures in
+    record {
+      named = rw c.in_ok-push.ensures.items (All-push (λ d. IsNamed (directory_entry_of d.dirent)) dirents c.in_ok-dirent.dirent before.named one.named);
+      entries = one_more plus_of (listed_plus c.args.valid) c.args.children.now c.loop-child.child-index c.child-item.result
+          (map plus_of c.args.dirents.now.items) dirents c.push.new.self.items c.in_ok-dirent.dirent c.loop-child-test.true (sym c.child-item.is)
+          c.in_ok-push.ensures.items before.entries one.entry;
+    }

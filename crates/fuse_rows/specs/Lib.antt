@@ -1,0 +1,6 @@
+pub mod Bounds
+pub mod Rows
+pub mod Origins
+pub mod Pieces
+pub mod Columns
+pub mod inner

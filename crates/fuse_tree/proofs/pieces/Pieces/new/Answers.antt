@@ -1,5 +1,0 @@
-use Rattle.fuse_tree.proofs.Ranges.{covers}
-use Rattle.fuse_tree.proofs.pieces.Pieces.new.Goals as goal
-
-pub returns : goal.returns
-returns c = covers c.args.offset c.args.len

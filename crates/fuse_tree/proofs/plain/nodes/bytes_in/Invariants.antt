@@ -1,5 +1,0 @@
-use Rattle.std.specs.Prelude.{◌≡◌, ◌==◌, find, drop}
-use Rattle.fuse_tree.proofs.plain.nodes.bytes_in.Given as goal
-
-abbrev pub invariant-loop-full : goal.invariant-loop-full
-invariant-loop-full l = find (λ f. f.row.node == l.number) (drop l.full-index l.nodes) ≡ find (λ f. f.row.node == l.number) l.nodes
