@@ -57,7 +57,9 @@ static bool is_max_read(const char *word) {
 /* Takes an option that says how servers work. */
 static bool takes_way(struct supervisor *s, const char *word) {
   if (strcmp(word, "wary") == 0) s->wary = true;
-  else if (strcmp(word, "volatile") == 0) s->is_volatile = true;
+  else if (strcmp(word, "durable") == 0) s->way = DURABLE;
+  else if (strcmp(word, "ordered") == 0) s->way = ORDERED;
+  else if (strcmp(word, "volatile") == 0) s->way = VOLATILE;
   else if (strcmp(word, "groups") == 0) s->groups = GROUPS;
   else if (strcmp(word, "nogroups") == 0) s->groups = NO_GROUPS;
   else if (strcmp(word, "nonempty") == 0) s->allows_entries = true;
@@ -155,6 +157,9 @@ int print_help(void) {
     "  wary            the servers suppose less of the disk, and each commit syncs twice\n"
     "  groups, nogroups\n"
     "                  requests that wait together are committed together, or aren't (groups)\n"
+    "  durable         each commit is on the disk before its requests are answered (this is the default)\n"
+    "  ordered         a cut of power loses at most the last five seconds, but nothing before an fsync(2), after the first of which the\n"
+    "                  mount is durable; so it is with sync and dirsync\n"
     "  volatile        nothing is flushed: a cut of power or a crash of the system may lose or damage the whole store\n"
     "  watchdog=N      a server that does nothing for N seconds while there is work is killed (it isn't)\n"
     "  default_permissions\n"
@@ -213,6 +218,11 @@ static bool takes_letter(struct supervisor *s, int letter, bool by_mount) {
   return true;
 }
 
+/* With synchronous writes or directories each change is to be on the disk when its call returns. */
+static void choose_way(struct supervisor *s) {
+  if (s->way == ORDERED && s->flags & (MS_SYNCHRONOUS | MS_DIRSYNC)) s->way = DURABLE;
+}
+
 static bool say_usage(bool by_mount) {
   say("usage: %s", by_mount ? "STORE MOUNTPOINT [-sfnv] [-o OPTIONS]"
                             : "[-df] [-o OPTIONS] STORE MOUNTPOINT; fusekeep-mount --help has more");
@@ -245,6 +255,7 @@ bool read_arguments(struct supervisor *s, int argc, char **argv) {
     if (!takes_letter(s, letter, by_mount)) return false;
     mounts = true;
   }
+  choose_way(s);
   bool is_whole = has_operands(s, argc - optind) && (s->command == MOUNTS || !mounts);
   return is_whole ? fits_profile(s) : say_usage(by_mount);
 }

@@ -1,5 +1,6 @@
 /* The processes that fusekeep-mount starts. */
 #define _GNU_SOURCE
+#include "gather/gather.h"
 #include "supervisor.h"
 #include <errno.h>
 #include <fcntl.h>
@@ -46,7 +47,8 @@ __attribute__((noreturn)) static void end_child(const char *what) {
 static void become_server(const struct supervisor *s) {
   int flags = fcntl(STDIN_FILENO, F_GETFL);
   if (flags < 0 || fcntl(STDIN_FILENO, F_SETFL, flags & ~O_NONBLOCK) != 0) _exit(CANNOT_RUN);
-  if (s->is_volatile && !ignore_flushes()) end_child("seccomp");
+  if (s->way == ORDERED) setenv(ORDERED_VARIABLE, "1", 1);
+  if (s->way == VOLATILE && !ignore_flushes()) end_child("seccomp");
 }
 
 /* An engine has the standard descriptors, those that its library uses, an environment for the library alone, and no privileges. */

@@ -87,7 +87,7 @@ static void server_ended(struct supervisor *s, int status) {
     s->next_start = now() + (use_reserve(s) ? 0 : FULL_PAUSE);
   } else {
     long long pause = count_life(s, status);
-    if (!was_killed(status)) blame_request(s);
+    if (!was_killed(status) && s->report->lost == 0) blame_request(s);
     s->next_start = now() + pause;
     say_end(s, status, pause);
   }
@@ -170,13 +170,13 @@ static void reap(struct supervisor *s) {
     if (child == s->server) server_ended(s, status);
     else if (child == s->probe) probe_ended(s, status);
     else if (child == s->unmounter) unmounter_ended(s, status);
-    else has_copied(s, child, status);
+    else if (!has_flushed(s, child, status)) has_copied(s, child, status);
   }
   look_at_stop(s);
 }
 
-/* The milliseconds until this process must look for itself; below 0 where only events wake it. */
-static int pause_before_look(const struct supervisor *s) {
+/* The milliseconds until this process must look after its server; below 0 where only events wake it. */
+static int pause_for_server(const struct supervisor *s) {
   long long until = s->next_start - now();
   if (s->server == 0 && s->stop_requested && until > SHORT_LIFE) return SHORT_LIFE;
   if (s->server == 0) return until > 0 ? (int)until : 0;
@@ -184,6 +184,12 @@ static int pause_before_look(const struct supervisor *s) {
   int pause = pause_of_watchdog(s);
   if (s->is_full) return pause < 0 || pause > SHORT_LIFE ? SHORT_LIFE : pause;
   return pause < 0 && !s->has_reserve ? FULL_PAUSE : pause;
+}
+
+/* The milliseconds until this process must look for itself; below 0 where only events wake it. */
+static int pause_before_look(const struct supervisor *s) {
+  int server = pause_for_server(s), flush = pause_before_flush(s);
+  return flush >= 0 && (server < 0 || flush < server) ? flush : server;
 }
 
 static void take_signal(struct supervisor *s) {
@@ -208,18 +214,32 @@ static void await_event(struct supervisor *s) {
   if (count > 0 && awaited[1].revents & POLLIN) look_at_files(s);
   if (count > 0 && awaited[2].revents & POLLIN) serve_control(s);
   if (s->server > 0) look_at_server(s);
+  flush_late(s);
+}
+
+static void say_giving_up(struct supervisor *s) {
+  static const char fault[] = "ended by themselves before the kernel took an answer";
+  if (s->trouble == REMOVED) {
+    say("gave up: %s was removed", s->store);
+    return;
+  }
+  if (s->has_hole) {
+    say("gave up: a flush of %s failed, and changes that were acknowledged can't be read again", beside(s, LOG_SUFFIX));
+    add_to_death(s, "gave up: acknowledged changes are lost");
+    return;
+  }
+  say("gave up: %d servers in a row %s, the last one with %s", s->failed_lives, fault, ending(s, s->last_status));
+  add_to_death(s, "gave up: %d servers in a row %s", s->failed_lives, fault);
 }
 
 /* Closes the last descriptor, which ends the connection and all waiting calls. A mount that was ready stays in its place and
  * answers with errors, so that nobody mistakes the directory under it for the store. */
 static int give_up(struct supervisor *s) {
-  static const char fault[] = "ended by themselves before the kernel took an answer";
-  if (s->trouble == REMOVED) say("gave up: %s was removed", s->store);
-  else say("gave up: %d servers in a row %s, the last one with %s", s->failed_lives, fault, ending(s, s->last_status));
+  say_giving_up(s);
   explain(s);
-  if (s->trouble != REMOVED) add_to_death(s, "gave up: %d servers in a row %s", s->failed_lives, fault);
   write_death(s, -1);
   close(s->device);
+  flush_last(s);
   if (s->ready || s->is_unmounted) return FAILED;
   if (s->probe > 0) waitpid(s->probe, NULL, 0);
   pid_t child = start_unmounting(s);
@@ -231,6 +251,7 @@ static int give_up(struct supervisor *s) {
 static void end_waiting_calls(struct supervisor *s) {
   say("%s has no room left: the calls that wait for room end with an error", folder_of(s));
   if (s->server > 0 && kill(s->server, SIGKILL) == 0) waitpid(s->server, NULL, 0);
+  s->server = 0;
   close(s->device);
 }
 
@@ -250,13 +271,14 @@ static int supervise(struct supervisor *s) {
   if (s->probe < 0) stop(s);
   while (!is_stuck(s)) {
     if (s->server == 0 && has_ended(s)) break;
-    if (s->failed_lives == MOST_FAILED_LIVES || (s->server == 0 && s->trouble == REMOVED)) return give_up(s);
+    if (s->failed_lives == MOST_FAILED_LIVES || (s->server == 0 && (s->trouble == REMOVED || s->has_hole))) return give_up(s);
     if (s->server == 0 && now() >= s->next_start) start_server(s);
     await_event(s);
   }
   if (is_stuck(s)) end_waiting_calls(s);
   leave_reserve(s);
   end_children(s);
+  flush_last(s);
   write_death(s, -1);
   say("the connection of %s has ended", s->mountpoint);
   return s->ready || s->stop_requested ? 0 : FAILED;

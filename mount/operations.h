@@ -12,6 +12,7 @@ struct supervisor;
 
 #define CONTROL_SUFFIX "-control"
 #define ENDING_MOUNT "the mount ends"              /* the reason that such a mount gives */
+#define ORDERED_WORD "ordered"                     /* the durability of a mount whose flushes may wait */
 
 enum { REQUEST_SIZE = 32, ANSWER_SIZE = 1 << 16 };             /* bytes */
 enum { MOST_CLIENTS = 8, MOST_FILES = 2, MOST_RESTARTS = 1024 };

@@ -3,8 +3,11 @@
 #include "supervisor.h"
 #include <errno.h>
 #include <fcntl.h>
+#include <stdlib.h>
 #include <string.h>
 #include <sys/mount.h>
+
+enum { PATIENCE = 5000 }; /* milliseconds, for an answer of the mount */
 
 /* Whether the root of this mount is open here. The file is open as a path, so that no server is asked. */
 static bool is_root_of(const struct mounted *found, int file) {
@@ -12,24 +15,34 @@ static bool is_root_of(const struct mounted *found, int file) {
   return found->id == mount_id_of(file) && path_of(file, path) && strcmp(found->place, path) == 0;
 }
 
-/* Applies the words of the table of mounts, and then those of the command line. */
-static unsigned long changed_flags(const struct supervisor *s, char *flags) {
-  char given[OPTIONS_SIZE];
-  unsigned long all = 0;
-  for (char *word = strtok(flags, ","); word; word = strtok(NULL, ",")) apply_flag(word, &all);
-  strcpy(given, s->options);
-  for (char *word = strtok(given, ","); word; word = strtok(NULL, ",")) apply_flag(word, &all);
-  return all;
+static unsigned long apply_words(char *words, unsigned long flags) {
+  for (char *word = strtok(words, ","); word; word = strtok(NULL, ",")) apply_flag(word, &flags);
+  return flags;
 }
 
-/* The old call changes flags alone: for FUSE the kernel ignores all data that comes with it. */
+/* Whether the mount can become synchronous: one that puts off flushes can't, nor one that doesn't say whether it does. */
+static bool can_be_synchronous(const char *store, const char *place) {
+  static struct answer answer;
+  enum silence silence = ask(store, "status", NULL, 0, PATIENCE, &answer);
+  if (silence != ANSWERED) return say_silence(silence, store, &answer), false;
+  char *durability = value_of(&answer, "durability");
+  bool is_ordered = durability && strcmp(durability, ORDERED_WORD) == 0;
+  free(durability);
+  if (is_ordered) say("%s is mounted with ordered: unmount it, and mount it with sync or dirsync", place);
+  return !is_ordered;
+}
+
+/* Applies the words of the table of mounts, and then those of the command line. The old call changes flags alone: for FUSE the kernel
+ * ignores all data that comes with it. */
 static int change(const struct supervisor *s, const char *store, int file, struct mounted *found) {
-  char path[PATH_MAX], link[LINE_SIZE];
+  char path[PATH_MAX], link[LINE_SIZE], given[OPTIONS_SIZE];
   bool is_same = find_store(store, path) && strcmp(found->source, path) == 0;
   if (!is_same) return say("%s isn't mounted on %s: %s is", store, found->place, found->source), FAILED;
   if (geteuid() != 0) return say("only root can remount %s", found->place), FAILED;
   snprintf(link, sizeof link, "/proc/self/fd/%d", file);
-  int status = mount(NULL, link, NULL, MS_REMOUNT | changed_flags(s, found->flags), NULL);
+  unsigned long before = apply_words(found->flags, 0), flags = apply_words(strcpy(given, s->options), before);
+  if (flags & ~before & (MS_SYNCHRONOUS | MS_DIRSYNC) && !can_be_synchronous(path, found->place)) return FAILED;
+  int status = mount(NULL, link, NULL, MS_REMOUNT | flags, NULL);
   return status == 0 || refused(found->place) ? 0 : FAILED;
 }
 

@@ -128,11 +128,17 @@ static const char *state_of(const struct supervisor *s) {
   return s->is_unmounted ? "detached" : "serving";
 }
 
+static const char *durability_of(const struct supervisor *s) {
+  if (s->way == VOLATILE) return "volatile";
+  return s->way == ORDERED && !s->report->is_strict ? ORDERED_WORD : "durable";
+}
+
 void put_status(const struct supervisor *s, struct text *to) {
   put_value(to, "store", s->store);
   put_value(to, "mountpoint", s->mountpoint);
   put_moment(to, "mounted", &s->history.mounted);
   put_value(to, "state", state_of(s));
+  put_value(to, "durability", durability_of(s));
   put(to, "supervisor %d\nserver %d\nservers %llu\n", getpid(), s->server > 0 ? s->server : 0, s->history.servers);
   put_death(s, to);
   put_restarts(s, to);

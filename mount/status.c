@@ -15,7 +15,8 @@ enum { NUMBER_SIZE = 64 };
 
 /* What is printed: words, numbers, and numbers of bytes. */
 static const struct { const char *name; enum { WORDS, NUMBER, BYTES } kind; } lines[] = {
-  {"store", WORDS}, {"mountpoint", WORDS}, {"state", WORDS}, {"mounted", WORDS}, {"supervisor", NUMBER}, {"server", NUMBER},
+  {"store", WORDS}, {"mountpoint", WORDS}, {"state", WORDS}, {"durability", WORDS}, {"mounted", WORDS},
+  {"supervisor", NUMBER}, {"server", NUMBER},
   {"servers", NUMBER}, {"deaths", NUMBER}, {"last_death", WORDS}, {"last_death_signal", NUMBER}, {"last_death_status", NUMBER},
   {"last_death_lived", NUMBER}, {"last_death_line", WORDS}, {"restart_median", NUMBER}, {"restart_longest", NUMBER},
   {"requests", NUMBER}, {"groups", NUMBER}, {"flushes", NUMBER}, {"unanswered", NUMBER}, {"waiting", NUMBER}, {"memory", BYTES}, {"store_bytes", BYTES},

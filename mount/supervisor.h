@@ -62,7 +62,7 @@ struct supervisor {
   bool as_json, replaces;                          /* the state is printed so; the backup may be there already */
   bool foreground, fake, sloppy, remounts;
   bool wary;                                       /* the servers suppose nothing of torn writes */
-  bool is_volatile;                                /* the servers flush nothing */
+  enum { DURABLE, ORDERED, VOLATILE } way;         /* the servers flush each commit, or as a file system does, or nothing */
   enum { BY_DEFAULT, GROUPS, NO_GROUPS } groups;   /* whether a server gets messages that wait together */
   bool shows;                                      /* a line is written for each message */
   const char *profile;                             /* of a new store; NULL where nothing is said */
@@ -85,7 +85,10 @@ struct supervisor {
   struct report *report;                           /* of the server that runs, or ran last */
   struct totals totals;                            /* of the servers before it */
   sigset_t mask;                                   /* with which this process was called */
-  pid_t server, probe, unmounter;                  /* 0 for none */
+  pid_t server, probe, unmounter, flusher;         /* 0 for none */
+  uint64_t paid;                                   /* how many flushes were put off before the last one that was made here */
+  long long next_flush;                            /* before that moment none is tried here */
+  bool has_hole;                                   /* a commit of the log was acknowledged, and is lost */
   bool ready, stop_requested, is_unmounted;
   bool made_store, made_lock, made_log;            /* by this process */
   bool has_store, has_lock;                        /* this process has the file locked */
@@ -232,6 +235,28 @@ bool is_named(const struct supervisor *s, int file, const char *suffix);
 
 /* Removes a file beside the store. */
 void remove_beside(const struct supervisor *s, const char *suffix);
+
+/* late.c */
+
+/* The milliseconds until this process must look for a flush that the server owes; below 0 for any time. */
+int pause_before_flush(const struct supervisor *s);
+
+/* Makes the flush that a server owes and hasn't made in time. */
+void flush_late(struct supervisor *s);
+
+/* Whether a child that ended was the one that flushes. */
+bool has_flushed(struct supervisor *s, pid_t child, int status);
+
+/* Learns how the flush ended in which a server was killed. */
+void flush_for_killed(struct supervisor *s);
+
+/* Makes the flush that is owed when the mount ends. */
+void flush_last(struct supervisor *s);
+
+/* frames.c */
+
+/* The place after the last commit of a log; 0 where it has none. */
+off_t end_of_commits(int log);
 
 /* locks.c */
 
@@ -433,6 +458,9 @@ void look_at_files(struct supervisor *s);
 
 /* Whether a server may be started. A removed log is written anew first. */
 bool can_start(struct supervisor *s);
+
+/* Writes the log anew after a flush of it failed. Where it lacks a commit that was acknowledged it stays, and `has_hole` is set. */
+bool replace_log(struct supervisor *s);
 
 /* device.c */
 

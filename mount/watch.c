@@ -89,14 +89,22 @@ static bool copy_log(const struct supervisor *s, int file) {
   return fsync(file) == 0;
 }
 
-/* Writes the removed log anew, whole or not at all. Its bytes are there as long as it is open here. */
+/* Whether a copy of the log has all commits that were acknowledged. If a flush failed, the kernel may have lost what it couldn't write. */
+static bool has_all_commits(struct supervisor *s, int file) {
+  s->has_hole = s->report->lost != 0 && end_of_commits(file) < (off_t)s->report->acknowledged;
+  return !s->has_hole;
+}
+
+/* Writes the log anew, whole or not at all. Its bytes are there as long as it is open here, also if it was removed. */
 static bool restore_log(struct supervisor *s) {
   char made[PATH_SIZE];
   remove_beside(s, NEW_LOG_SUFFIX);
   int file = open_beside(s, NEW_LOG_SUFFIX, O_RDWR | O_CREAT, NULL);
   if (file < 0) return unwritable(beside(s, NEW_LOG_SUFFIX));
   strcpy(made, name_beside(s, NEW_LOG_SUFFIX));
-  bool is_copied = lock_bytes(file) && copy_log(s, file) && renameat(s->folder, made, s->folder, name_beside(s, LOG_SUFFIX)) == 0;
+  bool is_copied = lock_bytes(file) && copy_log(s, file);
+  if (is_copied && !has_all_commits(s, file)) return close(file), remove_beside(s, NEW_LOG_SUFFIX), false;
+  is_copied = is_copied && renameat(s->folder, made, s->folder, name_beside(s, LOG_SUFFIX)) == 0;
   if (!is_copied) return close(file), unwritable(beside(s, LOG_SUFFIX));
   fsync(s->folder);
   close(s->log_file);
@@ -105,8 +113,16 @@ static bool restore_log(struct supervisor *s) {
   return true;
 }
 
+bool replace_log(struct supervisor *s) {
+  if (!restore_log(s)) return false;
+  say("a flush of %s failed, so it was written anew", beside(s, LOG_SUFFIX));
+  s->report->lost = s->report->owed = 0;
+  return true;
+}
+
 bool can_start(struct supervisor *s) {
   look_at_files(s);
+  flush_for_killed(s);
   if (s->trouble == LOG_REMOVED && restore_log(s)) look_at_files(s);
-  return s->trouble == NO_TROUBLE;
+  return s->trouble == NO_TROUBLE && (s->report->lost == 0 || replace_log(s));
 }

@@ -1,6 +1,6 @@
 # fish completion of fusekeep-mount(8)
 set -l options ro rw remount suid nosuid dev nodev exec noexec async sync dirsync atime noatime diratime nodiratime relatime norelatime \
-    strictatime allow_other max_read= profile=plain profile=everyday size= wary groups nogroups volatile watchdog=
+    strictatime allow_other max_read= profile=plain profile=everyday size= wary groups nogroups durable ordered volatile watchdog=
 complete -c fusekeep-mount -s d -d "Write a line for each request and each answer"
 complete -c fusekeep-mount -s f -d "Stay in the foreground"
 complete -c fusekeep-mount -s o -xa "(__fish_append , $options)" -d "Mount options"

@@ -134,6 +134,8 @@ static void confine_to_calls(void) {
   put(&program, BPF_LD | BPF_W | BPF_ABS, offsetof(struct seccomp_data, nr), 0, 0);
   for (size_t i = 0; i < sizeof signalling / sizeof *signalling; i++) put_refusal(&program, SYS_fcntl, 1, signalling[i]);
   for (size_t i = 0; i < FREE_CALLS; i++) put_call(&program, free_calls[i]);
+  if (is_ordered()) put_call(&program, SYS_fstatfs);
+  if (is_ordered()) put_call_if(&program, SYS_fallocate, 1, BPF_JEQ, FALLOC_FL_ZERO_RANGE, true);
   put_call_if(&program, SYS_mmap, 2, BPF_JSET, PROT_EXEC, false);
   put_call_if(&program, SYS_mprotect, 2, BPF_JSET, PROT_EXEC, false);
   put_call_if(&program, SYS_fchmod, 1, BPF_JSET, (uint32_t)~(S_IRUSR | S_IWUSR), false);

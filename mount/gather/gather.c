@@ -83,6 +83,7 @@ static ssize_t take_turn(void) {
   ssize_t first;
   begin = end = 0;
   end_turn();
+  pay_in_time(STDIN_FILENO);
   do first = take();
   while (first > 0 && end == 0);
   if (first <= 0) return first;
@@ -106,9 +107,10 @@ ssize_t read(int file, void *to, size_t size) {
   return (ssize_t)size;
 }
 
-/* An answer, or a notice, is one write. */
+/* An answer, or a notice, is one write. When a FSYNC is answered, what was written is on the disk. */
 ssize_t write(int file, const void *from, size_t size) {
   bool is_answer = file == STDOUT_FILENO && has_device();
+  if (is_answer && answers_flush(from, size)) pay_for_answer(from);
   ssize_t done = syscall(SYS_write, file, from, size);
   int error = done < 0 ? errno : 0;
   if (is_answer) note_answer(from, size, done >= 0);

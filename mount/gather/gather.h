@@ -8,15 +8,22 @@
 #include <sys/types.h>
 
 /* The environment of an engine: STORE the path of the one store that it may open, LOCKED the two descriptors of its files that
- * fusekeep-mount has locked; of a server, GROUPS where its reads gather, and LINES the descriptor for a line for each message. */
+ * fusekeep-mount has locked; of a server, GROUPS where its reads gather, ORDERED where flushes of the log may be put off, and LINES the
+ * descriptor for a line for each message. */
 #define STORE_VARIABLE "FUSEKEEP_STORE"
 #define GROUPS_VARIABLE "FUSEKEEP_GROUPS"
+#define ORDERED_VARIABLE "FUSEKEEP_ORDERED"
 #define LINES_VARIABLE "FUSEKEEP_LINES"
 #define LOCKED_VARIABLE "FUSEKEEP_LOCKED"
 
 enum { NOTIFY_RESEND = 7, NOTIFY_INC_EPOCH = 8 }; /* of newer headers of the kernel */
 
+enum { HEADER_SIZE = 32 }; /* bytes of the header of a log */
+
 /* work.c */
+
+/* Milliseconds of the monotonic clock. */
+uint64_t milliseconds(void);
 
 /* An id without bit 63, which a request has that is sent again. */
 uint64_t plain_id(uint64_t unique);
@@ -41,6 +48,53 @@ void note_commit(void);
 
 /* Answers a request that isn't to be handed on, and returns whether it is one. */
 bool refuse_request(const char *message, size_t size);
+
+/* Whether this answers a FSYNC or FSYNCDIR of this turn. */
+bool answers_flush(const char *answer, size_t size);
+
+/* ordered.c */
+
+/* Whether flushes of the log may be put off. */
+bool is_ordered(void);
+
+/* The log: it was opened; it is cut; whether a file is it; whether one is open; it is closed. */
+void open_log(int file);
+void cut_log(void);
+bool is_log(int file);
+bool has_log(void);
+void close_log(void);
+
+/* Flushes the log, by this system call. The process ends where that fails and a flush was owed. */
+int flush_log(long call);
+
+/* Flushes the log as the server asks for, or owes it. */
+int sync_log(long call);
+
+/* Makes the flush that is owed, if one is; for the answer of a FSYNC or FSYNCDIR. */
+void pay(void);
+void pay_for_answer(const char *answer);
+
+/* Waits for a message of the device, and makes a flush that is due before one is there. */
+void pay_in_time(int device);
+
+/* zeros.c */
+
+/* The log was opened or cut, so that nothing is known of it. */
+void begin_zeros(void);
+
+/* The server writes to the log. False, with an error, where a flush had to be made before and failed. */
+bool note_write(int log, const void *from, size_t size, off_t at);
+
+/* The same, for where the last commit ends. */
+void note_end(const void *from, size_t size, off_t at);
+
+/* Whether the flush that the server asks for now may be put off; whether anything was written since the last one that was made. */
+bool may_put_off(void);
+bool has_unflushed(void);
+
+/* Say that the log was flushed; and that the server has asked for it, and whether it was made. */
+void note_flushed(void);
+void note_asked(bool is_made);
 
 /* hold.c */
 

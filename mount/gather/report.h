@@ -11,6 +11,7 @@
 enum { WORK_NAME_SIZE = 256 }; /* bytes of a name, with the zero at its end; a longer one is cut */
 enum { GATHERED_MOST = 16 };   /* requests of a turn, which a server commits together */
 enum { KEPT_BACK = 16 };       /* requests that need more room than there is */
+enum { OWED_TIME = 5000 };     /* milliseconds after which a flush that is owed is made */
 
 struct counts {
   _Atomic uint64_t requests; /* read from the device */
@@ -30,6 +31,7 @@ struct report {
   _Atomic uint64_t ends;      /* the server gets no more input: fusekeep-mount asks it to end */
   _Atomic uint64_t committed; /* the highest id of those held that a commit may have; 0 while there is none */
   _Atomic uint64_t not_taken; /* the highest id of an answer that the kernel didn't take; 0 for none */
+  _Atomic uint64_t flushing;  /* a flush of the log has begun, and how it ended isn't noted */
 
   _Atomic uint64_t removals;  /* requests given out that may give room back, while the disk is full */
 
@@ -44,6 +46,11 @@ struct report {
   _Atomic uint64_t beyond;
   _Atomic uint64_t is_full;   /* requests that take room aren't given out, and a turn has one request */
   _Atomic uint64_t kept_back[KEPT_BACK]; /* nor are those of these ids, while the disk is full; 0 for none */
+  _Atomic uint64_t is_strict; /* no flush of the log is put off any more */
+  _Atomic uint64_t put_off;   /* flushes of the log that were put off */
+  _Atomic uint64_t owed;      /* when the first of those was put off that are owed; 0 where none is */
+  _Atomic uint64_t acknowledged; /* where the last commit ends for which a flush was reported to a server; 0 where the log has none */
+  _Atomic uint64_t lost;      /* the error of a flush of the log, whose bytes may be in memory alone; 0 for none */
   _Atomic uint64_t refused;   /* the id of a request that the library answers EIO, or drops where it has no answer; 0 for none */
 };
 

@@ -33,7 +33,7 @@ uint64_t plain_id(uint64_t unique) {
   return unique & ~(1ULL << 63);
 }
 
-static uint64_t milliseconds(void) {
+uint64_t milliseconds(void) {
   struct timespec at;
   clock_gettime(CLOCK_MONOTONIC, &at);
   return (uint64_t)at.tv_sec * 1000 + (uint64_t)at.tv_nsec / 1000000;
@@ -124,6 +124,17 @@ void note_answer(const char *answer, size_t size, bool is_taken) {
   if (is_taken && is_asking && shared->notice == 0) shared->notice = milliseconds();
   if (is_taken && id != 0) note_taken(head.unique);
   if (!is_taken && id > shared->not_taken) shared->not_taken = id;
+}
+
+bool answers_flush(const char *answer, size_t size) {
+  struct fuse_out_header head;
+  uint64_t before;
+  if (size < sizeof head) return false;
+  memcpy(&head, answer, sizeof head);
+  const char *found = find_message(plain_id(head.unique), &before);
+  if (found == stop) return false;
+  uint32_t opcode = head_of(found).opcode;
+  return opcode == FUSE_FSYNC || opcode == FUSE_FSYNCDIR;
 }
 
 void note_commit(void) {

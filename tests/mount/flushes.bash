@@ -1,0 +1,240 @@
+# Phases of tests/mount/run: when servers flush, and flushes that fail. Each runs in a folder of its own.
+
+# How many flushes the mount has counted.
+flush_count() {
+  "$program" --status store | sed -n 's/^flushes *//p'
+}
+
+durability() {
+  "$program" --status store | sed -n 's/^durability *//p'
+}
+
+# Makes a hundred directories, and prints how many flushes that took.
+flushes_of_hundred() {
+  local before
+  before=$(flush_count) && mkdir mnt/"$1"-{1..100} && echo $(($(flush_count) - before))
+}
+
+# A mount of each way, and what sync and dirsync make of an ordered one: it is durable then, and isn't remounted so.
+ways_to_flush() {
+  local flushes
+  for options in durable ordered,sync ordered,dirsync; do
+    start store mnt log || return 1
+    expect "$options is durable" [ "$(durability)" = durable ] || return 1
+    flushes=$(flushes_of_hundred "$options") && expect "$options: each is flushed ($flushes)" [ "$flushes" -ge 100 ] || return 1
+    unmount_and_end mnt || return 1
+  done
+  options=sync,ordered,async
+  start store mnt log || return 1
+  expect "it is ordered" [ "$(durability)" = ordered ] || return 1
+  flushes=$(flushes_of_hundred last) && expect "flushes wait ($flushes)" [ "$flushes" -lt 50 ] || return 1
+  refuses_remount sync && refuses_remount dirsync && "$program" -o remount,noatime store mnt || return 1
+  unmount_and_end mnt && options=volatile && start store mnt log || return 1
+  expect "it is volatile" [ "$(durability)" = volatile ] && unmount_and_end mnt
+}
+
+refuses_remount() {
+  if "$program" -o "remount,$1" store mnt 2>line; then
+    echo "it is remounted with $1"
+    return 1
+  fi
+  expect "it says why" grep -q "is mounted with ordered: unmount it" line
+}
+
+# Compiles a library that is preloaded into servers before that of fusekeep-mount: make_preloaded SOURCE NAME VARIABLE=VALUE..
+make_preloaded() {
+  local source=$1 name=$2
+  shift 2
+  "${CC:-cc}" -std=c11 -O2 -Wall -Wextra -shared -fPIC -o "$name.so" "$source" -ldl || return 1
+  make_engine "$name-engine" <<END
+[ "\$4" = --resume ] || LD_PRELOAD=\$PRELOAD exec "$engine" "\$@"
+${*:+export $*}
+LD_PRELOAD=$PWD/$name.so:\$PRELOAD exec "$engine" "\$@"
+END
+}
+
+# An engine that answers FSYNC by ENOSYS is asked once. From then on the mount is durable.
+fsync_unserved() {
+  local flushes
+  options=ordered
+  start store mnt log && echo one >mnt/one || return 1
+  expect "it is ordered" [ "$(durability)" = ordered ] || return 1
+  sync mnt/one && expect "it is durable after an fsync" [ "$(durability)" = durable ] || return 1
+  flushes=$(flushes_of_hundred made) && expect "each is flushed ($flushes)" [ "$flushes" -ge 100 ] || return 1
+  kill -KILL "$("$program" --server store)" && mkdir mnt/two && expect "it stays so" [ "$(durability)" = durable ] || return 1
+  unmount_and_end mnt
+}
+
+# A server that serves FSYNC flushes the log before it answers, and nothing else changes. power/record.c stands for one.
+fsync_served() {
+  local before number
+  make_preloaded "$tests/power/record.c" record && options=ordered && start store mnt log || return 1
+  echo one >mnt/one && mkdir mnt/place || return 1
+  sync mnt/one && before=$(flush_count) || return 1
+  for number in {1..10}; do
+    mkdir "mnt/place/$number" && sync mnt/one && mkdir "mnt/place/again-$number" && sync mnt/place || return 1
+  done
+  expect "each fsync is one flush ($(($(flush_count) - before)))" [ $(($(flush_count) - before)) -eq 20 ] || return 1
+  expect "it is still ordered" [ "$(durability)" = ordered ] && fsync_answers_last && unmount_and_end mnt
+}
+
+# The flush of an fsync comes after its request and before its answer, as strace sees them. FSYNC is of 56 bytes, and its opcode is 20.
+fsync_answers_last() {
+  local found
+  can_trace && mkdir mnt/traced || return 0
+  server=$("$program" --server store) && trace_server calls -e trace=read,write,fdatasync && sync mnt/one || return 1
+  kill "$tracer"
+  wait "$tracer"
+  found=$(grep -A 2 '^read(0, "8\\0\\0\\0\\24\\0\\0\\0' calls | cut -d '(' -f 1 | xargs)
+  expect "a flush, then the answer (it has $found)" [ "$found" = "read fdatasync write" ]
+}
+
+has_lines_of() {
+  [ "$(grep -cE "$2" log)" -ge "$1" ]
+}
+
+# Begins an ordered mount whose servers can't flush the log while the file `fails` is there, with directories that aren't flushed:
+# start_failing VARIABLE=VALUE..
+start_failing() {
+  make_preloaded "$here/fail.c" fail "FAIL_WHILE=$PWD/fails" "$@" && options=ordered && start store mnt log && mkdir mnt/{1..20}
+}
+
+# A flush that is owed fails after five seconds. The server ends, the log is written anew, and nothing is lost. The deaths are no request's.
+late_failure() {
+  local before
+  start_failing && before=$(stat -c %i store-wal) && touch fails || return 1
+  await 20 has_lines_of 1 "a flush that was owed failed; .*-wal: Input/output error" || return 1
+  rm fails
+  await 30 has_lines_of 1 "a flush of .*-wal failed, so it was written anew" || return 1
+  expect "all are there" [ "$(find mnt -mindepth 1 | wc -l)" -eq 20 ] || return 1
+  expect "the log is another file" [ "$(stat -c %i store-wal)" != "$before" ] || return 1
+  expect "the list has the death" grep -qE " status=74 .*a flush that was owed failed" store-mount.log || return 1
+  expect "no request is blamed" [ "$(grep -c EIO log)" -eq 0 ] && mkdir mnt/last && unmount_and_end mnt || return 1
+  options=
+  start store mnt log-again && expect "the next mount has all" [ "$(find mnt -mindepth 1 | wc -l)" -eq 21 ] && unmount_and_end mnt
+}
+
+# An fsync whose flush fails returns when the log was written anew. record.c stands for a server that serves FSYNC.
+late_failure_of_fsync() {
+  local caller
+  "${CC:-cc}" -std=c11 -O2 -Wall -Wextra -shared -fPIC -o record.so "$tests/power/record.c" -ldl || return 1
+  make_preloaded "$here/fail.c" fail "FAIL_WHILE=$PWD/fails" || return 1
+  sed -i "s|LD_PRELOAD=|LD_PRELOAD=$PWD/record.so:|" fail-engine.bash || return 1
+  options=ordered
+  start store mnt log && echo one >mnt/one && touch fails || return 1
+  sync mnt/one &
+  caller=$!
+  record "$caller"
+  await 4 has_lines_of 1 "a flush that was owed failed" && rm fails && wait "$caller" || return 1
+  expect "the log was written anew" has_lines_of 1 "so it was written anew" && expect "it is there" [ "$(cat mnt/one)" = one ] || return 1
+  expect "no request is blamed" [ "$(grep -c EIO log)" -eq 0 ] && unmount_and_end mnt
+}
+
+# A flush that fails for lack of room takes the reserve, and the log is written anew in its room.
+late_failure_without_room() {
+  start_failing FAIL_BY=28 && [ -e store-reserve ] && touch fails || return 1
+  await 20 has_lines_of 1 "has no room left: .*-reserve is given up" && rm fails || return 1
+  await 30 has_lines_of 1 "a flush of .*-wal failed, so it was written anew" && await 30 has_lines_of 1 "there is room again" || return 1
+  expect "all are there" [ "$(find mnt -mindepth 1 | wc -l)" -eq 20 ] && mkdir mnt/last && unmount_and_end mnt
+}
+
+# While the log can't be written anew, calls wait, and no server runs.
+late_failure_waits() {
+  start_failing && mkdir store-wal.new && touch store-wal.new/file fails || return 1
+  await 20 grep -q "store-wal.new can't be written" log || return 1
+  rm fails
+  expect "no server runs" [ "$("$program" --status store | sed -n 's/^server  *//p')" = 0 ] || return 1
+  mkdir mnt/waiting &
+  record $!
+  sleep 1
+  kill -0 $! && rm -r store-wal.new && wait $! || return 1
+  expect "all are there" [ "$(find mnt -mindepth 1 | wc -l)" -eq 21 ] && unmount_and_end mnt
+}
+
+# A disk that fails may have lost what it was to write: the mount doesn't go on without it, and says so.
+late_failure_with_hole() {
+  start_failing && lose_last store-wal && touch fails || return 1
+  await 60 isnt_running "$supervisor"
+  ended 1 || return 1
+  expect "it says why ($(tail -n 2 log))" \
+    grep -q "gave up: a flush of .*-wal failed, and changes that were acknowledged can't be read again" log || return 1
+  expect "the list says so" grep -q "gave up: acknowledged changes are lost" store-mount.log || return 1
+  expect "a look at the mount is an error" is_refused mnt && umount -l mnt && rm fails && export FUSEKEEP=$engine && options= || return 1
+  start store mnt log-again && expect "the next mount has what is left" [ "$(find mnt -mindepth 1 | wc -l)" -lt 20 ] && unmount_and_end mnt
+}
+
+# Zeros in place of the last bytes of a log, before those that it has ahead.
+lose_last() {
+  python3 - "$1" <<'END'
+import sys
+with open(sys.argv[1], "r+b") as log:
+    end = len(log.read().rstrip(b"\0"))
+    log.seek(end - 100)
+    log.write(bytes(100))
+END
+}
+
+# The supervisor flushes the log where a stopped server can't.
+hanging_flushes() {
+  local server
+  options=ordered
+  start store mnt log && mkdir mnt/{1..20} && server=$("$program" --server store) && kill -STOP "$server" || return 1
+  trace_supervisor calls -e trace=fdatasync || return 1
+  await 15 grep -qE 'fdatasync\([0-9]+<.*store-wal>\) *= 0' calls || return 1
+  sleep 8
+  expect "once ($(wc -l <calls))" [ "$(grep -c 'fdatasync(' calls)" -eq 1 ] || return 1
+  kill "$tracer"
+  kill -CONT "$server"
+  expect "the server goes on" mkdir mnt/last || return 1
+  expect "it is the same" [ "$("$program" --server store)" = "$server" ] && unmount_and_end mnt
+}
+
+# The same where that flush fails: the server is killed, and the log is written anew.
+hanging_fails() {
+  options=ordered
+  start store mnt log && mkdir mnt/{1..20} && kill -STOP "$("$program" --server store)" || return 1
+  trace_supervisor calls -e trace=fdatasync -e inject=fdatasync:error=EIO || return 1
+  await 15 has_lines_of 1 "a flush of .*-wal failed: Input/output error" || return 1
+  await 15 has_lines_of 1 "so it was written anew" || return 1
+  kill "$tracer"
+  expect "all are there" [ "$(find mnt -mindepth 1 | wc -l)" -eq 20 ] && unmount_and_end mnt
+}
+
+# A server is killed in a flush that fails, and takes the error along. The supervisor has it by its own descriptor.
+killed_in_flush() {
+  start_failing FAIL_KILLS=1 && trace_supervisor calls -e trace=fdatasync -e inject=fdatasync:error=EIO && touch fails || return 1
+  await 15 has_lines_of 1 "a flush of .*-wal failed: Input/output error" || return 1
+  await 15 has_lines_of 1 "so it was written anew" || return 1
+  kill "$tracer"
+  rm fails
+  grep -A 1 -m 1 "killed by signal 9" log | tail -n 1 >line
+  expect "it is the first thing after the death ($(<line))" grep -q "a flush of .*-wal failed: Input/output error" line || return 1
+  expect "all are there" [ "$(find mnt -mindepth 1 | wc -l)" -eq 20 ] && unmount_and_end mnt
+}
+
+# Follows the supervisor and its children by strace: trace_supervisor FILE WORD..
+trace_supervisor() {
+  local file=$1
+  shift
+  strace -f -y -o "$file" "$@" -p "$supervisor" 2>/dev/null &
+  tracer=$!
+  record "$tracer"
+  await 60 is_traced "$supervisor"
+}
+
+# When the mount gives up, its calls end, and then the log is flushed.
+flushed_at_end() {
+  write_broken_engine
+  options=ordered
+  start store mnt log && mkdir mnt/{1..20} && touch broken || return 1
+  trace_supervisor calls -e trace=fdatasync,close && kill -KILL "$("$program" --server store)" || return 1
+  await 60 isnt_running "$supervisor"
+  ended 1 || return 1
+  expect "the device is closed, and then the log is flushed" flushes_after_device || return 1
+  umount -l mnt && export FUSEKEEP=$engine && options= && start store mnt log-again || return 1
+  expect "all are there" [ "$(find mnt -mindepth 1 | wc -l)" -eq 20 ] && unmount_and_end mnt
+}
+
+flushes_after_device() {
+  grep "^$supervisor " calls | grep -A 99 'close([0-9]*</dev/fuse>)' | grep -q 'fdatasync([0-9]*<.*store-wal>) *= 0'
+}

@@ -1,0 +1,1 @@
+"""Cuts of power, made from the recorded calls of a server."""
