@@ -1,7 +1,9 @@
 -- The settings stay while requests are processed.
-use Rattle.std.proofs.Common.{◌≡◌, ◌≤◌, ℕ, true, false, cond, List, [], ◌∷◌, ◌++◌, length, take, drop, Option, is_some, refl, sym, ap, ◌∙◌}
+use Rattle.std.proofs.Common.{◌≡◌, ◌≤◌, ℕ, true, false, cond, List, [], ◌∷◌, ◌++◌, length, take, drop, Option, is_some, sym, ap, ◌∙◌}
 use Rattle.std.proofs.Common.{subst, arith}
-use Rattle.std.proofs.lemmas.List.{take-append-drop, take-append-le, length-append, length-map, append_assoc}
+use Rattle.std.proofs.lemmas.List.{take-append-drop, take-append-le, length-append, length-map}
+use Rattle.std.proofs.lemmas.List.Concat.{flat_map-append}
+use Rattle.std.proofs.lemmas.List.Sums.{fold-append}
 use Rattle.fuse_request.specs.Opcodes.{OpcodeSet}
 use Rattle.fuse_init.specs.declared.settings.Settings.{Settings}
 use Rattle.fuse_keeper.specs.History.{Entry, entry_id, History, after, has, add, grown}
@@ -32,12 +34,10 @@ some_grown s h (e ∷ es) some = some_grown s (add h e) es (some_added s h e som
 -- ---- the first of the messages, and then the others
 
 grown_more : (h : History) (xs ys : List Entry) → grown h (xs ++ ys) ≡ grown (grown h xs) ys
-grown_more h [] ys = refl
-grown_more h (x ∷ xs) ys = grown_more (add h x) xs ys
+grown_more h xs ys = fold-append add h xs ys
 
 kept_more : (V : OpcodeSet) (xs ys : List Timed) → kept_in V (xs ++ ys) ≡ kept_in V xs ++ kept_in V ys
-kept_more V [] ys = refl
-kept_more V (x ∷ xs) ys = ap (λ (es : List Entry). entries_at V x ++ es) (kept_more V xs ys) ∙ sym (append_assoc (entries_at V x) (kept_in V xs) (kept_in V ys))
+kept_more V xs ys = flat_map-append (entries_at V) xs ys
 
 grown_parts : (h : History) (n : ℕ) (xs : List Timed)
     → grown (grown h (kept_in serves_further (take n xs))) (kept_in serves_further (drop n xs)) ≡ grown h (kept_in serves_further xs)

@@ -1,6 +1,7 @@
 -- A stream port reports no answer as gone, and so settles no id.
-use Rattle.std.proofs.Common.{◌≡◌, ℕ, Bool, true, false, List, [], ◌∷◌, ◌++◌, Option, refl, sym, ap, subst, ◌∙◌, append_assoc, append-nil}
+use Rattle.std.proofs.Common.{◌≡◌, ℕ, Bool, true, false, List, [], ◌∷◌, ◌++◌, Option, refl, sym, ap, subst, ◌∙◌, append-nil}
 use Rattle.std.specs.List.{AllByRecursion, flat_map}
+use Rattle.std.proofs.lemmas.List.Concat.{flat_map-append}
 use Rattle.std.specs.Io.KnownBytes.{append_known}
 use Rattle.fuse_request.specs.Opcodes.{OpcodeSet}
 use Rattle.fuse_keeper.specs.Group.{left_pending}
@@ -47,9 +48,7 @@ none_again V t (m ∷ ms) (mark ∷ marks) each may =
 -- ---- what the keeper was asked to perform
 
 kept_both : (V : OpcodeSet) (xs ys : List Timed) → kept_in V (xs ++ ys) ≡ kept_in V xs ++ kept_in V ys
-kept_both V [] ys = refl
-kept_both V (x ∷ xs) ys =
-    ap (λ (e : List Entry). entries_at V x ++ e) (kept_both V xs ys) ∙ sym (append_assoc (entries_at V x) (kept_in V xs) (kept_in V ys))
+kept_both V xs ys = flat_map-append (entries_at V) xs ys
 
 groups_of : (es : List Entry) (more : List Performance) → flat_map (λ p. p.group) (performances_of es [] ++ more) ≡ es ++ flat_map (λ p. p.group) more
 groups_of [] more = refl

@@ -5,55 +5,19 @@ ghost use Rattle.clap.specs.Matches.{found_of, one_text};
 ghost use Rattle.fuse_commands.specs.Asking.{asked_store_in, BeginsBy, IsNumberIn, IsFlag};
 ghost use Rattle.fuse_commands.specs.Asking.{HasWord, IsRun, AsksRun, ParsesTo};
 
-use crate::asked_store::{
-    AskedStore, asked_store, names_no_owner, with_new_store, without_new_store,
+use crate::asked_store::{AskedStore, asked_store, names_no_owner};
+use crate::program::{
+    AT, CAT, CHECK, DB, DECODE, DUMP, FILE, FRESH, LIST, PATH, REPLAY, RESUME, SCRIPT, SERVE,
+    SIMULATE, STORE, STREAM, VERIFY, WARY, program_command,
 };
 use crate::serve::Begin;
 use clap::error::ErrorKind;
-use clap::{Arg, ArgAction, ArgMatches, Command, Error, value_parser};
+use clap::{ArgMatches, Error};
 use std::alloc::{AllocError, Global};
 use std::convert::AsStr;
 
 /// The file name that means standard input.
 pub const STANDARD_INPUT: &str = "-";
-
-const DUMP: &str = "dump";
-
-const DECODE: &str = "decode";
-
-const CHECK: &str = "check";
-
-const REPLAY: &str = "replay";
-
-const SERVE: &str = "serve";
-
-const SIMULATE: &str = "simulate";
-
-const STORE: &str = "store";
-
-const LIST: &str = "ls";
-
-const CAT: &str = "cat";
-
-const VERIFY: &str = "verify";
-
-const AT: &str = "at";
-
-const DB: &str = "db";
-
-const FRESH: &str = "fresh";
-
-const RESUME: &str = "resume";
-
-const WARY: &str = "wary";
-
-const FILE: &str = "file";
-
-const STREAM: &str = "stream";
-
-const SCRIPT: &str = "script";
-
-const PATH: &str = "path";
 
 /// The path of the root directory of a store.
 const TOP: &str = "/";
@@ -62,8 +26,6 @@ const OWNER_TEXT: &str = "--owner is UID:GID, two decimal numbers below 42949672
 
 const CAPACITY_TEXT: &str =
     "--capacity is for --profile everyday: a multiple of 4096, at most 9223372036854771712";
-
-const STREAM_HELP: &str = "The file of the stream, or - for standard input";
 
 /// What a command line asks for.
 #[derive(Clone, Copy)]
@@ -146,200 +108,6 @@ impl Run<'_> {
             _ => AskedStore::PLAIN,
         }
     }
-}
-
-// A required argument.
-fn needed_argument<'a>(
-    alloc: Global,
-    name: &'static str,
-    value: &'static str,
-    help: &'static str,
-) -> Arg<'a> {
-    Arg::new(alloc, name)
-        .value_name(value)
-        .required(true)
-        .help(help)
-}
-
-// A command over the stream in a file.
-fn file_command<'a>(
-    alloc: Global,
-    name: &'static str,
-    about: &'static str,
-    example: &'static str,
-) -> Result<Command<'a>, AllocError> {
-    let file = needed_argument(alloc, FILE, "FILE", STREAM_HELP);
-    Command::new(alloc, name)
-        .about(about)
-        .after_help(example)
-        .arg(file)
-}
-
-fn dump_command<'a>(alloc: Global) -> Result<Command<'a>, AllocError> {
-    let about = "Prints a line for each message of a stream";
-    let example = "Example:\n  fusekeep dump examples/first-run.stream";
-    file_command(alloc, DUMP, about, example)
-}
-
-fn decode_command<'a>(alloc: Global) -> Result<Command<'a>, AllocError> {
-    let about = "Prints a line for each answer and notice of a stream that a server sent";
-    let example = "Example:\n  fusekeep serve --db notes.store --fresh <in | fusekeep decode -";
-    file_command(alloc, DECODE, about, example)
-}
-
-fn check_command<'a>(alloc: Global) -> Result<Command<'a>, AllocError> {
-    let about = "Counts the messages of a stream";
-    let example = "Example:\n  fusekeep check examples/first-run.stream";
-    file_command(alloc, CHECK, about, example)
-}
-
-fn at_argument<'a>(alloc: Global) -> Arg<'a> {
-    needed_argument(
-        alloc,
-        AT,
-        "SECS",
-        "The second at which all requests are served",
-    )
-    .long(AT)
-    .value_parser(value_parser!(u64))
-}
-
-fn db_argument<'a>(alloc: Global) -> Arg<'a> {
-    Arg::new(alloc, DB)
-        .long(DB)
-        .value_name("FILE")
-        .help("The file of the store, created if it is missing or empty")
-}
-
-// An optional flag.
-fn flag<'a>(alloc: Global, name: &'static str, help: &'static str) -> Arg<'a> {
-    Arg::new(alloc, name)
-        .long(name)
-        .action(ArgAction::SetTrue)
-        .help(help)
-}
-
-fn wary_argument<'a>(alloc: Global) -> Arg<'a> {
-    flag(
-        alloc,
-        WARY,
-        "Supposes nothing of the bytes that a torn write leaves: each commit syncs twice",
-    )
-}
-
-fn replay_command<'a>(alloc: Global) -> Result<Command<'a>, AllocError> {
-    let example =
-        "Example:\n  fusekeep replay --db notes.store --at 1000 examples/first-run.stream";
-    let command = Command::new(alloc, REPLAY)
-        .about("Serves a recorded stream over a new store in memory, or over the store in a file")
-        .after_help(example)
-        .arg(db_argument(alloc))?
-        .arg(wary_argument(alloc).requires_arg(DB)?)?
-        .arg(at_argument(alloc))?
-        .arg(needed_argument(alloc, STREAM, "STREAM", STREAM_HELP))?;
-    with_new_store(alloc, command)
-}
-
-fn serve_command<'a>(alloc: Global) -> Result<Command<'a>, AllocError> {
-    let fresh = "Begins a mount, over a new store if the file is missing or empty";
-    let resume = "Continues a mount: asks the kernel to resend its pending requests";
-    let db = needed_argument(alloc, DB, "FILE", "The file of the store").long(DB);
-    let command = Command::new(alloc, SERVE)
-        .about("Serves requests from standard input to standard output, as they come")
-        .after_help("Example:\n  fusekeep serve --db notes.store --fresh <in >out")
-        .arg(db)?
-        .arg(flag(alloc, FRESH, fresh))?
-        .arg(without_new_store(flag(alloc, RESUME, resume))?)?
-        .arg(wary_argument(alloc))?
-        .arg(at_argument(alloc).required(false))?;
-    with_new_store(alloc, command)
-}
-
-fn simulate_command<'a>(alloc: Global) -> Result<Command<'a>, AllocError> {
-    let help = "The file of the script, or - for standard input";
-    let command = Command::new(alloc, SIMULATE)
-        .about("Runs the events of a script over a new store in memory")
-        .after_help("Example:\n  fusekeep simulate examples/died-after-commit.script")
-        .arg(needed_argument(alloc, SCRIPT, "SCRIPT", help))?;
-    with_new_store(alloc, command)
-}
-
-// A read-only command over the store in a file.
-fn look_command<'a>(
-    alloc: Global,
-    name: &'static str,
-    about: &'static str,
-    example: &'static str,
-) -> Result<Command<'a>, AllocError> {
-    let file = needed_argument(alloc, FILE, "FILE", "The file of the store");
-    Command::new(alloc, name)
-        .about(about)
-        .after_help(example)
-        .arg(file)
-}
-
-fn store_command<'a>(alloc: Global) -> Result<Command<'a>, AllocError> {
-    let about = "Prints a summary of a store, without a mount";
-    look_command(
-        alloc,
-        STORE,
-        about,
-        "Example:\n  fusekeep store notes.store",
-    )
-}
-
-fn list_command<'a>(alloc: Global) -> Result<Command<'a>, AllocError> {
-    let about = "Lists a directory of a store, without a mount";
-    let help = "The path of the directory [default: the root]";
-    let path = needed_argument(alloc, PATH, "PATH", help).required(false);
-    look_command(alloc, LIST, about, "Example:\n  fusekeep ls notes.store a")?.arg(path)
-}
-
-fn cat_command<'a>(alloc: Global) -> Result<Command<'a>, AllocError> {
-    let about = "Prints a file of a store, without a mount";
-    let example = "Example:\n  fusekeep cat notes.store a/readme.txt >readme.txt";
-    let path = needed_argument(alloc, PATH, "PATH", "The path of the file");
-    look_command(alloc, CAT, about, example)?.arg(path)
-}
-
-fn verify_command<'a>(alloc: Global) -> Result<Command<'a>, AllocError> {
-    let about = "Checks the whole tree of a store, without a mount";
-    look_command(
-        alloc,
-        VERIFY,
-        about,
-        "Example:\n  fusekeep verify notes.store",
-    )
-}
-
-// Adds a subcommand.
-fn with_command<'a>(
-    command: Command<'a>,
-    made: Result<Command<'a>, AllocError>,
-) -> Result<Command<'a>, AllocError> {
-    command.subcommand(made?)
-}
-
-// Adds the read-only commands over a store.
-fn with_looks<'a>(alloc: Global, command: Command<'a>) -> Result<Command<'a>, AllocError> {
-    let command = with_command(command, store_command(alloc))?;
-    let command = with_command(command, list_command(alloc))?;
-    let command = with_command(command, cat_command(alloc))?;
-    with_command(command, verify_command(alloc))
-}
-
-fn program_command<'a>(alloc: Global) -> Result<Command<'a>, AllocError> {
-    let command = Command::new(alloc, "fusekeep")
-        .about("Serves FUSE requests, with recovery by resends")
-        .after_help("Example:\n  fusekeep check examples/first-run.stream")
-        .subcommand_required(true);
-    let command = with_command(command, dump_command(alloc))?;
-    let command = with_command(command, decode_command(alloc))?;
-    let command = with_command(command, check_command(alloc))?;
-    let command = with_command(command, replay_command(alloc))?;
-    let command = with_command(command, serve_command(alloc))?;
-    let command = with_command(command, simulate_command(alloc))?;
-    with_looks(alloc, command)
 }
 
 // The second that is given.

@@ -5,8 +5,9 @@ ghost use Rattle.fuse_commands.specs.Asking.{AsksFor, IsNumberIn, IsOwner, IsNam
 ghost use Rattle.fuse_commands.specs.Asking.{profile_named};
 ghost use Rattle.fuse_commands.specs.Scripts.{IsDecimal};
 
+use crate::program::add_argument;
 use crate::script::{number_of, split_at};
-use clap::{Arg, ArgMatches, Command, value_parser};
+use clap::{Arg, ArgMatches, value_parser};
 use fuse_init::Profile;
 use std::alloc::{AllocError, Global};
 
@@ -68,22 +69,18 @@ fn owner_argument<'a>(alloc: Global) -> Arg<'a> {
 }
 
 /// Adds the arguments that say what a new store is.
-pub(crate) fn with_new_store<'a>(
+pub(crate) fn add_new_store<'a>(
     alloc: Global,
-    command: Command<'a>,
-) -> Result<Command<'a>, AllocError> {
-    command
-        .arg(profile_argument(alloc))?
-        .arg(capacity_argument(alloc))?
-        .arg(owner_argument(alloc))
+    arguments: &mut Vec<Arg<'a>>,
+) -> Result<(), AllocError> {
+    add_argument(arguments, profile_argument(alloc))?;
+    add_argument(arguments, capacity_argument(alloc))?;
+    add_argument(arguments, owner_argument(alloc))
 }
 
 /// An argument that may not stand beside these.
 pub(crate) fn without_new_store<'a>(argument: Arg<'a>) -> Result<Arg<'a>, AllocError> {
-    argument
-        .conflicts_with(PROFILE)?
-        .conflicts_with(CAPACITY)?
-        .conflicts_with(OWNER)
+    argument.conflicts_with_all(&[PROFILE, CAPACITY, OWNER])
 }
 
 // The profile of this name.

@@ -13,6 +13,7 @@ mod ending;
 mod input;
 mod messages;
 mod output;
+mod program;
 mod progress;
 mod replay;
 mod script;

@@ -15,10 +15,10 @@ use crate::showing::open_keeper;
 use fuse_commands::Ending;
 use fuse_init::Profiled;
 use fuse_keeper::{Keeper, StoreFault};
+use fuse_plan::rows_tell_state;
 use fuse_session::Sink;
 use fuse_show::{Summary, show_summary};
 use fuse_store::{StoreKeeper, TableKeeper};
-use fuse_tree::rows_tell_state;
 use sqlite::{Alter, Connection};
 use std::alloc::Global;
 

@@ -1,5 +1,5 @@
 -- How many records a map has.
-use Rattle.std.proofs.Common.{◌≡◌, ℕ, Bool, true, false, cond, nat_eq, ◌==◌, if◌then◌else◌, List, [], ◌∷◌, length, is_some, Some, refl, sym, ap, ◌∙◌, arith}
+use Rattle.std.proofs.Common.{◌≡◌, ℕ, ◌||◌, true, false, cond, nat_eq, ◌==◌, List, [], ◌∷◌, length, is_some, Some, refl, sym, ap, ◌∙◌, arith}
 use Rattle.std.proofs.Common.{suc}
 use Rattle.std.specs.HashMap.{HashMap, IsUnique, keys}
 use Rattle.std.specs.Map.{lookup, keys_of}
@@ -14,8 +14,8 @@ turned_test x i = grind arith
 is_key : (es : List (ℕ × Said)) (i : ℕ) → is_in (keys_of es) i ≡ is_some (lookup (nat_eq i) es)
 is_key [] i = refl
 is_key (e ∷ es) i =
-    ap (λ (b : Bool). if b then true else is_in (keys_of es) i) (turned_test e.0 i)
-    ∙ elim (nat_eq i e.0) as (λ b. (if b then true else is_in (keys_of es) i) ≡ is_some (cond b (Some e.1) (lookup (nat_eq i) es)))
+    ap (λ b. b || is_in (keys_of es) i) (turned_test e.0 i)
+    ∙ elim (nat_eq i e.0) as (λ b. (b || is_in (keys_of es) i) ≡ is_some (cond b (Some e.1) (lookup (nat_eq i) es)))
     [ true ↦ refl | false ↦ is_key es i ]
 
 keys_number : (es : List (ℕ × Said)) → length (keys_of es) ≡ length es

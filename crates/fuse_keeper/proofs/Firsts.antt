@@ -1,11 +1,11 @@
 -- The first entries of a group.
-use Rattle.std.proofs.Common.{◌≡◌, ℕ, List, [], ◌∷◌, ◌++◌, map, All, Some, refl, ap, subst}
+use Rattle.std.proofs.Common.{◌≡◌, ℕ, List, [], ◌∷◌, ◌++◌, All, refl, ap, subst}
 use Rattle.fuse_keeper.specs.declared.keeper.Done.{Done}
-use Rattle.fuse_keeper.specs.Model.{Model, IsOfGoodState}
-use Rattle.fuse_keeper.specs.History.{Entry, entry_id, History, after, grown, said, IsUnsettled}
-use Rattle.fuse_keeper.specs.Stands.{KeeperContent, without}
-use Rattle.fuse_keeper.specs.KeeperState.{KeeperState, StandsFor, ActsOn}
-use Rattle.fuse_keeper.specs.Taking.{Took, TakesAll, GroupsGrow}
+use Rattle.fuse_keeper.specs.Model.{Model}
+use Rattle.fuse_keeper.specs.History.{Entry, grown, IsUnsettled}
+use Rattle.fuse_keeper.specs.Stands.{KeeperContent, Standing, StandsAt, without}
+use Rattle.fuse_keeper.specs.Taking.{Took, TakesAll, FirstSaid}
+use Rattle.fuse_keeper.proofs.InARow.{taken_is_performed}
 use Rattle.fuse_keeper.proofs.Settled.{Stands-handed}
 
 -- the first entries are taken too, with the first results
@@ -34,23 +34,13 @@ taken_first M before (e ∷ first) later after [] taken = absurd taken
 taken_first M before (e ∷ first) later after (done ∷ dones) taken =
     taken_more M before e first taken.0 done dones taken.1 (taken_first M taken.0 first later after dones taken.2)
 
--- the answers to the first entries are those that are said where just these are added
-pub record FirstSaid (M : Model) (s : M.State) (g : History) (first : List Entry) (dones : List Done) : Type 0 where
-  pub some : List Done
-  pub others : List Done
-  pub parts : dones ≡ some ++ others
-  pub says : map (λ (d : Done). Some d.answer) some ≡ map (λ e. said M s g (entry_id e)) first
-
-pub first_said : (M : Model) → GroupsGrow M → (k k' : KeeperState M) (handed : List ℕ) (group first later : List Entry) (dones : List Done)
-    → ActsOn k k' handed group dones → group ≡ first ++ later → k'.is_honest → (s : M.State) (h : History) (t : List ℕ) → StandsFor k s h t
-    → All (IsUnsettled (t ++ handed)) first → FirstSaid M s (grown h first) first dones
-unfolding IsOfGoodState
-first_said M grows k k' handed group first later dones acts parts honest s h t so fresh =
-    let done = acts honest so.rows so.records so.held (after M s h, so.stands.tree, so.stands.rows_are) in
-    let before : KeeperContent M = record { rows = so.rows; records = without handed so.records } in
-    let held : KeeperContent M = record { rows = done.rows; records = done.records } in
-    let taken = subst (λ (g : List Entry). TakesAll M before g held dones) parts done.taken in
-    let some = taken_first M before first later held dones taken in
-    let performed = grows.taken_is_performed before first some.held some.some (record { state = s; history = h; settled = t ++ handed })
-    (Stands-handed M so.rows so.records s h t handed so.stands) fresh some.taken in
+pub first_said : (M : Model) → (before : KeeperContent M) (settled : List ℕ) (es first later : List Entry) (after : KeeperContent M) (dones : List Done)
+    (at : Standing M)
+    → TakesAll M (record before { records = without settled before.records }) es after dones → es ≡ first ++ later → StandsAt M before at
+    → All (IsUnsettled (at.settled ++ settled)) first → FirstSaid M at.state (grown at.history first) first dones
+first_said M before settled es first later after dones at all parts so fresh =
+    let begun : KeeperContent M = record before { records = without settled before.records } in
+    let some = taken_first M begun first later after dones (subst (λ (g : List Entry). TakesAll M begun g after dones) parts all) in
+    let performed = taken_is_performed M begun first some.held some.some (record at { settled = at.settled ++ settled })
+    (Stands-handed M before.rows before.records at.state at.history at.settled settled so) fresh some.taken in
     record { some = some.some; others = some.others; parts = some.parts; says = performed.answers }

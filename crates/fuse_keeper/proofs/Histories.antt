@@ -102,9 +102,15 @@ pub said-grown : (M : Model) → (s : M.State) (h : History) (es : List Entry) (
 said-grown M s h [] i there = refl
 said-grown M s h (e ∷ es) i there = said-grown M s (add h e) es i (has-add_old h e i there) ∙ said-add M s h e i there
 
-pub grown-append : (h : History) (xs ys : List Entry) → grown h (xs ++ ys) ≡ grown (grown h xs) ys
-grown-append h [] ys = refl
-grown-append h (x ∷ xs) ys = grown-append (add h x) xs ys
+Distinct-add : (h : History) (e : Entry) → Distinct h → Distinct (add h e)
+Distinct-add h e each = elim (tested (has h (entry_id e))) [
+  | inl there ↦ rw (add_old h e there) each
+  | inr none ↦ rw (add_new h e none) (Distinct-append h e each none)
+]
+
+pub Distinct-grown : (h : History) (es : List Entry) → Distinct h → Distinct (grown h es)
+Distinct-grown h [] each = each
+Distinct-grown h (e ∷ es) each = Distinct-grown (add h e) es (Distinct-add h e each)
 
 -- what is said is what is in the history
 pub found : (M : Model) → (s : M.State) (h : History) (i : ℕ) (a : Said) → said M s h i ≡ Some a → has h i ≡ true

@@ -1,11 +1,11 @@
-pub mod Histories
-pub mod Standing
-pub mod Settled
-pub mod Firsts
-pub mod Performing
-pub mod Overlays
-pub mod InARow
-pub mod Counting
-pub mod Copying
-pub mod Keeping
+mod Histories
+mod Standing
+mod Settled
+mod Firsts
+mod Performing
+mod Overlays
+mod InARow
+mod Counting
+mod Copying
+mod Keeping
 mod Handing

@@ -1,5 +1,5 @@
 -- Records in a list, over others.
-use Rattle.std.proofs.Common.{◌≡◌, ℕ, Bool, true, false, ◌==◌, ◌⊎◌, inl, inr, if◌then◌else◌, List, [], ◌∷◌, ◌++◌, Option, Some, None, refl, sym, ap, subst, ◌∙◌}
+use Rattle.std.proofs.Common.{◌≡◌, ◌||◌, ℕ, Bool, true, false, ◌==◌, ◌⊎◌, inl, inr, if◌then◌else◌, List, [], ◌∷◌, ◌++◌, Option, Some, None, refl, sym, ap, subst, ◌∙◌}
 use Rattle.std.proofs.Common.{nat_eq, cond, arith, get_or}
 use Rattle.fuse_wire.specs.declared.moment.Moment.{Moment}
 use Rattle.fuse_request.specs.declared.request.Request.{Request}
@@ -126,7 +126,7 @@ begun M rows rows' records added dones at is none empty so =
     subst (λ (ds : List Done). PerformedBy M (AreThese M rows' (over added records)) at [] ds) (sym empty)
     (PerformedBy-same M old (record { rows = rows'; records = over added records }) at [] [] (is, λ i. ap (λ l. over l records i) none) (none_yet M old at so))
 
-gone_step_by : (b c : Bool) (o o' : Option Said) → o' ≡ (if b then None else o) → (if c then None else o') ≡ (if (if b then true else c) then None else o)
+gone_step_by : (b c : Bool) (o o' : Option Said) → o' ≡ (if b then None else o) → (if c then None else o') ≡ (if b || c then None else o)
 gone_step_by true true o o' is = refl
 gone_step_by true false o o' is = is
 gone_step_by false true o o' is = refl
@@ -144,7 +144,7 @@ put_step front r m m' i is = ap (first_of (listed front i)) (is ∙ sym (one_ove
 -- ---- the other ids
 
 absent_by : (b : Bool) (a : Said) (id : ℕ) (xs : List Record) → (is_in (record_ids xs) id ≡ false → listed xs id ≡ None)
-    → (if b then true else is_in (record_ids xs) id) ≡ false → (if b then Some a else listed xs id) ≡ None
+    → (b || is_in (record_ids xs) id) ≡ false → (if b then Some a else listed xs id) ≡ None
 absent_by true a id xs rest none = absurd (cc none)
 absent_by false a id xs rest none = rest none
 
@@ -159,7 +159,7 @@ pub others_stay : (settled : List ℕ) (records : Records) (added : List Record)
 others_stay settled records added es within i isnt =
     ap (λ o. first_of o (without settled records i)) (listed_absent i added (unsettled_too (ids_in es) (record_ids added) i within isnt))
 
-pushed_last : (b : Bool) (k i : ℕ) → (k == i) ≡ b → (if b then true else false) ≡ true → i ≡ k
+pushed_last : (b : Bool) (k i : ℕ) → (k == i) ≡ b → (b || false) ≡ true → i ≡ k
 pushed_last true k i is there = sym (same_number k i is)
 pushed_last false k i is there = absurd (cc there)
 

@@ -1,36 +1,31 @@
 -- How a group is performed, one entry after another.
-use Rattle.std.proofs.Common.{◌≡◌, ℕ, ◌+◌, ◌<◌, zero, suc, Bool, true, false, ◌⊎◌, inl, inr, if◌then◌else◌, List, [], ◌∷◌, ◌++◌, length, map, take}
-use Rattle.std.proofs.Common.{get_or, All, Option, Some, refl, sym, ap, ◌∙◌, arith}
+use Rattle.std.proofs.Common.{◌≡◌, ℕ, ◌+◌, ◌<◌, zero, suc, true, false, ◌||◌, ◌⊎◌, inl, inr, List, [], ◌∷◌, ◌++◌, length, map, take}
+use Rattle.std.proofs.Common.{get_or, All, Some, refl, sym, ap, ◌∙◌, arith}
 use Rattle.std.proofs.lemmas.List.{take_more}
+use Rattle.std.proofs.lemmas.List.Sums.{fold-append}
 use Rattle.fuse_wire.specs.declared.moment.Moment.{Moment}
 use Rattle.fuse_request.specs.declared.request.Request.{Request}
-use Rattle.fuse_answer.specs.Said.{Said}
 use Rattle.fuse_keeper.specs.Model.{Model}
 use Rattle.fuse_keeper.specs.declared.keeper.Done.{Done}
-use Rattle.fuse_keeper.specs.History.{Entry, entry_id, History, said, add, grown, is_in, ids_in, Includes, IsUnsettled, repeats}
+use Rattle.fuse_keeper.specs.History.{Entry, entry_id, History, said, add, grown, said_after_each, is_in, ids_in, Includes, IsUnsettled, repeats}
 use Rattle.fuse_keeper.specs.Stands.{Records, KeeperContent, Standing, Stands, StandsAt, StandsBy, AreThese, PerformedBy}
 use Rattle.fuse_keeper.specs.Group.{entry_of, entries_of}
 use Rattle.fuse_keeper.specs.Taking.{Took}
-use Rattle.fuse_keeper.proofs.Histories.{same_id, has-add, said-grown, grown-append, repeats-append, map-append}
+use Rattle.fuse_keeper.proofs.Histories.{same_id, has-add, said-grown, repeats-append, map-append}
 use Rattle.fuse_keeper.proofs.Standing.{Stands-same, advanced}
 use Rattle.fuse_keeper.proofs.Settled.{includes_left, includes_right}
 
--- what each entry of a group is answered, right after it
-abbrev pub told : (M : Model) → M.State → History → List Entry → List (Option Said)
-told M s h [] = []
-told M s h (e ∷ es) = said M s (add h e) (entry_id e) ∷ told M s (add h e) es
-
-pub told_is : (M : Model) → (s : M.State) (h : History) (es : List Entry) → map (λ e. said M s (grown h es) (entry_id e)) es ≡ told M s h es
-told_is M s h [] = refl
-told_is M s h (e ∷ es) =
+pub each_is : (M : Model) → (s : M.State) (h : History) (es : List Entry) → map (λ e. said M s (grown h es) (entry_id e)) es ≡ said_after_each M s h es
+each_is M s h [] = refl
+each_is M s h (e ∷ es) =
     let here = said-grown M s (add h e) es (entry_id e) (has-add h e) in
-    let rest = told_is M s (add h e) es in
+    let rest = each_is M s (add h e) es in
     cc
 
-pub told-append : (M : Model) → (s : M.State) (h : History) (es : List Entry) (e : Entry) → told M s h (es ++ e ∷ []) ≡ told M s h es
+each-append : (M : Model) → (s : M.State) (h : History) (es : List Entry) (e : Entry) → said_after_each M s h (es ++ e ∷ []) ≡ said_after_each M s h es
     ++ said M s (add (grown h es) e) (entry_id e) ∷ []
-told-append M s h [] e = refl
-told-append M s h (x ∷ es) e = ap (λ r. said M s (add h x) (entry_id x) ∷ r) (told-append M s (add h x) es e)
+each-append M s h [] e = refl
+each-append M s h (x ∷ es) e = ap (λ r. said M s (add h x) (entry_id x) ∷ r) (each-append M s (add h x) es e)
 
 -- ---- these rows and records stand
 
@@ -70,11 +65,11 @@ one_more M before e after done at es dones fresh took so_far =
     let h = at.history in
     let step = advanced M before e after done (record at { history = grown h es }) fresh took
     (these_stand M before.rows before.records s (grown h es) at.settled so_far.stands) in
-    let grows = grown-append h es (e ∷ []) in
+    let grows = fold-append add h es (e ∷ []) in
     record {
       stands = rw grows (stand_so M after.rows after.records s (add (grown h es) e) at.settled step.stands);
-      answers = map-append (λ d. Some d.answer) dones (done ∷ []) ∙ ap (λ r. r ++ Some done.answer ∷ []) (so_far.answers ∙ told_is M s h es)
-          ∙ ap (λ o. told M s h es ++ o ∷ []) (sym step.answer) ∙ sym (told-append M s h es e) ∙ sym (told_is M s h (es ++ e ∷ []));
+      answers = map-append (λ d. Some d.answer) dones (done ∷ []) ∙ ap (λ r. r ++ Some done.answer ∷ []) (so_far.answers ∙ each_is M s h es)
+          ∙ ap (λ o. said_after_each M s h es ++ o ∷ []) (sym step.answer) ∙ sym (each-append M s h es e) ∙ sym (each_is M s h (es ++ e ∷ []));
       repeated = map-append (λ d. d.repeated) dones (done ∷ []) ∙ ap (λ r. r ++ done.repeated ∷ []) so_far.repeated
           ∙ ap (λ b. repeats h es ++ b ∷ []) step.repeated ∙ sym (repeats-append h es e);
     }
@@ -110,6 +105,6 @@ ids_more group n d old new lt within adds i there =
     ap (λ l. is_in l i) parts ∙ elim (adds i there) [
       | inl before ↦ includes_left (ids_in (entries_of (take n group))) (entry_id (entry_of (get_or group n d)) ∷ []) i (within i before)
       | inr is ↦ includes_right (ids_in (entries_of (take n group))) (entry_id (entry_of (get_or group n d)) ∷ []) i
-          (ap (is_in (entry_id (entry_of (get_or group n d)) ∷ [])) is ∙ ap (λ (b : Bool). if b then true else false)
+          (ap (is_in (entry_id (entry_of (get_or group n d)) ∷ [])) is ∙ ap (λ b. b || false)
           (same_id (entry_id (entry_of (get_or group n d)))))
     ]

@@ -1,6 +1,7 @@
 -- What stands for a history, and how one entry more is taken.
 use Rattle.std.proofs.Common.{◌≡◌, ℕ, Bool, true, false, ◌==◌, inl, inr, if◌then◌else◌, List, [], ◌∷◌, ◌++◌, Option, Some, None, refl, sym, ap, subst, ◌∙◌}
 use Rattle.std.proofs.Common.{arith}
+use Rattle.std.proofs.lemmas.Bool.{false_from_ne_true, both_ways}
 use Rattle.fuse_answer.specs.Said.{Said}
 use Rattle.fuse_keeper.specs.Model.{Model, IsOfGoodState}
 use Rattle.fuse_keeper.specs.declared.keeper.Done.{Done}
@@ -98,10 +99,7 @@ gone_right true o said_of a so is = absurd (cc is)
 gone_right false o said_of a so is = so is
 
 pub unsettled_too : (all some : List ℕ) (i : ℕ) → Includes all some → is_in all i ≡ false → is_in some i ≡ false
-unsettled_too all some i within isnt = elim (tested (is_in some i)) [
-  | inl there ↦ absurd (let e = within i there in cc)
-  | inr absent ↦ absent
-]
+unsettled_too all some i within isnt = false_from_ne_true (is_in some i) (λ there. both_ways (is_in all i) isnt (within i there))
 
 -- the records of settled ids may go
 pub Stands-without : (M : Model) → (rows : M.Rows) (records : Records) (s : M.State) (h : History) (t settled : List ℕ) (records' : Records)

@@ -1,5 +1,6 @@
 -- Histories: the requests that were performed, each once (defined by this project).
 use Rattle.std.specs.Prelude.{◌≡◌, ℕ, Bool, true, false, ◌==◌, if◌then◌else◌, List, [], ◌∷◌, ◌++◌, map, Option, Some, None}
+use Rattle.std.specs.List.{fold, list_any}
 use Rattle.fuse_wire.specs.Ids.{id_of}
 use Rattle.fuse_wire.specs.declared.moment.Moment.{Moment}
 use Rattle.fuse_request.specs.Act.{Asked}
@@ -51,18 +52,24 @@ add h e = if has h (entry_id e) then h else h ++ e ∷ []
 
 -- a group is added in order
 abbrev pub grown : History → List Entry → History
-grown h [] = h
-grown h (e ∷ es) = grown (add h e) es
+grown h es = fold add h es
 
--- an entry that is added is there, and the answer to an id that is there stays when the history grows
+-- what each entry of a group is answered, right after it
+abbrev pub said_after_each : (M : Model) → M.State → History → List Entry → List (Option Said)
+said_after_each M s h [] = []
+said_after_each M s h (e ∷ es) = said M s (add h e) (entry_id e) ∷ said_after_each M s (add h e) es
+
+-- an entry that is added is there, and when the history grows the answer to an id that is there stays, and no id stands twice. So what
+-- the history says of each entry of a group is what it said right after that entry
 pub record HistoriesGrow (M : Model) : Type 0 where
   pub added : (h : History) (e : Entry) → has (add h e) (entry_id e) ≡ true
   pub stays : (s : M.State) (h : History) (more : List Entry) (i : ℕ) → has h i ≡ true → said M s (grown h more) i ≡ said M s h i
+  pub distinct : (h : History) (more : List Entry) → Distinct h → Distinct (grown h more)
+  pub each : (s : M.State) (h : History) (es : List Entry) → map (λ e. said M s (grown h es) (entry_id e)) es ≡ said_after_each M s h es
 
 -- whether an id is one of these
 abbrev pub is_in : List ℕ → ℕ → Bool
-is_in [] i = false
-is_in (x ∷ xs) i = if x == i then true else is_in xs i
+is_in xs i = list_any (λ x. x == i) xs
 
 -- each of the second ids is one of the first
 abbrev pub Includes : List ℕ → List ℕ → Type 0

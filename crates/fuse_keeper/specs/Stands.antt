@@ -4,7 +4,7 @@ use Rattle.std.specs.List.{IsDistinct}
 use Rattle.fuse_answer.specs.Said.{Said}
 use Rattle.fuse_keeper.specs.Model.{Model}
 use Rattle.fuse_keeper.specs.declared.keeper.Done.{Done}
-use Rattle.fuse_keeper.specs.History.{Entry, entry_id, History, after, said, Distinct, grown, is_in, ids_in, repeats}
+use Rattle.fuse_keeper.specs.History.{Entry, entry_id, History, after, said, Distinct, grown, is_in, Includes, ids_in, repeats}
 
 -- the record of each id
 abbrev pub Records : Type 0
@@ -65,6 +65,13 @@ IsFirmBy M holds whole may_leave = (rows : M.Rows) (records : Records) → holds
 -- all that was held is still held
 abbrev pub KeepsHeldBy : (M : Model) → (M.Rows → Records → Type 0) → (M.Rows → Records → Type 0) → Type 0
 KeepsHeldBy M holds holds' = (rows : M.Rows) (records : Records) → holds rows records → holds' rows records
+
+-- what stands for a history still does where the rows and records are the same, and where more ids are settled
+pub record StillStands (M : Model) : Type 0 where
+  pub same : (rows : M.Rows) (records : Records) (x : M.Rows) (r : Records) (s : M.State) (h : History) (t : List ℕ) → AreThese M rows records x r
+      → Stands M rows records s h t → Stands M x r s h t
+  pub settled : (rows : M.Rows) (records : Records) (s : M.State) (h : History) (t more : List ℕ) → Includes more t → Stands M rows records s h t
+      → Stands M rows records s h more
 
 -- these rows and records stand for the first history, or for the second one
 abbrev pub StandsForEither : (M : Model) → Standing M → Standing M → M.Rows → Records → Type 0

@@ -1,10 +1,10 @@
 -- Taking one request after another (defined by this project).
-use Rattle.std.specs.Prelude.{◌≡◌, ℕ, true, false, ◌==◌, if◌then◌else◌, List, [], ◌∷◌, ◌++◌, All, Option, Some, None}
+use Rattle.std.specs.Prelude.{◌≡◌, ℕ, true, false, ◌==◌, if◌then◌else◌, List, [], ◌∷◌, ◌++◌, map, All, Option, Some, None}
 use Rattle.fuse_answer.specs.Said.{Said}
 use Rattle.fuse_keeper.specs.Model.{Model}
 use Rattle.fuse_keeper.specs.declared.keeper.Done.{Done}
-use Rattle.fuse_keeper.specs.History.{Entry, entry_id, IsUnsettled, next_state, answer_to}
-use Rattle.fuse_keeper.specs.Stands.{KeeperContent, Standing, StandsAt, AreThese, PerformedBy}
+use Rattle.fuse_keeper.specs.History.{Entry, entry_id, History, IsUnsettled, next_state, answer_to, said, grown}
+use Rattle.fuse_keeper.specs.Stands.{KeeperContent, Standing, StandsAt, AreThese, without, PerformedBy}
 
 -- an entry acted: on the rows of a tree the answer and the new rows are those of the tree
 pub record ActedOn (M : Model) (s : M.State) (e : Entry) (rows' : M.Rows) (answer : Said) : Type 0 where
@@ -39,9 +39,16 @@ TakesAll M before [] after (done ∷ dones) = ⊥
 TakesAll M before (e ∷ es) after [] = ⊥
 TakesAll M before (e ∷ es) after (done ∷ dones) = (mid : KeeperContent M) × Took M before e mid done × TakesAll M mid es after dones
 
+-- the answers to the first entries are those that are said where just these are added
+pub record FirstSaid (M : Model) (s : M.State) (g : History) (first : List Entry) (dones : List Done) : Type 0 where
+  pub some : List Done
+  pub others : List Done
+  pub parts : dones ≡ some ++ others
+  pub says : map (λ (d : Done). Some d.answer) some ≡ map (λ e. said M s g (entry_id e)) first
+
 -- a group of no entries was performed; and where a group was performed and one more entry was taken, a group of one more was
 -- performed. So it is of entries that are taken in a row; and where they are taken over rows and records that stand, the group
--- was performed
+-- was performed. Where the settled records go before, the first entries are answered so up to the first one with a settled id
 pub record GroupsGrow (M : Model) : Type 0 where
   pub none_yet : (held : KeeperContent M) (at : Standing M) → StandsAt M held at → PerformedBy M (AreThese M held.rows held.records) at [] []
   pub one_more : (before : KeeperContent M) (e : Entry) (after : KeeperContent M) (done : Done) (at : Standing M) (es : List Entry) (dones : List Done)
@@ -55,3 +62,6 @@ pub record GroupsGrow (M : Model) : Type 0 where
   pub taken_is_performed : (before : KeeperContent M) (es : List Entry) (after : KeeperContent M) (dones : List Done) (at : Standing M)
       → StandsAt M before at → All (IsUnsettled at.settled) es → TakesAll M before es after dones
       → PerformedBy M (AreThese M after.rows after.records) at es dones
+  pub first_said : (before : KeeperContent M) (settled : List ℕ) (es first later : List Entry) (after : KeeperContent M) (dones : List Done) (at : Standing M)
+      → TakesAll M (record before { records = without settled before.records }) es after dones → es ≡ first ++ later → StandsAt M before at
+      → All (IsUnsettled (at.settled ++ settled)) first → FirstSaid M at.state (grown at.history first) first dones

@@ -1,6 +1,7 @@
 ghost use Rattle.std.specs.Prelude.{◌≡◌};
 ghost use Rattle.fuse_keeper.specs.Bounds as bounds;
 ghost use Rattle.fuse_keeper.specs.History.{HistoriesGrow, SaidFits};
+ghost use Rattle.fuse_keeper.specs.Stands.{StillStands};
 ghost use Rattle.fuse_keeper.specs.Taking.{GroupsGrow};
 
 use crate::file_system::FileSystem;
@@ -13,12 +14,19 @@ pub fn said_fits<K: Keeper>()
     K::model_is_sound();
 }
 
-/// A request that is added to a history is in it, and the answers of the others stay.
+/// A request that is added to a history is in it, the answers of the others stay, and none stands
+/// twice.
 pub fn histories_grow<K: Keeper>()
     ensures { HistoriesGrow K.model }
 {}
 
-/// A group of one more entry was performed where that entry was taken after the others.
+/// What stands for a history still does, over the same rows and records, and with more ids settled.
+pub fn still_stands<K: Keeper>()
+    ensures { StillStands K.model }
+{}
+
+/// A group of one more entry was performed where that entry was taken after the others. The first
+/// entries are answered as a group of their own.
 pub fn groups_grow<F: FileSystem>()
     ensures { GroupsGrow F.model }
 {}

@@ -16,7 +16,9 @@ pub use class::classify;
 pub use fault::StoreFault;
 pub use file_system::FileSystem;
 pub use keeper::{Done, Keeper, MAX_GROUP, MAX_SETTLED, StoreCounts};
-pub use laws::{group_bounds, groups_grow, histories_grow, kept_groups_grow, said_fits};
+pub use laws::{
+    group_bounds, groups_grow, histories_grow, kept_groups_grow, said_fits, still_stands,
+};
 pub use pending::perform_group;
 pub use plain::PlainKeeper;
 pub use restart::Restart;

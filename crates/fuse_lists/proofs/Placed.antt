@@ -1,8 +1,8 @@
 -- A list in which each node stands once: one node is changed in its place, or comes last.
-use Rattle.std.proofs.Common.{◌≡◌, ◌≢◌, ◌<◌, ◌≤◌, ◌==◌, ℕ, zero, suc, Bool, true, false, not, cond, eqb, List, [], ◌∷◌, ◌++◌, length, map, get_or, set, Some, None, refl, sym, ap, subst, ◌∙◌, arith}
+use Rattle.std.proofs.Common.{◌≡◌, ◌≢◌, ◌<◌, ◌≤◌, ◌==◌, ℕ, zero, suc, Bool, true, false, ◌&&◌, not, cond, eqb, List, [], ◌∷◌, ◌++◌, length, map, get_or, set, Some, None, refl, sym, ap, subst, ◌∙◌, arith}
 use Rattle.std.specs.Prelude.{filter, position, nat_lt}
 use Rattle.std.specs.List.{list_any, position_or_len}
-use Rattle.std.proofs.lemmas.Bool.{ne_eqb, eq-eqb, eqb-true, eqb-false, ltb-false}
+use Rattle.std.proofs.lemmas.Bool.{ne_eqb, eq-eqb, eqb-true, eqb-false, ltb-false, or_parts}
 use Rattle.std.proofs.lemmas.List.Folds.{list_any_at, list_any_none}
 use Rattle.std.proofs.lemmas.List.Sums.{prefix_len_passes}
 use Rattle.std.proofs.lemmas.List.Quantifiers.{position-Some}
@@ -10,13 +10,16 @@ use Rattle.fuse_rows.specs.declared.rows.NodeRow.{NodeRow}
 use Rattle.fuse_rows.specs.declared.rows.Full.{Full}
 use Rattle.fuse_rows.specs.Rows.{put_node, at_node}
 use Rattle.fuse_lists.specs.inner.NumbersOnce.{are_distinct}
-use Rattle.fuse_tree.proofs.Lists.{and_true, or_false, any_mapped}
 
 -- ---- tests
 
 not_true : (b : Bool) → not b ≡ true → b ≡ false
 not_true true e = absurd cc
 not_true false e = refl
+
+and_true : (b c : Bool) → (b && c) ≡ true → (b ≡ true) × (c ≡ true)
+and_true true c e = (refl, e)
+and_true false c e = absurd cc
 
 -- what no element passes, the one at a place doesn't
 fails_at : {A : Type 0} (test : A → Bool) (xs : List A) (i : ℕ) (d : A) → list_any test xs ≡ false → i < length xs → test (get_or xs i d) ≡ false
@@ -43,7 +46,7 @@ no_place test xs e =
 none_changed : (test : Full → Bool) (change : Full → Full) (fs : List Full) → list_any test fs ≡ false → map (λ f. cond (test f) (change f) f) fs ≡ fs
 none_changed test change [] none = refl
 none_changed test change (f ∷ fs) none =
-    let h = or_false (test f) (list_any test fs) none in
+    let h = or_parts (test f) (list_any test fs) none in
     rw (h.0, none_changed test change fs h.1) refl
 
 changed_at : (number : ℕ) (change : Full → Full) (fs : List Full) (i : ℕ) (d y : Full) → are_distinct fs ≡ true → i < length fs
@@ -60,6 +63,10 @@ changed_at number change (f ∷ fs) (suc i) d y once lt is e =
     let apart : eqb (get_or fs i d).row.node f.row.node ≡ false = fails_at (λ g. eqb g.row.node f.row.node) fs i d (not_true _ h.0) less in
     let other : f.row.node ≢ number = λ same. eqb-false _ _ apart (is ∙ sym same) in
     rw (ne_eqb f.row.node number other) (ap (λ (gs : List Full). f ∷ gs) (changed_at number change fs i d y h.1 less is e))
+
+any_mapped : {A : Type 0} (test : A → Bool) (f : A → A) (xs : List A) → ((x : A) → test (f x) ≡ test x) → list_any test (map f xs) ≡ list_any test xs
+any_mapped test f [] same = refl
+any_mapped test f (x ∷ xs) same = rw (same x, any_mapped test f xs same) refl
 
 mapped_once : (change : Full → Full) (fs : List Full) → ((f : Full) → (change f).row.node ≡ f.row.node) → are_distinct (map change fs) ≡ are_distinct fs
 mapped_once change [] same = refl
@@ -120,7 +127,7 @@ row_last row fs none = rw (no_place (λ f. f.row.node == row.node) fs none) refl
 none_last : (test : Full → Bool) (fs : List Full) (x : Full) → list_any test fs ≡ false → test x ≡ false → list_any test (fs ++ x ∷ []) ≡ false
 none_last test [] x none is = rw is refl
 none_last test (f ∷ fs) x none is =
-    let h = or_false (test f) (list_any test fs) none in
+    let h = or_parts (test f) (list_any test fs) none in
     rw (h.0) (none_last test fs x h.1 is)
 
 pub once_last : (fs : List Full) (x : Full) → are_distinct fs ≡ true → list_any (λ f. f.row.node == x.row.node) fs ≡ false
@@ -128,14 +135,14 @@ pub once_last : (fs : List Full) (x : Full) → are_distinct fs ≡ true → lis
 once_last [] x once none = refl
 once_last (f ∷ fs) x once none =
     let h = and_true _ _ once in
-    let n = or_false (eqb f.row.node x.row.node) (list_any (λ g. g.row.node == x.row.node) fs) none in
+    let n = or_parts (eqb f.row.node x.row.node) (list_any (λ g. g.row.node == x.row.node) fs) none in
     let apart : x.row.node ≢ f.row.node = λ same. eqb-false _ _ n.0 (sym same) in
     rw (none_last (λ g. eqb g.row.node f.row.node) fs x (not_true _ h.0) (ne_eqb _ _ apart)) (once_last fs x h.1 n.1)
 
 none_kept : (test kept : Full → Bool) (fs : List Full) → list_any test fs ≡ false → list_any test (filter kept fs) ≡ false
 none_kept test kept [] none = refl
 none_kept test kept (f ∷ fs) none =
-    let h = or_false (test f) (list_any test fs) none in
+    let h = or_parts (test f) (list_any test fs) none in
     let rest = none_kept test kept fs h.1 in
     elim (kept f) as (λ b. list_any test (cond b (f ∷ filter kept fs) (filter kept fs)) ≡ false) [ true ↦ rw (h.0) rest | false ↦ rest ]
 

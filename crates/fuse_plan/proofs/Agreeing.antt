@@ -45,9 +45,9 @@ use Rattle.fuse_plan.proofs.ListingAgrees.{read_dir_agrees}
 use Rattle.fuse_plan.proofs.OpeningAgrees.{open_agrees, open_dir_agrees, release_agrees, release_dir_agrees}
 use Rattle.fuse_plan.proofs.RemovingAgrees.{unlink_agrees, rmdir_agrees}
 use Rattle.fuse_plan.proofs.RenameAgrees.{renaming_agrees}
-use Rattle.fuse_tree.proofs.Blocks.{room_with}
-use Rattle.fuse_tree.proofs.Most.{profile_mapped}
-use Rattle.fuse_tree.proofs.Puts.{row_found, node_found}
+use Rattle.fuse_plan.proofs.Blocks.{room_with}
+use Rattle.fuse_plan.proofs.Most.{profile_mapped}
+use Rattle.fuse_plan.proofs.Puts.{row_found, node_found}
 use Rattle.fuse_plan.proofs.GoneFirst.{plan_orders}
 use Rattle.fuse_plan.proofs.Columns.{plan_fits}
 

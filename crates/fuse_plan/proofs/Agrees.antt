@@ -8,7 +8,7 @@ use Rattle.fuse_rows.specs.Rows.{apply}
 use Rattle.fuse_tree.specs.Rowed.{rows_of_state}
 use Rattle.fuse_tree.specs.Done.{Done, refuse, refuse_for, refuse_by}
 use Rattle.fuse_plan.specs.inner.Reading.{refused, refused_for, refused_by}
-use Rattle.fuse_tree.proofs.Checks.{Passed, passed}
+use Rattle.fuse_plan.proofs.Checks.{Passed, passed}
 
 pub record Agrees (s : State) (p : Planned) (d : Done) : Type 0 where
   pub answer : p.answer ≡ d.said

@@ -12,11 +12,11 @@ use Rattle.fuse_tree.specs.Space.{room_of}
 use Rattle.fuse_rows.specs.Rows.{with_row, put_node, at_node}
 use Rattle.fuse_tree.specs.Rowed.{full_of, counters_of, rows_of_state}
 use Rattle.fuse_tree.specs.Changing.{changed_at, with_changed}
-use Rattle.fuse_tree.proofs.Lists.{all_both}
+use Rattle.fuse_plan.proofs.Lists.{all_both}
 use Rattle.fuse_plan.proofs.Counts.{subdirs_mapped}
-use Rattle.fuse_tree.proofs.Trees.{SamePlace, tree_mapped}
-use Rattle.fuse_tree.proofs.Blocks.{recounted}
-use Rattle.fuse_tree.proofs.Puts.{only_one, put_there}
+use Rattle.fuse_plan.proofs.Trees.{SamePlace, tree_mapped}
+use Rattle.fuse_plan.proofs.Blocks.{recounted}
+use Rattle.fuse_plan.proofs.Puts.{only_one, put_there}
 
 -- in the node d
 module _ (s : State) (change : Node → Node) (same : (n : Node) → SamePlace n (change n)) (d : Node) (tree : Shape s) (e : node_at s d.number ≡ Some d) where

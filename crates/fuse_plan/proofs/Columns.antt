@@ -54,7 +54,7 @@ use Rattle.fuse_plan.specs.inner.PlanRemoving.{link_at, gone_changes, plan_gone,
 use Rattle.fuse_plan.specs.inner.PlanRenaming.{is_same_link, row_holds, other_at, new_dir_at, link_fault, lost_changes, dir_row, dirs_changes, rename_changes, exchange_changes, is_dir_link, is_dir_other, with_lost, plan_rename_link, plan_exchange_link, plan_rename_from, plan_rename_between, plan_rename}
 use Rattle.fuse_tree.specs.Renaming.{Renaming, is_exchange, is_no_replace, asking, asked_fault}
 use Rattle.fuse_plan.specs.inner.Reading.{row_name_checks, child_at}
-use Rattle.fuse_tree.proofs.Lists.{cond_found}
+use Rattle.fuse_plan.proofs.Lists.{cond_found}
 use Rattle.fuse_plan.proofs.FurtherColumns.{further_fits}
 use Rattle.fuse_plan.proofs.SizesFit.{isnt_not, setattr_fits, write_fits}
 use Rattle.fuse_plan.proofs.SmallRows.{SmallCounters, Small, small, found_small, FitsLink, FitsFound, link_small, open_small, Fit, nothing, past, unless, checked, joined}

@@ -8,9 +8,9 @@ use Rattle.std.proofs.lemmas.List.Elements.{filter-append}
 use Rattle.fuse_rows.specs.declared.rows.EntryRow.{EntryRow}
 use Rattle.fuse_tree.specs.State.{State, Node, Shape, is_dir, up_of, is_below, subdirs_of}
 use Rattle.fuse_tree.specs.Making.{grow}
-use Rattle.fuse_tree.proofs.Lists.{all_more, count_mapped, count_none, count_one, and_false}
-use Rattle.fuse_tree.proofs.Ups.{up_more, up_new, up_in}
-use Rattle.fuse_tree.proofs.Trees.{SamePlace, nodes_below, children_below, dirs_below, root_below}
+use Rattle.fuse_plan.proofs.Lists.{all_more, count_mapped, count_none, count_one, and_false}
+use Rattle.fuse_plan.proofs.Ups.{up_more, up_new, up_in}
+use Rattle.fuse_plan.proofs.Trees.{SamePlace, nodes_below, children_below, dirs_below, root_below}
 
 -- nodes that keep their places are counted as before
 pub subdirs_mapped : (s : State) (f : Node → Node) → ((n : Node) → SamePlace n (f n)) → (k : ℕ)

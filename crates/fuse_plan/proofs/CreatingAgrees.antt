@@ -20,9 +20,9 @@ use Rattle.fuse_plan.specs.inner.Reading.{row_attr}
 use Rattle.fuse_plan.specs.inner.PlanOpening.{counters_opened}
 use Rattle.fuse_plan.specs.inner.PlanCreating.{create_changes, plan_create_for, plan_create}
 use Rattle.fuse_plan.proofs.Agrees.{Agrees, refused_agrees, both_for, checked}
-use Rattle.fuse_tree.proofs.Fit.{not_false, none_some}
+use Rattle.fuse_plan.proofs.Fit.{not_false, none_some}
 use Rattle.fuse_plan.proofs.KeptStates.{node_given, kept_make, kept_by, kept_open}
-use Rattle.fuse_tree.proofs.Lists.{any_last}
+use Rattle.fuse_plan.proofs.Lists.{any_last}
 use Rattle.fuse_plan.proofs.Making.{new_full, make_rows, make_tree}
 use Rattle.fuse_plan.proofs.Modes.{made_file, mode_stays_in, file_stays_in}
 use Rattle.fuse_plan.proofs.Carried.{file_no_link}

@@ -17,7 +17,7 @@ use Rattle.fuse_answer.specs.PlusEntries.{PlusEntry, plus_len, plus_bytes}
 use Rattle.fuse_plan.specs.inner.Reading.{refused, told}
 use Rattle.fuse_plan.specs.inner.PlanListing.{row_above, listed_child, row_len, row_len_with, dots_after, plan_prefix, IsCut}
 use Rattle.fuse_plan.specs.inner.PlanPlus.{plus_dot, listed_plus, plan_plus_prefix}
-use Rattle.fuse_tree.proofs.Prefixes.{longest, prefix_upto, first_cut, prefix_is, first_that_fits}
+use Rattle.fuse_plan.proofs.Prefixes.{longest, prefix_upto, first_cut, prefix_is, first_that_fits}
 
 -- ---- one entry after the other
 

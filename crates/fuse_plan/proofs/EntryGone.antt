@@ -5,10 +5,10 @@ use Rattle.std.specs.List.{AllByRecursion}
 use Rattle.std.proofs.lemmas.Bool.{ne_eqb, eq-eqb, eqb-true, eqb-false}
 use Rattle.fuse_rows.specs.declared.rows.EntryRow.{EntryRow}
 use Rattle.fuse_tree.specs.State.{State, Shape, IsEntry, Apart, AreApart, Reaches, up_of}
-use Rattle.fuse_tree.proofs.Lists.{all_more, all_both, all_kept, apart_filtered, cond_found, found}
-use Rattle.fuse_tree.proofs.Ups.{up_in, reaches_same}
-use Rattle.fuse_tree.proofs.Blocks.{space_same}
-use Rattle.fuse_tree.proofs.Trees.{entry_moved}
+use Rattle.fuse_plan.proofs.Lists.{all_more, all_both, all_kept, apart_filtered, cond_found, found}
+use Rattle.fuse_plan.proofs.Ups.{up_in, reaches_same}
+use Rattle.fuse_plan.proofs.Blocks.{space_same}
+use Rattle.fuse_plan.proofs.Trees.{entry_moved}
 
 -- ---- going up
 

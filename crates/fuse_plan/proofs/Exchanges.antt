@@ -17,8 +17,8 @@ use Rattle.fuse_tree.specs.Done.{touched, touch}
 use Rattle.fuse_tree.specs.Removing.{marked, mark, without_entry}
 use Rattle.fuse_tree.specs.Renaming.{Renaming, placed, exchanged}
 use Rattle.fuse_plan.specs.inner.PlanRenaming.{dir_row, moved_row, exchange_changes}
-use Rattle.fuse_tree.proofs.Lists.{all_more, or_false}
-use Rattle.fuse_tree.proofs.Puts.{node_found}
+use Rattle.fuse_plan.proofs.Lists.{all_more, or_false}
+use Rattle.fuse_plan.proofs.Puts.{node_found}
 use Rattle.fuse_plan.proofs.Making.{tree_touched}
 use Rattle.fuse_plan.proofs.GoneRows.{tree_marked}
 use Rattle.fuse_plan.proofs.Moving.{Differs, keeps, up_found}

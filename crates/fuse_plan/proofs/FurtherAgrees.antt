@@ -21,14 +21,14 @@ use Rattle.fuse_plan.specs.inner.PlanStatfs.{plan_statfs}
 use Rattle.fuse_plan.specs.inner.PlanLinking.{plan_readlink}
 use Rattle.fuse_plan.specs.inner.PlanFurther.{plan_content, plan_further}
 use Rattle.fuse_plan.proofs.Agrees.{Agrees, refused_agrees, both}
-use Rattle.fuse_tree.proofs.Fit.{not_false}
-use Rattle.fuse_tree.proofs.Blocks.{room_with}
+use Rattle.fuse_plan.proofs.Fit.{not_false}
+use Rattle.fuse_plan.proofs.Blocks.{room_with}
 use Rattle.fuse_plan.proofs.Carried.{further_links}
-use Rattle.fuse_tree.proofs.Contents.{EndsTarget, target_ends}
+use Rattle.fuse_plan.proofs.Contents.{EndsTarget, target_ends}
 use Rattle.fuse_plan.proofs.CreatingAgrees.{create_agrees}
 use Rattle.fuse_plan.proofs.PlusAgrees.{read_dir_plus_agrees}
 use Rattle.fuse_plan.proofs.SymlinkAgrees.{symlink_agrees}
-use Rattle.fuse_tree.proofs.Most.{profile_mapped}
+use Rattle.fuse_plan.proofs.Most.{profile_mapped}
 use Rattle.fuse_plan.proofs.WritingAgrees.{bytes_found}
 
 readlink_agrees : (s : State) (d : Node) → Shape s → node_at s d.number ≡ Some d → Agrees s (plan_readlink (row_of s d) (rows_of_state s)) (readlink s d)

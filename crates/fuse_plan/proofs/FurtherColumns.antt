@@ -31,7 +31,7 @@ use Rattle.fuse_plan.specs.inner.PlanMaking.{row_mkdir_checks}
 use Rattle.fuse_plan.specs.inner.PlanListing.{row_list_checks}
 use Rattle.fuse_plan.specs.inner.PlanCreating.{plan_created, plan_create_for, plan_create}
 use Rattle.fuse_plan.specs.inner.PlanFurther.{plan_content, plan_further}
-use Rattle.fuse_tree.proofs.Fit.{no_fault}
+use Rattle.fuse_plan.proofs.Fit.{no_fault}
 use Rattle.fuse_plan.proofs.SizesFit.{isnt_not, sized_room}
 use Rattle.fuse_plan.proofs.SmallRows.{SmallCounters, Small, Fit, nothing, past, unless, checked, checked_then}
 

@@ -62,7 +62,7 @@ use Rattle.fuse_plan.specs.inner.PlanRemoving.{link_at, gone_changes, plan_gone,
 use Rattle.fuse_plan.specs.inner.PlanRenaming.{is_same_link, row_holds, other_at, new_dir_at, link_fault, rename_changes, exchange_changes, with_lost, plan_rename_link, plan_exchange_link, plan_rename_by, plan_rename_from, plan_rename_between, plan_rename}
 use Rattle.fuse_tree.specs.Renaming.{Renaming, is_exchange, is_no_replace, asking, asked_fault}
 use Rattle.fuse_plan.specs.inner.Reading.{refused_for, refused_by, row_name_checks, child_at}
-use Rattle.fuse_tree.proofs.Lists.{and_true}
+use Rattle.fuse_plan.proofs.Lists.{and_true}
 
 record Orders (p : Planned) : Type 0 where
   order : GoneFirst p.changes

@@ -15,11 +15,11 @@ use Rattle.fuse_tree.specs.Space.{room_of}
 use Rattle.fuse_tree.specs.Done.{touched, touch}
 use Rattle.fuse_tree.specs.Removing.{marked, mark, without_entry, entry_gone, has_entries}
 use Rattle.fuse_plan.specs.inner.PlanRemoving.{left_row, unnamed_row, gone_changes}
-use Rattle.fuse_tree.proofs.Lists.{all_more, all_both, any_found, any_gives, cond_found, found, count_mapped, length_kept, and_true, and_false, or_false}
-use Rattle.fuse_tree.proofs.Ups.{up_in}
-use Rattle.fuse_tree.proofs.Trees.{SamePlace, tree_mapped}
-use Rattle.fuse_tree.proofs.Blocks.{used_mapped, room_told, space_same, recounted}
-use Rattle.fuse_tree.proofs.Puts.{node_found, only_one}
+use Rattle.fuse_plan.proofs.Lists.{all_more, all_both, any_found, any_gives, cond_found, found, count_mapped, length_kept, and_true, and_false, or_false}
+use Rattle.fuse_plan.proofs.Ups.{up_in}
+use Rattle.fuse_plan.proofs.Trees.{SamePlace, tree_mapped}
+use Rattle.fuse_plan.proofs.Blocks.{used_mapped, room_told, space_same, recounted}
+use Rattle.fuse_plan.proofs.Puts.{node_found, only_one}
 use Rattle.fuse_plan.proofs.Making.{tree_touched, twice}
 use Rattle.fuse_plan.proofs.EntryGone.{Standing, gone_only, left_others, up_less, up_gone, tree_less}
 

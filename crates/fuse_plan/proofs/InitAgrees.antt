@@ -7,7 +7,7 @@ use Rattle.fuse_tree.specs.State.{State, Shape, Limits}
 use Rattle.fuse_tree.specs.Init.{init}
 use Rattle.fuse_plan.specs.inner.PlanInit.{plan_init}
 use Rattle.fuse_plan.proofs.Agrees.{Agrees, refused_agrees}
-use Rattle.fuse_tree.proofs.Blocks.{space_same}
+use Rattle.fuse_plan.proofs.Blocks.{space_same}
 
 limits_settled : (s : State) (settings : Option Settings) → Limits s → Limits (record s { settings = settings })
 limits_settled s settings l = record {

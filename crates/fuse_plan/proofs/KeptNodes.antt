@@ -6,7 +6,7 @@ use Rattle.std.proofs.lemmas.Bool.{eqb-true, eqb-false, ne_eqb, eq-eqb}
 use Rattle.fuse_rows.specs.declared.rows.EntryRow.{EntryRow}
 use Rattle.fuse_rows.specs.declared.rows.HandleRow.{HandleRow}
 use Rattle.fuse_tree.specs.State.{State, Node, is_named, up_of, is_kept}
-use Rattle.fuse_tree.proofs.Lists.{all_more, all_grown, all_mapped, any_grown, or_true}
+use Rattle.fuse_plan.proofs.Lists.{all_more, all_grown, all_mapped, any_grown, or_true}
 
 -- each node is kept, but for those of which the test says nothing
 abbrev pub KeptBut : (ℕ → Bool) → State → Type 0

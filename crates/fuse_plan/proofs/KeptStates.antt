@@ -16,10 +16,10 @@ use Rattle.fuse_tree.specs.Symlinking.{with_target, with_link}
 use Rattle.fuse_tree.specs.Opening.{new_handle, with_open_node, closed}
 use Rattle.fuse_tree.specs.Removing.{marked, mark, without_entry, entry_gone}
 use Rattle.fuse_tree.specs.Renaming.{Renaming, placed, renamed, exchanged}
-use Rattle.fuse_tree.proofs.Lists.{all_more, all_kept, found}
-use Rattle.fuse_tree.proofs.Heights.{dirs_given}
-use Rattle.fuse_tree.proofs.Trees.{children_below}
-use Rattle.fuse_tree.proofs.Ups.{up_new}
+use Rattle.fuse_plan.proofs.Lists.{all_more, all_kept, found}
+use Rattle.fuse_plan.proofs.Heights.{dirs_given}
+use Rattle.fuse_plan.proofs.Trees.{children_below}
+use Rattle.fuse_plan.proofs.Ups.{up_new}
 use Rattle.fuse_plan.proofs.EntryGone.{IsOnly, gone_only, up_less}
 use Rattle.fuse_plan.proofs.KeptNodes.{KeptBut, up_named, kept_more, kept_mapped, kept_placed, kept_less, kept_opened, kept_closed, kept_grown}
 

@@ -1,44 +1,77 @@
-pub mod Agreeing
+mod Agreeing
 mod Agrees
-pub mod Changing
-mod Columns
-mod Cuts
-pub mod Counts
-pub mod EntryGone
-pub mod Exchanges
+mod Blocks
+mod Bounds
+mod BytesKept
 mod Carried
+mod Changing
+mod Checks
+mod Columns
+mod Contents
+mod Counts
 mod CreatingAgrees
+mod Cuts
+mod EntryGone
+mod Exchanges
+mod Fit
+mod Fitting
 mod FurtherAgrees
 mod FurtherColumns
-mod PlusAgrees
-mod SymlinkAgrees
+mod FurtherFits
 mod GoneFirst
-pub mod GoneRows
-pub mod KeptNodes
-pub mod KeptStates
-pub mod Sweeping
-pub mod RemovalAgrees
+mod GoneRows
+mod Heights
 mod InitAgrees
+mod InitFits
+mod KeptNodes
+mod KeptStates
 mod Lengths
+mod Listing
 mod ListingAgrees
-pub mod Making
+mod ListingFits
+mod Lists
+mod Making
 mod MakingAgrees
+mod MakingFits
 mod Modes
-pub mod MovedCounts
-pub mod MovedRows
-pub mod MovedTrees
-pub mod Moving
+mod Most
+mod Mounts
+mod MovedCounts
+mod MovedRows
+mod MovedTrees
+mod Moving
+mod NewStore
 mod Opening
 mod OpeningAgrees
+mod OpeningFits
+mod PlusAgrees
+mod PlusFits
+mod PlusListing
+mod Prefixes
+mod Puts
+mod RemovalAgrees
 mod RemovingAgrees
+mod RemovingFits
 mod RenameAgrees
-pub mod RenameFree
-pub mod RenameOver
-pub mod RenameRows
+mod RenameFits
+mod RenameFree
+mod RenameOver
+mod RenameRows
+mod RowsOfTrees
 mod SettingAgrees
-mod SizesFit
-mod SmallRows
-mod WritingAgrees
+mod SettingFits
+mod Shown
 mod ShownRows
 mod SizedRows
+mod SizesFit
+mod SmallRows
+mod Sweeping
+mod SymlinkAgrees
+mod Telling
+mod Trees
+mod Under
+mod Ups
+mod Walking
 mod Within
+mod WritingAgrees
+mod WritingFits

@@ -11,9 +11,9 @@ use Rattle.fuse_rows.specs.Rows.{is_after, entries_after}
 use Rattle.fuse_tree.specs.Rowed.{rows_of_state, row_of}
 use Rattle.fuse_tree.specs.Listing.{type_of_node, told_entry, entries_following, longest_prefix, first_fits, list_checks, list_prefix, read_dir}
 use Rattle.fuse_plan.specs.inner.PlanListing.{row_kind, row_entry, enough, dots_after, rows_after, plan_list, plan_read_dir}
-use Rattle.fuse_tree.proofs.Puts.{row_found}
-use Rattle.fuse_tree.proofs.Prefixes.{prefix_cut, first_cut}
-use Rattle.fuse_tree.proofs.Listing.{all_after, all_named}
+use Rattle.fuse_plan.proofs.Puts.{row_found}
+use Rattle.fuse_plan.proofs.Prefixes.{prefix_cut, first_cut}
+use Rattle.fuse_plan.proofs.Listing.{all_after, all_named}
 use Rattle.fuse_wire.specs.Errnos.{einval}
 use Rattle.fuse_request.specs.declared.request.ReadIn.{ReadIn}
 use Rattle.fuse_plan.proofs.Agrees.{Agrees, refused_agrees, both, checked}

@@ -20,15 +20,15 @@ use Rattle.fuse_tree.specs.Symlinking.{with_target, with_link}
 use Rattle.fuse_plan.specs.inner.PlanMaking.{dir_row_with, changes_of}
 use Rattle.fuse_plan.specs.inner.PlanSpace.{room_after}
 use Rattle.fuse_plan.specs.inner.PlanSymlinking.{link_row, link_changes}
-use Rattle.fuse_tree.proofs.Lists.{all_more, any_mapped, and_false, or_false}
-use Rattle.fuse_tree.proofs.Ups.{up_more, up_new}
+use Rattle.fuse_plan.proofs.Lists.{all_more, any_mapped, and_false, or_false}
+use Rattle.fuse_plan.proofs.Ups.{up_more, up_new}
 use Rattle.fuse_plan.proofs.Counts.{subdirs_grown, no_subdirs}
-use Rattle.fuse_tree.proofs.Trees.{SamePlace, nodes_below, children_below, tree_mapped, tree_grown}
-use Rattle.fuse_tree.proofs.Puts.{node_found, put_changed, put_new, dir_there}
+use Rattle.fuse_plan.proofs.Trees.{SamePlace, nodes_below, children_below, tree_mapped, tree_grown}
+use Rattle.fuse_plan.proofs.Puts.{node_found, put_changed, put_new, dir_there}
 use Rattle.fuse_rows.specs.declared.rows.Room.{Room}
 use Rattle.fuse_plan.proofs.Carried.{nothing_carried}
 use Rattle.fuse_plan.proofs.SizedRows.{room_sized}
-use Rattle.fuse_tree.proofs.Blocks.{blocks_of, used_mapped, used_appended, room_told, space_same, space_after, recounted}
+use Rattle.fuse_plan.proofs.Blocks.{blocks_of, used_mapped, used_appended, room_told, space_same, space_after, recounted}
 
 pub touched_same : (dir : ℕ) (now : Moment) (n : Node) → SamePlace n (touched dir now n)
 touched_same dir now n = record { number = refl; kind = refl }

@@ -10,8 +10,8 @@ use Rattle.fuse_plan.specs.inner.Reading.{entry_body}
 use Rattle.fuse_plan.specs.inner.PlanMaking.{plan_new, plan_mkdir, plan_mknod}
 use Rattle.fuse_plan.proofs.KeptStates.{node_given, kept_make}
 use Rattle.fuse_plan.proofs.Agrees.{Agrees, checked}
-use Rattle.fuse_tree.proofs.Checks.{Passed}
-use Rattle.fuse_tree.proofs.Fit.{not_false, none_some}
+use Rattle.fuse_plan.proofs.Checks.{Passed}
+use Rattle.fuse_plan.proofs.Fit.{not_false, none_some}
 use Rattle.fuse_plan.proofs.Making.{new_full, make_rows, make_tree}
 use Rattle.fuse_plan.proofs.Modes.{made_dir, made_node, mode_stays_in, dir_no_link, node_no_link, link_stays_in}
 

@@ -2,7 +2,7 @@
 use Rattle.std.proofs.Common.{◌≡◌, ◌<◌, ◌+◌, ◌*◌, ◌/◌, ◌%◌, ◌==◌, ◌&&◌, ◌||◌, ℕ, Bool, true, false, cond, eqb, refl, sym, ap, subst, ◌∙◌, arith}
 use Rattle.std.proofs.lemmas.Bool.{eqb-true}
 use Rattle.std.proofs.lemmas.Nat.{div-mul-add}
-use Rattle.fuse_tree.proofs.Lists.{and_true}
+use Rattle.fuse_plan.proofs.Lists.{and_true}
 use Rattle.fuse_tree.specs.State.{HasMode, is_dir, is_file, is_link, type_of, type_bits, is_type, is_device}
 use Rattle.fuse_tree.specs.Making.{mode_in, dir_mode, may_make, node_mode, node_rdev}
 use Rattle.fuse_tree.specs.Creating.{file_mode}

@@ -5,7 +5,7 @@ use Rattle.std.specs.List.{AllByRecursion}
 use Rattle.std.proofs.lemmas.Bool.{eqb-true, eqb-false, ne_eqb, eq-eqb}
 use Rattle.fuse_tree.specs.State.{Node, Apart}
 use Rattle.fuse_plan.specs.inner.PlanRenaming.{more, fewer}
-use Rattle.fuse_tree.proofs.Lists.{cond_found}
+use Rattle.fuse_plan.proofs.Lists.{cond_found}
 
 abbrev pub one_if : Bool → ℕ
 one_if b = cond b 1 0

@@ -10,9 +10,9 @@ use Rattle.fuse_rows.specs.declared.rows.NodeRow.{NodeRow}
 use Rattle.fuse_tree.specs.State.{State, Node, Shape, has_number, is_dir, is_below, node_at, up_of, subdirs_of}
 use Rattle.fuse_rows.specs.Rows.{with_row, put_node}
 use Rattle.fuse_tree.specs.Rowed.{full_of, row_of}
-use Rattle.fuse_tree.proofs.Lists.{all_both, all_more, any_found, count_mapped}
-use Rattle.fuse_tree.proofs.Trees.{SamePlace}
-use Rattle.fuse_tree.proofs.Puts.{node_found, only_one}
+use Rattle.fuse_plan.proofs.Lists.{all_both, all_more, any_found, count_mapped}
+use Rattle.fuse_plan.proofs.Trees.{SamePlace}
+use Rattle.fuse_plan.proofs.Puts.{node_found, only_one}
 use Rattle.fuse_plan.proofs.GoneRows.{kept_number, put_over, same_rows}
 use Rattle.fuse_plan.proofs.MovedCounts.{count_at, one_if}
 

@@ -9,11 +9,11 @@ use Rattle.fuse_rows.specs.Rows.{is_entry}
 use Rattle.fuse_tree.specs.State.{State, Shape, IsEntry, Apart, AreApart, Reaches, above, up_of, is_dir_of, name_fault}
 use Rattle.fuse_tree.specs.Removing.{without_entry}
 use Rattle.fuse_tree.specs.Renaming.{placed}
-use Rattle.fuse_tree.proofs.Lists.{all_more, all_both, all_kept, all_grown, apart_filtered, apart_grown, found}
-use Rattle.fuse_tree.proofs.Ups.{up_more, reaches_same}
-use Rattle.fuse_tree.proofs.Heights.{rooted, not_under_own}
-use Rattle.fuse_tree.proofs.Blocks.{space_same}
-use Rattle.fuse_tree.proofs.Trees.{entry_moved}
+use Rattle.fuse_plan.proofs.Lists.{all_more, all_both, all_kept, all_grown, apart_filtered, apart_grown, found}
+use Rattle.fuse_plan.proofs.Ups.{up_more, reaches_same}
+use Rattle.fuse_plan.proofs.Heights.{rooted, not_under_own}
+use Rattle.fuse_plan.proofs.Blocks.{space_same}
+use Rattle.fuse_plan.proofs.Trees.{entry_moved}
 use Rattle.fuse_plan.proofs.Moving.{Differs, others_differ, keeps, kept_differ, up_found, up_kept, up_last, reaches_on}
 
 -- the entries of a tree, in other places

@@ -7,7 +7,7 @@ use Rattle.std.proofs.lemmas.Bool.{eqb-true, ne_eqb, eq-eqb}
 use Rattle.fuse_rows.specs.declared.rows.EntryRow.{EntryRow}
 use Rattle.fuse_rows.specs.Rows.{is_entry}
 use Rattle.fuse_tree.specs.State.{Apart, AreApart, Reaches, above, up_of}
-use Rattle.fuse_tree.proofs.Lists.{all_more, all_filtered, and_true, cond_found, found}
+use Rattle.fuse_plan.proofs.Lists.{all_more, all_filtered, and_true, cond_found, found}
 use Rattle.fuse_plan.proofs.EntryGone.{up_less}
 
 -- ---- one entry among the others

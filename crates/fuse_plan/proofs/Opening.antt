@@ -14,10 +14,10 @@ use Rattle.fuse_tree.specs.Rowed.{rows_of_state, counters_of}
 use Rattle.fuse_tree.specs.Handles.{access_in, is_open}
 use Rattle.fuse_tree.specs.Opening.{open_fault, new_handle, with_open_node, closed}
 use Rattle.fuse_plan.specs.inner.PlanOpening.{opened_changes, closed_changes}
-use Rattle.fuse_tree.proofs.Fit.{no_fault}
-use Rattle.fuse_tree.proofs.Lists.{or_true, all_more, all_grown, all_kept, apart_grown, apart_filtered, length_filtered, cond_found}
-use Rattle.fuse_tree.proofs.Blocks.{space_same}
-use Rattle.fuse_tree.proofs.Trees.{handle_moved}
+use Rattle.fuse_plan.proofs.Fit.{no_fault}
+use Rattle.fuse_plan.proofs.Lists.{or_true, all_more, all_grown, all_kept, apart_grown, apart_filtered, length_filtered, cond_found}
+use Rattle.fuse_plan.proofs.Blocks.{space_same}
+use Rattle.fuse_plan.proofs.Trees.{handle_moved}
 
 -- ---- a handle more
 

@@ -21,11 +21,11 @@ use Rattle.fuse_tree.specs.Handles.{access_in, is_open}
 use Rattle.fuse_tree.specs.Opening.{open_fault, open_checks, new_handle, open_node, open_for, open_file, open_dir, with_open_node, closed, close, release, release_dir, not_for_dirs, for_dirs_alone}
 use Rattle.fuse_plan.specs.inner.PlanOpening.{plan_open_node, plan_open_for, plan_open, plan_open_dir, counters_closed, closed_changes, plan_closed, plan_close, plan_release, plan_release_dir}
 use Rattle.fuse_plan.proofs.Agrees.{Agrees, refused_agrees, both, both_for, checked}
-use Rattle.fuse_tree.proofs.Fit.{not_false}
+use Rattle.fuse_plan.proofs.Fit.{not_false}
 use Rattle.fuse_plan.specs.inner.PlanRemoval.{goes_closed, is_used_beside}
-use Rattle.fuse_tree.proofs.Lists.{all_more, or_true}
-use Rattle.fuse_tree.proofs.Blocks.{room_with}
-use Rattle.fuse_tree.proofs.Most.{profile_mapped}
+use Rattle.fuse_plan.proofs.Lists.{all_more, or_true}
+use Rattle.fuse_plan.proofs.Blocks.{room_with}
+use Rattle.fuse_plan.proofs.Most.{profile_mapped}
 use Rattle.fuse_plan.proofs.KeptStates.{all_kept_in, kept_by, kept_open, kept_close}
 use Rattle.fuse_plan.proofs.RemovalAgrees.{tidied_rows, tree_tidied, same_tidied, kept_tidied, beside_tells}
 use Rattle.fuse_plan.proofs.Opening.{room, any_there, open_rows, tree_opened, tree_closed, close_rows}

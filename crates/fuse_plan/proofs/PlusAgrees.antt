@@ -24,12 +24,12 @@ use Rattle.fuse_plan.specs.inner.Reading.{row_attr}
 use Rattle.fuse_plan.specs.inner.PlanListing.{row_above, row_entry, dots_after}
 use Rattle.fuse_plan.specs.inner.PlanPlus.{plus_dot, row_plus, enough_plus, plus_after, plan_list_plus, plan_read_dir_plus}
 use Rattle.fuse_plan.proofs.Agrees.{Agrees, refused_agrees, both, checked}
-use Rattle.fuse_tree.proofs.Lists.{all_more, all_kept}
-use Rattle.fuse_tree.proofs.Puts.{row_found}
-use Rattle.fuse_tree.proofs.Shown.{all_taken}
-use Rattle.fuse_tree.proofs.Prefixes.{HasName, plus_cut, first_cut}
+use Rattle.fuse_plan.proofs.Lists.{all_more, all_kept}
+use Rattle.fuse_plan.proofs.Puts.{row_found}
+use Rattle.fuse_plan.proofs.Shown.{all_taken}
+use Rattle.fuse_plan.proofs.Prefixes.{HasName, plus_cut, first_cut}
 use Rattle.fuse_plan.proofs.ListingAgrees.{rows_cut}
-use Rattle.fuse_tree.proofs.Listing.{all_named}
+use Rattle.fuse_plan.proofs.Listing.{all_named}
 
 -- ---- one entry
 

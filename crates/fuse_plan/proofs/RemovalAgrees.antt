@@ -15,8 +15,8 @@ use Rattle.fuse_rows.specs.Rows.{Rows, apply, handles_of}
 use Rattle.fuse_tree.specs.Rowed.{rows_of_state, full_of, counters_of}
 use Rattle.fuse_tree.specs.Removal.{swept, tidied}
 use Rattle.fuse_plan.specs.inner.PlanRemoval.{room_without, counters_less, removal, with_removal, is_used_beside}
-use Rattle.fuse_tree.proofs.Lists.{all_more, all_filtered, apart_filtered, cond_found}
-use Rattle.fuse_tree.proofs.Blocks.{blocks_of, room_with}
+use Rattle.fuse_plan.proofs.Lists.{all_more, all_filtered, apart_filtered, cond_found}
+use Rattle.fuse_plan.proofs.Blocks.{blocks_of, room_with}
 use Rattle.fuse_plan.proofs.KeptNodes.{KeptBut}
 use Rattle.fuse_plan.proofs.Sweeping.{LessOne, less_one, tests_but, nodes_swept, tree_swept, one_stays, all_stay}
 

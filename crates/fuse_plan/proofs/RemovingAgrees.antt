@@ -17,9 +17,9 @@ use Rattle.fuse_tree.specs.Done.{answer, touched, name_checks}
 use Rattle.fuse_tree.specs.Removing.{marked, entry_gone, remove_child, remove_entry, remove, unlink_checks, unlink, rmdir_checks, rmdir}
 use Rattle.fuse_plan.specs.inner.PlanRemoving.{link_of, gone_changes, plan_gone, plan_remove_link, plan_remove, row_unlink_checks, plan_unlink, row_rmdir_checks, plan_rmdir}
 use Rattle.fuse_plan.proofs.Agrees.{Agrees, refused_agrees, both_for, checked}
-use Rattle.fuse_tree.proofs.Checks.{passed}
-use Rattle.fuse_tree.proofs.Lists.{found, and_true}
-use Rattle.fuse_tree.proofs.Puts.{row_found, node_found}
+use Rattle.fuse_plan.proofs.Checks.{passed}
+use Rattle.fuse_plan.proofs.Lists.{found, and_true}
+use Rattle.fuse_plan.proofs.Puts.{row_found, node_found}
 use Rattle.fuse_plan.specs.inner.PlanRemoval.{goes_unnamed}
 use Rattle.fuse_plan.proofs.EntryGone.{standing, up_gone, left_others}
 use Rattle.fuse_plan.proofs.KeptStates.{all_kept_in, kept_gone}

@@ -28,21 +28,21 @@ use Rattle.fuse_tree.specs.Renaming.{Renaming, is_exchange, is_no_replace, leads
 use Rattle.fuse_plan.specs.inner.PlanRemoving.{link_of}
 use Rattle.fuse_plan.specs.inner.PlanRemoval.{goes_unnamed}
 use Rattle.fuse_plan.specs.inner.PlanRenaming.{lost_changes, dir_row, moved_row, entry_change, is_dir_link, rename_changes, row_holds, link_fault, other_at, new_dir_at, plan_rename_link, plan_exchange_link, plan_rename_by, plan_rename_from, plan_rename_between, plan_rename}
-use Rattle.fuse_tree.proofs.Checks.{earlier_none, cond_none}
+use Rattle.fuse_plan.proofs.Checks.{earlier_none, cond_none}
 use Rattle.fuse_plan.proofs.Agrees.{Agrees, refused_agrees, both, both_for}
-use Rattle.fuse_tree.proofs.Lists.{all_kept, any_gives, found, and_true, and_false, or_false}
-use Rattle.fuse_tree.proofs.Puts.{row_found, node_found, only_one, dir_there}
-use Rattle.fuse_tree.proofs.Heights.{rooted, dirs_given, not_under_own}
-use Rattle.fuse_tree.proofs.Ups.{up_more}
+use Rattle.fuse_plan.proofs.Lists.{all_kept, any_gives, found, and_true, and_false, or_false}
+use Rattle.fuse_plan.proofs.Puts.{row_found, node_found, only_one, dir_there}
+use Rattle.fuse_plan.proofs.Heights.{rooted, dirs_given, not_under_own}
+use Rattle.fuse_plan.proofs.Ups.{up_more}
 use Rattle.fuse_plan.proofs.EntryGone.{IsOnly, Standing, standing, gone_only, left_others, up_less, up_gone}
-use Rattle.fuse_tree.proofs.Blocks.{room_with}
-use Rattle.fuse_tree.proofs.Most.{profile_mapped}
+use Rattle.fuse_plan.proofs.Blocks.{room_with}
+use Rattle.fuse_plan.proofs.Most.{profile_mapped}
 use Rattle.fuse_plan.proofs.KeptStates.{all_kept_in, node_given, kept_by, kept_renamed, kept_over, kept_exchanged}
 use Rattle.fuse_plan.proofs.RemovalAgrees.{tidied_rows, tidied_whole, found_mapped, tree_tidied, same_tidied, kept_tidied, unnamed_goes}
 use Rattle.fuse_plan.proofs.GoneRows.{none_in_empty}
 use Rattle.fuse_plan.proofs.Moving.{up_found}
 use Rattle.fuse_plan.proofs.MovedTrees.{f_differs}
-use Rattle.fuse_tree.proofs.Walking.{never_held}
+use Rattle.fuse_plan.proofs.Walking.{never_held}
 use Rattle.fuse_plan.proofs.RenameFree.{free_rows, free_tree}
 use Rattle.fuse_plan.proofs.RenameOver.{over_rows, over_tree}
 use Rattle.fuse_plan.proofs.Exchanges.{exchange_rows, exchange_tree}

@@ -14,9 +14,9 @@ use Rattle.fuse_tree.specs.Done.{touched, touch}
 use Rattle.fuse_tree.specs.Removing.{marked, mark, without_entry}
 use Rattle.fuse_tree.specs.Renaming.{Renaming, placed, renamed}
 use Rattle.fuse_plan.specs.inner.PlanRenaming.{dir_row, moved_row, rename_changes}
-use Rattle.fuse_tree.proofs.Lists.{all_more, all_kept, none_found}
-use Rattle.fuse_tree.proofs.Trees.{named_climbs}
-use Rattle.fuse_tree.proofs.Puts.{node_found, dir_there}
+use Rattle.fuse_plan.proofs.Lists.{all_more, all_kept, none_found}
+use Rattle.fuse_plan.proofs.Trees.{named_climbs}
+use Rattle.fuse_plan.proofs.Puts.{node_found, dir_there}
 use Rattle.fuse_plan.proofs.Making.{tree_touched}
 use Rattle.fuse_plan.proofs.GoneRows.{tree_marked}
 use Rattle.fuse_plan.proofs.Moving.{keeps, up_found}

@@ -18,12 +18,12 @@ use Rattle.fuse_tree.specs.Removing.{marked, mark, without_entry}
 use Rattle.fuse_plan.specs.inner.PlanRemoving.{unnamed_row}
 use Rattle.fuse_tree.specs.Renaming.{Renaming, placed, renamed}
 use Rattle.fuse_plan.specs.inner.PlanRenaming.{dir_row, moved_row, rename_changes}
-use Rattle.fuse_tree.proofs.Lists.{all_more, all_kept, cond_found, found, or_false}
-use Rattle.fuse_tree.proofs.Ups.{up_in, up_more, above_same}
-use Rattle.fuse_tree.proofs.Trees.{named_climbs}
-use Rattle.fuse_tree.proofs.Puts.{node_found, dir_there}
+use Rattle.fuse_plan.proofs.Lists.{all_more, all_kept, cond_found, found, or_false}
+use Rattle.fuse_plan.proofs.Ups.{up_in, up_more, above_same}
+use Rattle.fuse_plan.proofs.Trees.{named_climbs}
+use Rattle.fuse_plan.proofs.Puts.{node_found, dir_there}
 use Rattle.fuse_plan.proofs.Making.{tree_touched}
-use Rattle.fuse_tree.proofs.Heights.{up_none}
+use Rattle.fuse_plan.proofs.Heights.{up_none}
 use Rattle.fuse_plan.proofs.EntryGone.{reaches_less, tree_less}
 use Rattle.fuse_plan.proofs.GoneRows.{tree_marked}
 use Rattle.fuse_plan.proofs.Moving.{Differs, others_differ, keeps, kept_differ, gone_child, up_kept, up_last, up_found}

@@ -11,9 +11,9 @@ use Rattle.fuse_tree.specs.State.{State, terms_of, used_of, Node, Shape, IsNode,
 use Rattle.fuse_tree.specs.Rowed.{full_of, row_of, rows_of_state, counters_of}
 use Rattle.fuse_tree.specs.Space.{room_of}
 use Rattle.fuse_plan.specs.inner.PlanRenaming.{more, fewer, dir_row, moved_row}
-use Rattle.fuse_tree.proofs.Lists.{found, or_false}
-use Rattle.fuse_tree.proofs.Blocks.{used_mapped, room_told, recounted}
-use Rattle.fuse_tree.proofs.Puts.{node_found}
+use Rattle.fuse_plan.proofs.Lists.{found, or_false}
+use Rattle.fuse_plan.proofs.Blocks.{used_mapped, room_told, recounted}
+use Rattle.fuse_plan.proofs.Puts.{node_found}
 use Rattle.fuse_plan.proofs.Making.{twice}
 use Rattle.fuse_plan.proofs.MovedCounts.{Recounted}
 use Rattle.fuse_plan.proofs.MovedRows.{puts, IsRowOf, puts_meet, timed, shifted, then_full, dir_then, child_then, other_then}

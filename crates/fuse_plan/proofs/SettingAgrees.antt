@@ -20,16 +20,16 @@ use Rattle.fuse_tree.specs.Setting.{has_valid_bit, mode_after, size_fault, set_f
 use Rattle.fuse_plan.specs.inner.PlanSpace.{counters_for, room_in, room_after, room_changes}
 use Rattle.fuse_plan.specs.inner.PlanSetting.{set_row, set_changes, set_counters, plan_setattr}
 use Rattle.fuse_plan.specs.inner.Reading.{attr_body}
-use Rattle.fuse_tree.proofs.Lists.{found}
+use Rattle.fuse_plan.proofs.Lists.{found}
 use Rattle.fuse_plan.proofs.KeptStates.{kept_change}
 use Rattle.fuse_plan.proofs.Agrees.{Agrees, refused_agrees, both_for, both_seen}
-use Rattle.fuse_tree.proofs.Fit.{not_false}
+use Rattle.fuse_plan.proofs.Fit.{not_false}
 use Rattle.fuse_plan.proofs.SizedRows.{room_sized, sized_rows}
-use Rattle.fuse_tree.proofs.Blocks.{blocks_of, used_holds, used_then, room_with, room_told, space_same, space_after}
+use Rattle.fuse_plan.proofs.Blocks.{blocks_of, used_holds, used_then, room_with, room_told, space_same, space_after}
 use Rattle.fuse_plan.proofs.Carried.{bytes_carried, carried_by_kind}
 use Rattle.fuse_plan.proofs.Lengths.{length_sized}
 use Rattle.fuse_plan.proofs.Modes.{kind_stays, mode_stays}
-use Rattle.fuse_tree.proofs.Trees.{SamePlace}
+use Rattle.fuse_plan.proofs.Trees.{SamePlace}
 use Rattle.fuse_plan.proofs.Changing.{full_then, changed_rows, changed_tree}
 
 -- ---- the node after it

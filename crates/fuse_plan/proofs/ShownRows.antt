@@ -9,7 +9,7 @@ use Rattle.fuse_rows.specs.Rows.{Rows, row_at, entries_after, with_child, childr
 use Rattle.fuse_tree.specs.Rowed.{IsRowed}
 use Rattle.fuse_plan.specs.inner.PlanListing.{IsShown}
 use Rattle.fuse_plan.proofs.Within.{row_within}
-use Rattle.fuse_tree.proofs.Shown.{Leads, all_lead}
+use Rattle.fuse_plan.proofs.Shown.{Leads, all_lead}
 
 if_within : (rows : Rows) (number : ℕ) (o : Option NodeRow) → IsRowed rows → row_at rows number ≡ o → IfSome o IsWithin
 if_within rows number None is e = tt

@@ -6,7 +6,7 @@ use Rattle.fuse_rows.specs.declared.rows.Full.{Full}
 use Rattle.fuse_rows.specs.Rows.{profile_for, Rows, apply}
 use Rattle.fuse_tree.specs.Space.{used_after}
 use Rattle.fuse_plan.specs.inner.PlanSpace.{counters_for, room_after, room_changes}
-use Rattle.fuse_tree.proofs.Blocks.{room_with}
+use Rattle.fuse_plan.proofs.Blocks.{room_with}
 
 -- a size changes, and all else stays as it was counted
 pub room_sized : (o : Option ℕ) (used from to : ℕ) → option_map (room_after from to) (option_map (room_with used) o) ≡ option_map

@@ -26,7 +26,7 @@ use Rattle.fuse_rows.specs.Columns.{FitsNode, FitsRoom, FitColumns}
 use Rattle.fuse_plan.specs.inner.PlanSpace.{counters_for, room_in, room_after, room_changes}
 use Rattle.fuse_plan.specs.inner.PlanSetting.{set_row, set_counters, plan_setattr}
 use Rattle.fuse_plan.specs.inner.PlanWriting.{plan_written, plan_write}
-use Rattle.fuse_tree.proofs.Most.{file_most}
+use Rattle.fuse_plan.proofs.Most.{file_most}
 use Rattle.fuse_plan.proofs.SmallRows.{SmallCounters, Small, Fit, past, unless}
 
 pub isnt_not : (b : Bool) → not b ≡ false → b ≡ true

@@ -22,11 +22,11 @@ use Rattle.fuse_rows.specs.Columns.{FitsNode, FitsEntry, FitsHandle, FitsRoom, F
 use Rattle.fuse_plan.specs.inner.PlanRemoving.{link_of, link_at}
 use Rattle.fuse_plan.specs.inner.Reading.{refused_for, refused_by}
 use Rattle.fuse_tree.specs.Checks.{Check, first_error}
-use Rattle.fuse_tree.proofs.Checks.{Passed, passed}
-use Rattle.fuse_tree.proofs.Lists.{and_true, any_gives, found}
-use Rattle.fuse_tree.proofs.Blocks.{room_with}
-use Rattle.fuse_tree.proofs.Most.{nodes_most, file_most}
-use Rattle.fuse_tree.proofs.Trees.{nodes_below, children_below, dirs_below}
+use Rattle.fuse_plan.proofs.Checks.{Passed, passed}
+use Rattle.fuse_plan.proofs.Lists.{and_true, any_gives, found}
+use Rattle.fuse_plan.proofs.Blocks.{room_with}
+use Rattle.fuse_plan.proofs.Most.{nodes_most, file_most}
+use Rattle.fuse_plan.proofs.Trees.{nodes_below, children_below, dirs_below}
 
 -- ---- the rows of a tree
 

@@ -9,10 +9,10 @@ use Rattle.fuse_rows.specs.declared.rows.HandleRow.{HandleRow}
 use Rattle.fuse_tree.specs.State.{State, Node, Shape, Apart, IsNode, IsEntry, IsHandle, is_dir, is_dir_of, is_open_at, has_number, is_below, is_named, subdirs_of, up_of, terms_of, used_of, is_kept}
 use Rattle.fuse_tree.specs.Rowed.{full_of}
 use Rattle.fuse_tree.specs.Removal.{swept}
-use Rattle.fuse_tree.proofs.Lists.{all_more, all_both, all_kept, any_kept, apart_filtered, length_filtered, cond_found, and_true, or_true}
-use Rattle.fuse_tree.proofs.Blocks.{used_without, space_less}
-use Rattle.fuse_tree.proofs.Heights.{rooted, dirs_given}
-use Rattle.fuse_tree.proofs.Mounts.{filter_twice, each_child, child_up, reaches_named}
+use Rattle.fuse_plan.proofs.Lists.{all_more, all_both, all_kept, any_kept, apart_filtered, length_filtered, cond_found, and_true, or_true}
+use Rattle.fuse_plan.proofs.Blocks.{used_without, space_less}
+use Rattle.fuse_plan.proofs.Heights.{rooted, dirs_given}
+use Rattle.fuse_plan.proofs.Mounts.{filter_twice, each_child, child_up, reaches_named}
 use Rattle.fuse_plan.proofs.KeptNodes.{KeptBut, up_named}
 
 -- ---- who is kept

@@ -17,7 +17,7 @@ use Rattle.fuse_tree.specs.Symlinking.{link_mode, target_tests, symlink_checks, 
 use Rattle.fuse_plan.specs.inner.Reading.{entry_body}
 use Rattle.fuse_plan.specs.inner.PlanSymlinking.{plan_symlink}
 use Rattle.fuse_plan.proofs.Agrees.{Agrees, checked}
-use Rattle.fuse_tree.proofs.Fit.{not_false, none_some, no_fault}
+use Rattle.fuse_plan.proofs.Fit.{not_false, none_some, no_fault}
 use Rattle.fuse_plan.proofs.Carried.{target_carried, target_fits}
 use Rattle.fuse_plan.proofs.KeptStates.{node_given, kept_link}
 use Rattle.fuse_plan.proofs.Making.{new_full, link_rows, filled_tree, filled_space}

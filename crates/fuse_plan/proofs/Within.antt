@@ -10,9 +10,9 @@ use Rattle.fuse_rows.specs.Rows.{Rows, profile_at, row_at}
 use Rattle.fuse_tree.specs.Keeping.{agreement_at}
 use Rattle.fuse_tree.specs.Rowed.{IsRowed, rows_of_state}
 use Rattle.fuse_plan.specs.inner.Reading.{IsWithin, is_within}
-use Rattle.fuse_tree.proofs.Blocks.{room_with}
-use Rattle.fuse_tree.proofs.Most.{nodes_most, file_most, profile_mapped}
-use Rattle.fuse_tree.proofs.Bounds.{Bounded, bounded_state, rowed_is}
+use Rattle.fuse_plan.proofs.Blocks.{room_with}
+use Rattle.fuse_plan.proofs.Most.{nodes_most, file_most, profile_mapped}
+use Rattle.fuse_plan.proofs.Bounds.{Bounded, bounded_state, rowed_is}
 
 -- a row that is found among those of a tree is within the bounds of every profile
 pub row_within : (rows : Rows) (number : ℕ) (row : NodeRow) → IsRowed rows → row_at rows number ≡ Some row → IsWithin row

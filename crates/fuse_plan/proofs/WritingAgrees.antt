@@ -21,16 +21,16 @@ use Rattle.fuse_tree.specs.Space.{room_of, used_after, has_room}
 use Rattle.fuse_plan.specs.inner.PlanSpace.{counters_for, room_in, room_after}
 use Rattle.fuse_plan.specs.inner.PlanWriting.{written_row, write_changes, plan_write, plan_read}
 use Rattle.fuse_plan.specs.inner.Reading.{told}
-use Rattle.fuse_tree.proofs.Lists.{found, any_gives, and_true, and_false}
+use Rattle.fuse_plan.proofs.Lists.{found, any_gives, and_true, and_false}
 use Rattle.fuse_plan.proofs.KeptStates.{kept_change}
 use Rattle.fuse_plan.proofs.Agrees.{Agrees, refused_agrees, both, both_seen, checked}
-use Rattle.fuse_tree.proofs.Fit.{not_false}
+use Rattle.fuse_plan.proofs.Fit.{not_false}
 use Rattle.fuse_plan.proofs.SizedRows.{room_sized, sized_rows}
-use Rattle.fuse_tree.proofs.Blocks.{used_then, room_with, room_told, space_after}
+use Rattle.fuse_plan.proofs.Blocks.{used_then, room_with, room_told, space_after}
 use Rattle.fuse_plan.proofs.Carried.{bytes_carried}
 use Rattle.fuse_plan.proofs.Lengths.{length_written}
-use Rattle.fuse_tree.proofs.Trees.{SamePlace}
-use Rattle.fuse_tree.proofs.Puts.{only_one, find_full}
+use Rattle.fuse_plan.proofs.Trees.{SamePlace}
+use Rattle.fuse_plan.proofs.Puts.{only_one, find_full}
 use Rattle.fuse_plan.proofs.Changing.{changed_rows, changed_tree}
 
 -- ---- what may be written to is a file

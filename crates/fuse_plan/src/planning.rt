@@ -42,6 +42,7 @@ mod unlink;
 mod walking;
 mod write;
 
+use crate::laws::answers_are_read;
 use crate::planned::Planned;
 use answers::{done_nothing, refused};
 pub use fault::PlanFault;
@@ -49,7 +50,7 @@ use finding::{find_agreement, find_node, is_within};
 use further::plan_further;
 use fuse_request::{Op, Request};
 use fuse_rows::NodeRow;
-use fuse_tree::{Agreement, Look, answers_are_read, open_flags};
+use fuse_tree::{Agreement, Look, open_flags};
 use fuse_wire::{Errno, Moment};
 use getattr::plan_getattr;
 use init::plan_init;

@@ -9,12 +9,12 @@ use Rattle.fuse_request.specs.Classes.{class_for}
 use Rattle.std.proofs.Common.{zero, suc, get_or}
 use Rattle.fuse_keeper.specs.declared.keeper.Done.{Done}
 use Rattle.fuse_keeper.specs.History.{Entry, entry_id, History, has, grown, repeats}
-use Rattle.fuse_keeper.proofs.Histories.{grown-append}
 use Rattle.fuse_session.specs.declared.counts.SessionCounts.{SessionCounts}
 use Rattle.fuse_session.specs.Processed.{Timed, bytes_of, kept_in, entries_at, entry_if, timed_entry}
 use Rattle.fuse_session.specs.Counting.{plus, none_counted, counted_one, counted, one_if, is_interrupt}
 use Rattle.fuse_session.specs.inner.Counting.{IsBelow}
 use Rattle.fuse_session.specs.inner.Group.{tallied, head_repeat, left_by, repeats_in, classes_in}
+use Rattle.fuse_session.proofs.Outs.{grown-append}
 
 pub plus_assoc : (a b c : SessionCounts) → plus (plus a b) c ≡ plus a (plus b c)
 plus_assoc a b c = simp add_assoc

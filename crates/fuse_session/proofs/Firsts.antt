@@ -2,14 +2,15 @@
 use Rattle.std.proofs.Common.{◌≡◌, ◌⊎◌, inl, inr, ℕ, zero, suc, ◌≤◌, Bool, true, List, [], ◌∷◌, ◌++◌, length, map, take, All, Some}
 use Rattle.std.proofs.Common.{refl, sym, ap, subst, ◌∙◌, arith}
 use Rattle.std.proofs.lemmas.List.{length-map, map-append}
+use Rattle.std.proofs.lemmas.Simd.{map-map}
 use Rattle.fuse_answer.specs.Said.{Said}
 use Rattle.fuse_request.specs.Opcodes.{OpcodeSet}
 use Rattle.fuse_request.specs.declared.class.Class.{Class}
 use Rattle.fuse_request.specs.declared.class.Class.TheVariants.{Silent, Bare, Kept}
 use Rattle.fuse_request.specs.Classes.{class_for}
 use Rattle.fuse_keeper.specs.declared.keeper.Done.{Done}
-use Rattle.fuse_keeper.specs.History.{Entry, entry_id, History, grown, said, is_in, Includes, IsUnsettled}
-use Rattle.fuse_keeper.specs.Model.{Model}
+use Rattle.fuse_keeper.specs.History.{Entry, entry_id, History, after, grown, said, is_in, Includes, IsUnsettled}
+use Rattle.fuse_keeper.specs.Model.{Model, IsOfGoodState}
 use Rattle.fuse_keeper.specs.KeeperState.{KeeperState, ActsOn}
 use Rattle.fuse_keeper.specs.Taking.{GroupsGrow}
 use Rattle.fuse_keeper.specs.Group.{handed_to}
@@ -18,11 +19,8 @@ use Rattle.fuse_session.specs.Settling.{Mark, replies, settles_by_mark, NoneCome
 use Rattle.fuse_session.specs.Exchange.{FirstAnswered}
 use Rattle.fuse_session.specs.inner.Group.{answers_in, head_wire, left_by, wires}
 use Rattle.fuse_session.proofs.Standing.{exchanged}
-use Rattle.fuse_keeper.proofs.Standing.{unsettled_too}
-use Rattle.fuse_session.proofs.Settled.{group_unsettled}
-use Rattle.fuse_keeper.proofs.Settled.{in_either}
+use Rattle.fuse_session.proofs.Settled.{group_unsettled, in_either, unsettled_too}
 use Rattle.fuse_session.proofs.Outs.{kept_in-append}
-use Rattle.fuse_keeper.proofs.Firsts.{first_said}
 
 -- ---- lists
 
@@ -115,8 +113,7 @@ wires_first M s g (t ∷ first) later list others are =
 -- ---- a group
 
 pub same_answers : (dones : List Done) → map (λ a. Some a) (answers_in dones) ≡ map (λ (d : Done). Some d.answer) dones
-same_answers [] = refl
-same_answers (d ∷ dones) = ap (λ r. Some d.answer ∷ r) (same_answers dones)
+same_answers dones = map-map (λ a. Some a) (λ (d : Done). d.answer) dones
 
 handed_pending : (pending : List ℕ) (es : List Entry) (i : ℕ) → is_in (handed_to es pending) i ≡ true → is_in pending i ≡ true
 handed_pending pending [] i there = absurd (cc there)
@@ -134,13 +131,16 @@ pub group_first : (M : Model) → GroupsGrow M → (holds holds' : KeeperState M
     → ((s : M.State) (h : History) → Works M s h ts) → es ≡ kept_in M.serves ts → ActsOn holds holds' (handed_to es pending) es dones
     → wires M.serves (bytes_of ts) (answers_in dones) ≡ replies marks ++ later
     → holds'.is_honest → FirstAnswered holds pending (exchanged c ts marks)
+unfolding IsOfGoodState
 group_first M grows holds holds' c pending ts es dones marks later works is acts whole honest first others parts s h t so within again =
     let V = M.serves in
     let handed = handed_to es pending in
     let fresh : All (IsUnsettled (t ++ handed)) (kept_in V first) =
     λ k d lt. unsettled_too t (t ++ handed) _ (with_handed t pending es within) (group_unsettled V c t first marks again k d lt) in
-    let f = first_said M grows holds holds' handed es (kept_in V first) (kept_in V others) dones acts (is ∙ ap (kept_in V) parts ∙ kept_in-append V first others)
-    honest s h t so fresh in
+    let done = acts honest so.rows so.records so.held (after M s h, so.stands.tree, so.stands.rows_are) in
+    let f = grows.first_said (record { rows = so.rows; records = so.records }) handed es (kept_in V first) (kept_in V others)
+    (record { rows = done.rows; records = done.records }) dones (record { state = s; history = h; settled = t }) done.taken
+    (is ∙ ap (kept_in V) parts ∙ kept_in-append V first others) so.stands fresh in
     let g = grown h (kept_in V first) in
     let split : answers_to M s g first ++ wires V (bytes_of others) (answers_in f.others) ≡ replies marks ++ later =
     sym (wires_first M s g first others (answers_in f.some) (answers_in f.others) (same_answers f.some ∙ f.says))

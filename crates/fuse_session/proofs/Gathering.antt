@@ -1,7 +1,8 @@
 -- Groups, one message after another.
 use Rattle.std.proofs.Common.{◌≡◌, ◌≢◌, inl, inr, ℕ, ◌+◌, ◌<◌, ◌==◌, Bool, true, false, not, ◌&&◌, if◌then◌else◌, List, [], ◌∷◌, ◌++◌, length, take, get_or}
-use Rattle.std.proofs.Common.{All, refl, sym, ap, subst, ◌∙◌, append_assoc, arith}
+use Rattle.std.proofs.Common.{All, refl, sym, ap, subst, ◌∙◌, arith}
 use Rattle.std.proofs.lemmas.List.{take_more, append-nil, map-append, map_more}
+use Rattle.std.proofs.lemmas.List.Concat.{flat_map-append}
 use Rattle.std.proofs.lemmas.List.Elements.{All-append}
 use Rattle.fuse_request.specs.Opcodes.{OpcodeSet}
 use Rattle.fuse_wire.specs.Ids.{id_of}
@@ -35,10 +36,7 @@ DestroyLast-append V [] t each = (inl refl, tt)
 DestroyLast-append V (x ∷ xs) t each = (inr each.0, DestroyLast-append V xs t each.1)
 
 pub moments-append : (V : OpcodeSet) → (xs ys : List Timed) → moments_in V (xs ++ ys) ≡ moments_in V xs ++ moments_in V ys
-moments-append V [] ys = refl
-moments-append V (x ∷ xs) ys =
-    ap (λ (r : List Moment). moment_if (class_for V x.bytes) x.moment ++ r) (moments-append V xs ys)
-    ∙ sym (append_assoc (moment_if (class_for V x.bytes) x.moment) (moments_in V xs) (moments_in V ys))
+moments-append V xs ys = flat_map-append (λ t. moment_if (class_for V t.bytes) t.moment) xs ys
 
 -- what was given for these messages, and joins for those
 pub gave_more : (V : OpcodeSet) → (gave gave' gave'' : List Moment → Type 0) (xs ys : List Timed) → ((one two : List Moment) → gave one → gave' two → gave'' (one ++ two))

@@ -11,9 +11,9 @@ use Rattle.fuse_request.specs.declared.class.Class.TheVariants.{Silent, Bare, Ke
 use Rattle.fuse_request.specs.Classes.{class_for}
 use Rattle.fuse_keeper.specs.declared.keeper.Done.{Done}
 use Rattle.fuse_keeper.specs.declared.fault.StoreFault.{StoreFault}
-use Rattle.fuse_keeper.specs.History.{Entry, History, grown, ids_in, Includes, IsUnsettled, repeats, HistoriesGrow}
+use Rattle.fuse_keeper.specs.History.{Entry, entry_id, History, said, grown, said_after_each, ids_in, Includes, IsUnsettled, repeats, HistoriesGrow}
 use Rattle.fuse_keeper.specs.Model.{Model}
-use Rattle.fuse_keeper.specs.Stands.{Standing, Records, Stands, StandsForEither, AreThese}
+use Rattle.fuse_keeper.specs.Stands.{Standing, Records, Stands, StandsForEither, AreThese, StillStands}
 use Rattle.fuse_keeper.specs.KeeperState.{KeeperState, StandsFor, Performed, Leaves, IsFirm, KeepsHeld, ActsOn}
 use Rattle.fuse_keeper.specs.Group.{entry_of, entries_of, handed_to, left_pending}
 use Rattle.fuse_keeper.specs.Performance.{Performance, performances_of}
@@ -24,8 +24,7 @@ use Rattle.fuse_session.specs.inner.Turn.{Mute}
 use Rattle.fuse_session.specs.declared.port.Sent.{Sent}
 use Rattle.fuse_keeper.specs.Taking.{GroupsGrow}
 use Rattle.fuse_session.proofs.Firsts.{group_first, first_unsent, same_answers}
-use Rattle.fuse_session.proofs.Standing.{standing, exchanged, StandAt}
-use Rattle.fuse_keeper.proofs.Standing.{Stands-same}
+use Rattle.fuse_session.proofs.Standing.{standing, exchanged, StandAt, stands_later, stands_kept}
 use Rattle.fuse_session.specs.declared.ended.Ended.{Ended}
 use Rattle.fuse_session.specs.declared.ended.Ended.TheVariants.{Store as ByStore}
 use Rattle.fuse_session.specs.Ended.{ended_store, ended_between, MayEnd}
@@ -41,7 +40,6 @@ use Rattle.fuse_session.specs.Processed.{Timed, bytes_of, kept_in, entry_if, tim
 use Rattle.fuse_session.specs.Settling.{Mark, replies, settled_in, NoneComesAgain, SentUpTo, Replied, FewHave}
 use Rattle.fuse_session.specs.inner.Group.{Gathers, IsStuck, answers_in, repeats_in, wires, left_by, tallied, rest_by, last_zero, AreEnough}
 use Rattle.fuse_session.proofs.Outs.{wires_are, answers_are_outs, outs_prefix}
-use Rattle.fuse_keeper.proofs.Performing.{told, told_is}
 use Rattle.fuse_session.specs.inner.Sending.{sending, SentAll, SentSome}
 use Rattle.fuse_session.specs.Exchange.{Exchange, grown_by, HoldsAt, Lived, Exact}
 use Rattle.fuse_session.specs.Serving.{TookTurn, Broken, lasts}
@@ -49,10 +47,9 @@ use Rattle.fuse_session.proofs.Replies.{replied_none}
 use Rattle.fuse_session.proofs.Batching.{one_batch, are_one, asked_one, left_one, some_all}
 use Rattle.fuse_session.proofs.Transcripts.{handed_sends}
 use Rattle.fuse_session.proofs.Ending.{works_group, goes_none, goes_last, ends_last}
-use Rattle.fuse_session.proofs.Settled.{group_unsettled, settled_none}
+use Rattle.fuse_session.proofs.Settled.{group_unsettled, settled_none, includes_left}
 use Rattle.fuse_session.proofs.Handing.{few_kept, few_same, few_sent, few_unsent}
 use Rattle.fuse_session.proofs.Counted.{tallied_is}
-use Rattle.fuse_keeper.proofs.Settled.{includes_left, stands_later, stands_kept}
 
 -- ---- what stands, and what a crash leaves
 
@@ -60,10 +57,10 @@ pub leaves_map : (M : Model) → (left : KeeperState M) (P Q : M.Rows → Record
     → Leaves left Q
 leaves_map M left P Q f l = (l.0, λ x r is. f x r (l.1 x r is))
 
-pub firm_leaves : (M : Model) → (holds : KeeperState M) (s : M.State) (h : History) (t : List ℕ) → IsFirm holds → StandsFor holds s h t
+pub firm_leaves : (M : Model) → StillStands M → (holds : KeeperState M) (s : M.State) (h : History) (t : List ℕ) → IsFirm holds → StandsFor holds s h t
     → Leaves holds (λ x r. Stands M x r s h t)
-firm_leaves M holds s h t firm so =
-    leaves_map M holds (AreThese M so.rows so.records) (λ x r. Stands M x r s h t) (λ x r same. Stands-same M so.rows so.records x r s h t same so.stands)
+firm_leaves M still holds s h t firm so =
+    leaves_map M holds (AreThese M so.rows so.records) (λ x r. Stands M x r s h t) (λ x r same. still.same so.rows so.records x r s h t same so.stands)
     (firm so.rows so.records so.held)
 
 -- ---- lives
@@ -217,10 +214,15 @@ broken_store M holds holds' gave performed became p pending messages count taken
 
 -- ---- a group that was performed
 
+says_all : (M : Model) → (holds : KeeperState M) (s : M.State) (h : History) (t : List ℕ) (es : List Entry) (ts : List Timed)
+    (dones : List Done) → Performed holds s h t es dones → es ≡ kept_in M.serves ts
+    → map (λ a. Some a) (answers_in dones) ≡ map (λ e. said M s (grown h (kept_in M.serves ts)) (entry_id e)) (kept_in M.serves ts)
+says_all M holds s h t es ts dones done is = same_answers dones ∙ done.answers ∙ ap (λ l. map (λ e. said M s (grown h l) (entry_id e)) l) is
+
 says_told : (M : Model) → HistoriesGrow M → (holds : KeeperState M) (s : M.State) (h : History) (t : List ℕ) (es : List Entry) (ts : List Timed)
     (dones : List Done) → Performed holds s h t es dones → es ≡ kept_in M.serves ts
-    → map (λ a. Some a) (answers_in dones) ≡ told M s h (kept_in M.serves ts)
-says_told M grows holds s h t es ts dones done is = same_answers dones ∙ done.answers ∙ told_is M s h es ∙ ap (told M s h) is
+    → map (λ a. Some a) (answers_in dones) ≡ said_after_each M s h (kept_in M.serves ts)
+says_told M grows holds s h t es ts dones done is = says_all M holds s h t es ts dones done is ∙ grows.each s h (kept_in M.serves ts)
 
 sent_are : (M : Model) → HistoriesGrow M → (holds : KeeperState M) (s : M.State) (h : History) (t : List ℕ) (es : List Entry) (ts : List Timed)
     (prefix : List (List ℕ)) (dones : List Done) → Performed holds s h t es dones → es ≡ kept_in M.serves ts
@@ -228,10 +230,10 @@ sent_are : (M : Model) → HistoriesGrow M → (holds : KeeperState M) (s : M.St
 sent_are M grows holds s h t es ts prefix dones done is bytes = ap (λ f. wires M.serves f (answers_in dones)) bytes ∙ wires_are M grows s h ts (answers_in dones)
     (says_told M grows holds s h t es ts dones done is)
 
-now_stands : (M : Model) → (holds : KeeperState M) (s : M.State) (h : History) (t more : List ℕ) (es : List Entry) (ts : List Timed) (dones : List Done)
+now_stands : (M : Model) → StillStands M → (holds : KeeperState M) (s : M.State) (h : History) (t more : List ℕ) (es : List Entry) (ts : List Timed) (dones : List Done)
     → Performed holds s h t es dones → es ≡ kept_in M.serves ts
     → StandsFor holds s (grown h (kept_in M.serves ts)) (t ++ more)
-now_stands M holds s h t more es ts dones done is = stands_later M holds s (grown h (kept_in M.serves ts)) t (t ++ more) (includes_left t more)
+now_stands M still holds s h t more es ts dones done is = stands_later M still holds s (grown h (kept_in M.serves ts)) t (t ++ more) (includes_left t more)
     (subst (λ l. StandsFor holds s (grown h l) t) is done.stands)
 
 memory_is : (fault : Fault) → ended_between (ended_at fault) ≡ true → ended_store (ended_at fault) ≡ false → fault ≡ Memory
@@ -280,7 +282,7 @@ sent_slices became p q answers (Store f) x =
     }
 
 -- its answers weren't all sent
-pub broken_sent : (M : Model) → HistoriesGrow M → GroupsGrow M → (holds holds' : KeeperState M) (gave : List Moment → Type 0) (performed_so : List Performance → Type 0)
+pub broken_sent : (M : Model) → HistoriesGrow M → GroupsGrow M → StillStands M → (holds holds' : KeeperState M) (gave : List Moment → Type 0) (performed_so : List Performance → Type 0)
     (became : List PortEvent → Type 0) (p q : PortState) (pending mid : List ℕ)
     (messages : List (List ℕ)) (count : ℕ) (taken : List (Request × Moment)) (ends : Bool) (group : List (Request × Moment)) (prefix : List (List ℕ))
     (dones list : List Done) (fault : Fault)
@@ -293,7 +295,7 @@ pub broken_sent : (M : Model) → HistoriesGrow M → GroupsGrow M → (holds ho
     → length mid + length (entries_of group) ≤ 16 → ActsOn holds holds' (handed_to (entries_of group) pending) (entries_of group) dones
     → list ≡ dones → SentSome became p q (wires M.serves prefix (answers_in list)) fault
     → Broken (passage holds holds' p q (Mute (Did gave performed_so became))) pending messages (ended_at fault)
-broken_sent M grows groups holds holds' gave performed_so became p q pending mid messages count taken ends group prefix dones list fault gathers same asked same_prefix
+broken_sent M grows groups still holds holds' gave performed_so became p q pending mid messages count taken ends group prefix dones list fault gathers same asked same_prefix
     performed firm_still few size acts same_list sent =
     let some = subst (λ l. SentSome became p q (wires M.serves prefix (answers_in l)) fault) same_list sent in
     let sl = sent_slices became p q (wires M.serves prefix (answers_in dones)) fault some in
@@ -343,7 +345,7 @@ broken_sent M grows groups holds holds' gave performed_so became p q pending mid
       life = λ intact s h t so within again.
           let d = done intact.honest s h t so within again in
           lived_all M (HoldsAt holds') (standing M s h t) (exchanged p.confirms ts some.marks) sl.answer (works s h)
-          (now_stands M holds' s h t _ (entries_of group) ts dones d es) (subst (λ all. SentUpTo all some.marks sl.answer)
+          (now_stands M still holds' s h t _ (entries_of group) ts dones d es) (subst (λ all. SentUpTo all some.marks sl.answer)
           (sent_are M grows holds' s h t (entries_of group) ts prefix dones d es bytes) sl.sent);
       crash = λ honest firm s h t so within again.
           let d = done honest s h t so within again in
@@ -351,8 +353,8 @@ broken_sent M grows groups holds holds' gave performed_so became p q pending mid
           (λ x r. Lived M (standing M s h t) (exchanged p.confirms ts some.marks) (StandAt M x r) sl.answer)
           (λ x r stands. lived_all M (StandAt M x r) (standing M s h t) (exchanged p.confirms ts some.marks) sl.answer (works s h) stands
           (subst (λ all. SentUpTo all some.marks sl.answer) (sent_are M grows holds' s h t (entries_of group) ts prefix dones d es bytes) sl.sent))
-          (firm_leaves M holds' s (grown h (kept_in M.serves ts)) _ (firm_still honest firm)
-          (now_stands M holds' s h t (settled_in M.serves p.confirms (bytes_of ts) some.marks) (entries_of group) ts dones d es));
+          (firm_leaves M still holds' s (grown h (kept_in M.serves ts)) _ (firm_still honest firm)
+          (now_stands M still holds' s h t (settled_in M.serves p.confirms (bytes_of ts) some.marks) (entries_of group) ts dones d es));
       few = λ intact t again h. (
         mid ++ ids_in (entries_of group),
         few_unsent M holds' p.confirms t mid (entries_of group) ts some.marks es size
@@ -379,7 +381,7 @@ and_false : (a b : Bool) → (a && b) ≡ false → (a ≡ false) ⊎ ((a ≡ tr
 and_false true b is = inr (refl, is)
 and_false false b is = inl refl
 
-pub turned : (M : Model) → HistoriesGrow M → GroupsGrow M → (holds holds' : KeeperState M) (gave : List Moment → Type 0) (performed_so : List Performance → Type 0)
+pub turned : (M : Model) → HistoriesGrow M → GroupsGrow M → StillStands M → (holds holds' : KeeperState M) (gave : List Moment → Type 0) (performed_so : List Performance → Type 0)
     (became : List PortEvent → Type 0) (p q : PortState) (pending mid pending' : List ℕ)
     (messages : List (List ℕ)) (count : ℕ)
     (taken : List (Request × Moment)) (ends : Bool) (group : List (Request × Moment)) (prefix : List (List ℕ)) (dones list : List Done) (stuck : Bool)
@@ -393,7 +395,7 @@ pub turned : (M : Model) → HistoriesGrow M → GroupsGrow M → (holds holds' 
     → SentAll M.serves (sending became p q mid pending') prefix (wires M.serves prefix (answers_in list)) → list ≡ dones → rest ≡ rest_by (ends && last_zero (answers_in list)) stuck
     → counts ≡ tallied M.serves prefix (repeats_in list)
     → TookTurn (passage holds holds' p q (Mute (Did gave performed_so became))) pending pending' (take count messages) (lasts rest) counts
-turned M grows groups holds holds' gave performed_so became p q pending mid pending' messages count taken ends group prefix dones list stuck rest counts gathers same asked left same_prefix performed
+turned M grows groups still holds holds' gave performed_so became p q pending mid pending' messages count taken ends group prefix dones list stuck rest counts gathers same asked left same_prefix performed
     few size acts sent same_list is counts_are =
     let all = subst (λ l. SentAll M.serves (sending became p q mid pending') prefix (wires M.serves prefix (answers_in l))) same_list sent in
     let ts = gathers.timed in
@@ -432,8 +434,8 @@ turned M grows groups holds holds' gave performed_so became p q pending mid pend
                 ];
             last = λ over.
                 let both = and_true ends (last_zero (answers_in list)) (ended_so (ends && last_zero (answers_in list)) stuck (sym (ap lasts is) ∙ over)) in
-                ends_last M s h ts (answers_in dones) (gathers.ended both.0) says (sym (ap (λ l. last_zero (answers_in l)) same_list) ∙ both.1);
-            stands = now_stands M holds' s h t _ (entries_of group) ts dones d es;
+                ends_last M s h ts (answers_in dones) (gathers.ended both.0) (says_all M holds' s h t (entries_of group) ts dones d es) (sym (ap (λ l. last_zero (answers_in l)) same_list) ∙ both.1);
+            stands = now_stands M still holds' s h t _ (entries_of group) ts dones d es;
             sent = all.whole ∙ sent_are M grows holds' s h t (entries_of group) ts prefix dones d es bytes;
             counts_are = counts_are ∙ ap (λ l. tallied M.serves prefix (repeats_in l)) same_list ∙ ap (λ f. tallied M.serves f (repeats_in dones)) bytes
                 ∙ ap (tallied M.serves (bytes_of ts)) (d.repeated ∙ ap (repeats h) es) ∙ tallied_is M.serves ts h;

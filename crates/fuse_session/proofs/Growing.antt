@@ -8,6 +8,7 @@ use Rattle.fuse_request.specs.declared.framer.FrameFault.{FrameFault}
 use Rattle.fuse_request.specs.Stream.{cut, joined, CutJoins}
 use Rattle.fuse_request.specs.Framing.{HeldBytes}
 use Rattle.fuse_keeper.specs.History.{HistoriesGrow}
+use Rattle.fuse_keeper.specs.Stands.{StillStands}
 use Rattle.fuse_keeper.specs.Model.{Model}
 use Rattle.fuse_keeper.specs.KeeperState.{KeeperState, IsFirm, AnswersNoMore}
 use Rattle.fuse_session.specs.declared.counts.SessionCounts.{SessionCounts}
@@ -149,13 +150,13 @@ life_more M grows joins holds mid new did did' did'' p q r w w' counts e one two
 }
 
 -- all messages were processed: a life too
-pub whole_life : (M : Model) → (holds new : KeeperState M) (did : Deeds → Type 0) (p q : PortState) (w w' : Waiting) (counts : SessionCounts) (e : Ended)
+pub whole_life : (M : Model) → StillStands M → (holds new : KeeperState M) (did : Deeds → Type 0) (p q : PortState) (w w' : Waiting) (counts : SessionCounts) (e : Ended)
     → ended_store e ≡ false → Whole (passage holds new p q did) w w' counts → (new.is_honest → IsFirm holds → IsFirm new)
     → Run (passage holds new p q did) w e
-whole_life M holds new did p q w w' counts e inexact one firm_still = record {
+whole_life M still holds new did p q w w' counts e inexact one firm_still = record {
   received = one.received;
   came = one.came;
-  broken = turned_life M holds new (Hears did one.received) p q w.pending w'.pending (cut (w.bytes ++ one.received)).0 [] (cut (w.bytes ++ one.received)).0 true
+  broken = turned_life M still holds new (Hears did one.received) p q w.pending w'.pending (cut (w.bytes ++ one.received)).0 [] (cut (w.bytes ++ one.received)).0 true
       counts e inexact one.turned (sym (append-nil (cut (w.bytes ++ one.received)).0)) firm_still;
 }
 

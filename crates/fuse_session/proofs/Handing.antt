@@ -20,9 +20,7 @@ use Rattle.fuse_keeper.specs.Lots.{Lots, SameLots, TakesLot, RecordsUnder}
 use Rattle.fuse_session.specs.inner.Moves.{HandsOn}
 use Rattle.fuse_session.specs.inner.Group.{Gathers}
 use Rattle.fuse_session.specs.inner.Sending.{sending, SentAll}
-use Rattle.fuse_keeper.proofs.Standing.{unsettled_too}
-use Rattle.fuse_session.proofs.Settled.{all_settled, settled_none, settled_within, none_again}
-use Rattle.fuse_keeper.proofs.Settled.{includes_left, includes_right, in_either}
+use Rattle.fuse_session.proofs.Settled.{all_settled, settled_none, settled_within, none_again, includes_left, includes_right, in_either, unsettled_too}
 
 -- what is left of one record
 left_of : (b : Bool) (o now base : Option Said) → now ≡ (if b then None else o) → (b ≡ false → (o ≡ None) ⊎ (o ≡ base)) → (now ≡ None) ⊎ (now ≡ base)

@@ -1,29 +1,29 @@
-pub mod Bytes
-pub mod Transcripts
-pub mod Notices
-pub mod Devices
-pub mod Streams
-pub mod Sharing
-pub mod Grouping
-pub mod Rooms
-pub mod Standing
-pub mod Pieces
-pub mod Replies
-pub mod Outs
-pub mod Ending
-pub mod Settled
-pub mod Batching
-pub mod Doing
-pub mod Gathering
-pub mod Counted
-pub mod Sends
-pub mod Handing
-pub mod Firsts
-pub mod Groups
-pub mod Turns
-pub mod Waiting
-pub mod Growing
-pub mod Sessions
-pub mod Prompting
-pub mod Starting
-pub mod KeeperStarts
+mod Bytes
+mod Transcripts
+mod Notices
+mod Devices
+mod Streams
+mod Sharing
+mod Grouping
+mod Rooms
+mod Standing
+mod Pieces
+mod Replies
+mod Outs
+mod Ending
+mod Settled
+mod Batching
+mod Doing
+mod Gathering
+mod Counted
+mod Sends
+mod Handing
+mod Firsts
+mod Groups
+mod Turns
+mod Waiting
+mod Growing
+mod Sessions
+mod Prompting
+mod Starting
+mod KeeperStarts

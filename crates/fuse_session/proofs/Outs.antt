@@ -1,22 +1,24 @@
 -- What is sent for messages, one after another.
-use Rattle.std.proofs.Common.{◌≡◌, inl, inr, ℕ, true, List, [], ◌∷◌, ◌++◌, map, Some, refl, sym, ap, subst, ◌∙◌, append_assoc}
+use Rattle.std.proofs.Common.{◌≡◌, inl, inr, ℕ, true, List, [], ◌∷◌, ◌++◌, map, Some, refl, sym, ap, subst, ◌∙◌}
+use Rattle.std.proofs.lemmas.List.Concat.{flat_map-append}
+use Rattle.std.proofs.lemmas.List.Sums.{fold-append}
 use Rattle.fuse_request.specs.Opcodes.{OpcodeSet}
 use Rattle.fuse_answer.specs.Said.{Said}
 use Rattle.fuse_request.specs.declared.class.Class.{Class}
 use Rattle.fuse_request.specs.declared.class.Class.TheVariants.{Silent, Bare, Kept}
 use Rattle.fuse_request.specs.Classes.{class_for}
 use Rattle.fuse_keeper.specs.Model.{Model}
-use Rattle.fuse_keeper.specs.History.{Entry, entry_id, History, has, add, said, grown, HistoriesGrow}
-use Rattle.fuse_keeper.proofs.Histories.{grown-append}
+use Rattle.fuse_keeper.specs.History.{Entry, entry_id, History, has, add, said, grown, said_after_each, HistoriesGrow}
 use Rattle.fuse_session.specs.Processed.{Timed, bytes_of, kept_in, entries_at, entry_if, timed_entry, message_id, unique_of, answered, answers_to, answer_by, GoesOn}
 use Rattle.fuse_session.specs.Processed.{Works}
 use Rattle.fuse_session.specs.Settling.{Mark, replies}
 use Rattle.fuse_session.specs.inner.Group.{head_wire, left_by, wires}
-use Rattle.fuse_keeper.proofs.Performing.{told}
 
 pub kept_in-append : (V : OpcodeSet) → (xs ys : List Timed) → kept_in V (xs ++ ys) ≡ kept_in V xs ++ kept_in V ys
-kept_in-append V [] ys = refl
-kept_in-append V (x ∷ xs) ys = ap (λ r. entries_at V x ++ r) (kept_in-append V xs ys) ∙ sym (append_assoc (entries_at V x) (kept_in V xs) (kept_in V ys))
+kept_in-append V xs ys = flat_map-append (entries_at V) xs ys
+
+pub grown-append : (h : History) (xs ys : List Entry) → grown h (xs ++ ys) ≡ grown (grown h xs) ys
+grown-append h xs ys = fold-append add h xs ys
 
 pub grown_kept : (V : OpcodeSet) → (h : History) (xs ys : List Timed) → grown h (kept_in V (xs ++ ys)) ≡ grown (grown h (kept_in V xs)) (kept_in V ys)
 grown_kept V h xs ys = ap (grown h) (kept_in-append V xs ys) ∙ grown-append h (kept_in V xs) (kept_in V ys)
@@ -120,10 +122,10 @@ GoesOn-append M s h (x ∷ xs) ys goes more =
 -- ---- what one list of answers sends is what is to be sent
 
 head_is : (M : Model) → (s : M.State) (h : History) (t : Timed) (es : List Entry) (class : Class) (list : List Said)
-    → map (λ a. Some a) list ≡ told M s h (entry_if class (timed_entry t) ++ es)
+    → map (λ a. Some a) list ≡ said_after_each M s h (entry_if class (timed_entry t) ++ es)
     → (head_wire class (unique_of t.bytes) list ≡ answer_by class (said M s (grown h (entry_if class (timed_entry t))) (message_id t.bytes))
     (unique_of t.bytes))
-    × (map (λ a. Some a) (left_by class list) ≡ told M s (grown h (entry_if class (timed_entry t))) es)
+    × (map (λ a. Some a) (left_by class list) ≡ said_after_each M s (grown h (entry_if class (timed_entry t))) es)
 head_is M s h t es Silent list are = (refl, are)
 head_is M s h t es (Bare errno) list are = (refl, are)
 head_is M s h t es Kept [] are = absurd (cc are)
@@ -132,7 +134,7 @@ head_is M s h t es Kept (a ∷ list) are =
     let here : said M s (add h e) (entry_id e) ≡ Some a = cc are in
     (ap (λ o. answer_by Kept o (unique_of t.bytes)) (sym here), cc are)
 
-wires_outs : (M : Model) → (s : M.State) (ts : List Timed) (h : History) (list : List Said) → map (λ a. Some a) list ≡ told M s h (kept_in M.serves ts)
+wires_outs : (M : Model) → (s : M.State) (ts : List Timed) (h : History) (list : List Said) → map (λ a. Some a) list ≡ said_after_each M s h (kept_in M.serves ts)
     → wires M.serves (bytes_of ts) list ≡ outs M s h ts
 wires_outs M s [] h list are = refl
 wires_outs M s (t ∷ ts) h list are =
@@ -141,5 +143,5 @@ wires_outs M s (t ∷ ts) h list are =
     ∙ ap (λ r. answered M s (grown h (entries_at M.serves t)) t ∷ r) (wires_outs M s ts (grown h (entries_at M.serves t)) (left_by (class_for M.serves t.bytes) list) p.1)
 
 pub wires_are : (M : Model) → HistoriesGrow M → (s : M.State) (h : History) (ts : List Timed) (list : List Said)
-    → map (λ a. Some a) list ≡ told M s h (kept_in M.serves ts) → wires M.serves (bytes_of ts) list ≡ answers_to M s (grown h (kept_in M.serves ts)) ts
+    → map (λ a. Some a) list ≡ said_after_each M s h (kept_in M.serves ts) → wires M.serves (bytes_of ts) list ≡ answers_to M s (grown h (kept_in M.serves ts)) ts
 wires_are M grows s h ts list are = wires_outs M s ts h list are ∙ sym (answers_are_outs M grows s h ts)

@@ -8,6 +8,7 @@ use Rattle.fuse_request.specs.declared.framer.FrameFault.{FrameFault}
 use Rattle.fuse_request.specs.Stream.{cut, joined, CutJoins}
 use Rattle.fuse_request.specs.Framing.{HeldBytes}
 use Rattle.fuse_keeper.specs.History.{HistoriesGrow}
+use Rattle.fuse_keeper.specs.Stands.{StillStands}
 use Rattle.fuse_keeper.specs.Model.{Model}
 use Rattle.fuse_keeper.specs.KeeperState.{KeeperState, IsFirm}
 use Rattle.fuse_session.specs.declared.counts.SessionCounts.{SessionCounts}
@@ -58,18 +59,18 @@ came_by Turns became p q h n = absurd n
 came_by (ZeroUnique at) became p q h n = absurd n
 came_by (Store fault) became p q h n = absurd n
 
-pub life_unheard : (M : Model) → (holds : KeeperState M) (did : Deeds → Type 0) (became : List PortEvent → Type 0) (p q : PortState) (ids : List ℕ) (h : HeldBytes)
+pub life_unheard : (M : Model) → StillStands M → (holds : KeeperState M) (did : Deeds → Type 0) (became : List PortEvent → Type 0) (p q : PortState) (ids : List ℕ) (h : HeldBytes)
     (e : Ended) → ended_store e ≡ false
     → ((result : Receipt) (bytes : List ℕ) → became (Received result bytes ∷ []) → Hears did bytes (one_heard result bytes))
     → NotHeard e became p q h → IsHearing p q → Run (passage holds holds p q did) (waits ids h) e
-life_unheard M holds did became p q ids h e inexact alone n hearing =
+life_unheard M still holds did became p q ids h e inexact alone n hearing =
     let by = came_by e became p q h n in
     record {
       received = by.received;
       came = by.came;
       broken = broken_none M holds holds (Hears did by.received) p q ids (cut (h.bytes ++ by.received)).0 e inexact
           (one_heard by.result by.received) (alone by.result by.received by.once) refl refl (hearing_replied p q hearing)
-          (λ rows records held. held) (λ firm s g t so. firm_leaves M holds s g t firm so);
+          (λ rows records held. held) (λ firm s g t so. firm_leaves M still holds s g t firm so);
     }
 
 whole_unheard : (M : Model) → (holds : KeeperState M) (did : Deeds → Type 0) (p q : PortState) (ids : List ℕ) (h : HeldBytes) (result : Receipt)
@@ -178,16 +179,16 @@ ends_more M grows joins holds mid new did did' did'' p q r w w' turns turns' (St
 -- ---- a turn
 
 -- messages were processed: a life
-pub life_worked : (M : Model) → HistoriesGrow M → (holds new : KeeperState M) → (new.is_honest → holds.is_honest)
+pub life_worked : (M : Model) → HistoriesGrow M → StillStands M → (holds new : KeeperState M) → (new.is_honest → holds.is_honest)
     → (did did' : Deeds → Type 0) (became : List PortEvent → Type 0) (p q r : PortState) (ids ids' : List ℕ) (before after : HeldBytes) (messages slice : List (List ℕ))
     (fault : Option FrameFault) (progress : Progress) (e : Ended) → ended_store e ≡ false
     → (h : Heard (Comes became p q) before after messages fault)
     → ((b : Deeds) → did b → Hears did' h.received (then_did (one_heard h.came.result h.received) b)) → IsHearing p q → slice ≡ messages
     → ProcessedAll (passage holds new q r did) ids ids' slice progress → IsQuiet q r → (new.is_honest → IsFirm holds → IsFirm new)
     → Run (passage holds new p r did') (waits ids before) e
-life_worked M grows holds new honest did did' became p q r ids ids' before after messages slice fault progress e inexact h onward hearing same w quiet firm_still =
+life_worked M grows still holds new honest did did' became p q r ids ids' before after messages slice fault progress e inexact h onward hearing same w quiet firm_still =
     life_heard M grows holds new honest did did' became p q r ids before after messages slice fault e h onward hearing same
-    (turned_life M holds new did q r ids ids' (take progress.count slice) (drop progress.count slice) slice (lasts progress.next) progress.counts e inexact
+    (turned_life M still holds new did q r ids ids' (take progress.count slice) (drop progress.count slice) slice (lasts progress.next) progress.counts e inexact
     w.turned (sym (take-append-drop progress.count slice)) firm_still) quiet
 
 pub ends_finished : (M : Model) → HistoriesGrow M → (holds new : KeeperState M) → (new.is_honest → holds.is_honest)
@@ -358,13 +359,13 @@ whole_start M holds did p ids h given none new =
     (whole_none M holds did p given))
 
 -- nothing was done
-pub life_none : (M : Model) → (holds : KeeperState M) (did : Deeds → Type 0) (p : PortState) (w : Waiting) (e : Ended) → ended_store e ≡ false → did no_deeds
+pub life_none : (M : Model) → StillStands M → (holds : KeeperState M) (did : Deeds → Type 0) (p : PortState) (w : Waiting) (e : Ended) → ended_store e ≡ false → did no_deeds
     → Run (passage holds holds p p did) w e
-life_none M holds did p w e inexact none = record {
+life_none M still holds did p w e inexact none = record {
   received = [];
   came = consumes_none p.coming;
   broken = broken_none M holds holds (Hears did []) p p w.pending (cut (w.bytes ++ [])).0 e inexact no_deeds (none, refl) refl refl (replied_none p)
-      (λ rows records is. is) (λ firm s g t so. firm_leaves M holds s g t firm so);
+      (λ rows records is. is) (λ firm s g t so. firm_leaves M still holds s g t firm so);
 }
 
 -- a turn more, and its counts

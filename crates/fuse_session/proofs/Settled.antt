@@ -1,20 +1,39 @@
 -- Which ids are settled, group after group.
-use Rattle.std.proofs.Common.{◌≡◌, inl, inr, ℕ, Bool, true, false, ◌||◌, ◌==◌, if◌then◌else◌, List, [], ◌∷◌, ◌++◌, length, All, refl, sym, ap, subst, ◌∙◌}
+use Rattle.std.proofs.Common.{◌≡◌, ◌⊎◌, inl, inr, ℕ, Bool, true, false, ◌||◌, ◌==◌, List, [], ◌∷◌, ◌++◌, length, All, refl, sym, ap, subst, ◌∙◌}
 use Rattle.std.proofs.Common.{append_assoc, arith}
-use Rattle.std.proofs.lemmas.List.{append-nil}
-use Rattle.std.proofs.lemmas.Bool.{eqb-true}
+use Rattle.std.proofs.Math.Bool.{or-true}
+use Rattle.std.proofs.lemmas.List.{append-nil, map-append}
+use Rattle.std.proofs.lemmas.List.Folds.{list_any-append}
+use Rattle.std.proofs.lemmas.Bool.{eqb-true, or_cases, false_from_ne_true, both_ways}
 use Rattle.std.proofs.lemmas.List.Elements.{All-append, All-nil, All-cons, All-head, All-tail}
 use Rattle.fuse_request.specs.Opcodes.{OpcodeSet}
 use Rattle.fuse_request.specs.declared.class.Class.{Class}
 use Rattle.fuse_request.specs.declared.class.Class.TheVariants.{Silent, Bare, Kept}
 use Rattle.fuse_request.specs.Classes.{class_for}
 use Rattle.fuse_keeper.specs.History.{Entry, entry_id, is_in, ids_in, Includes, IsUnsettled}
-use Rattle.fuse_keeper.proofs.Standing.{unsettled_too}
 use Rattle.fuse_session.specs.Processed.{Timed, bytes_of, kept_in, entries_at, entry_if, timed_entry, message_id}
 use Rattle.fuse_session.specs.Settling.{Mark, settles_by_mark, settles_if, settled_in, comes_again, NoneComesAgain}
-use Rattle.fuse_keeper.proofs.Settled.{in_either, includes_left, includes_right, ids-append}
 
-if_not : (b rest : Bool) → (b ≡ true → ⊥) → rest ≡ false → (if b then true else rest) ≡ false
+-- ---- lists of ids
+
+is_in-append : (xs ys : List ℕ) (i : ℕ) → is_in (xs ++ ys) i ≡ (is_in xs i || is_in ys i)
+is_in-append xs ys i = list_any-append (λ x. x == i) xs ys
+
+pub includes_left : (xs ys : List ℕ) → Includes (xs ++ ys) xs
+includes_left xs ys i there = is_in-append xs ys i ∙ ap (λ b. b || is_in ys i) there
+
+pub includes_right : (xs ys : List ℕ) → Includes (xs ++ ys) ys
+includes_right xs ys i there = is_in-append xs ys i ∙ ap (λ b. is_in xs i || b) there ∙ or-true (is_in xs i)
+
+pub in_either : (xs ys : List ℕ) (i : ℕ) → is_in (xs ++ ys) i ≡ true → (is_in xs i ≡ true) ⊎ (is_in ys i ≡ true)
+in_either xs ys i there = or_cases (is_in xs i) (is_in ys i) (sym (is_in-append xs ys i) ∙ there)
+
+pub unsettled_too : (all some : List ℕ) (i : ℕ) → Includes all some → is_in all i ≡ false → is_in some i ≡ false
+unsettled_too all some i within isnt = false_from_ne_true (is_in some i) (λ there. both_ways (is_in all i) isnt (within i there))
+
+-- ---- what is settled by messages
+
+if_not : (b rest : Bool) → (b ≡ true → ⊥) → rest ≡ false → (b || rest) ≡ false
 if_not true rest isnt absent = absurd (isnt refl)
 if_not false rest isnt absent = absent
 
@@ -76,7 +95,7 @@ all_settled V [] (m ∷ marks) same = absurd (omega arith)
 all_settled V (t ∷ ts) [] same = absurd (omega arith)
 all_settled V (t ∷ ts) (m ∷ marks) same =
     ap (λ (r : List ℕ). r ++ settled_in V true (bytes_of ts) marks) (kept_settled t m (class_for V t.bytes))
-    ∙ ap (λ (r : List ℕ). ids_in (entries_at V t) ++ r) (all_settled V ts marks (omega arith)) ∙ sym (ids-append (entries_at V t) (kept_in V ts))
+    ∙ ap (λ (r : List ℕ). ids_in (entries_at V t) ++ r) (all_settled V ts marks (omega arith)) ∙ sym (map-append entry_id (entries_at V t) (kept_in V ts))
 
 one_within : (b : Bool) (t : Timed) (class : Class) (i : ℕ) → is_in (settles_if b class (message_id t.bytes)) i ≡ true
     → is_in (ids_in (entry_if class (timed_entry t))) i ≡ true
@@ -92,7 +111,7 @@ settled_within V c (t ∷ ts) [] i there = absurd (cc there)
 settled_within V c (t ∷ ts) (m ∷ marks) i there =
     let here = ids_in (entries_at V t) in
     let rest = ids_in (kept_in V ts) in
-    ap (λ x. is_in x i) (ids-append (entries_at V t) (kept_in V ts))
+    ap (λ x. is_in x i) (map-append entry_id (entries_at V t) (kept_in V ts))
     ∙ (elim (in_either (settles_by_mark V c t.bytes m) (settled_in V c (bytes_of ts) marks) i there) [
       | inl one ↦ includes_left here rest i (one_within (c || m.gone) t (class_for V t.bytes) i one)
       | inr more ↦ includes_right here rest i (settled_within V c ts marks i more)

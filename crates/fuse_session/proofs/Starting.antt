@@ -1,14 +1,14 @@
 -- The lots of records, start after start.
-use Rattle.std.proofs.Common.{◌≡◌, inl, inr, ◌≤◌, ℕ, Bool, true, false, ◌==◌, if◌then◌else◌, List, [], ◌∷◌, length, Some, None, refl, sym, ap, subst, ◌∙◌}
+use Rattle.std.proofs.Common.{◌≡◌, inl, inr, ◌≤◌, ℕ, Bool, true, false, ◌||◌, ◌==◌, List, [], ◌∷◌, length, Some, None, refl, sym, ap, subst, ◌∙◌}
 use Rattle.std.proofs.Common.{arith, is_some}
 use Rattle.std.proofs.lemmas.Bool.{eqb-true, eqb-false}
 use Rattle.fuse_keeper.specs.History.{is_in}
 use Rattle.fuse_keeper.specs.Lots.{TakesLot}
 use Rattle.fuse_session.specs.Starts.{KeptRecords, UnderAtMostMore, Starts, HasFewEach, LotsOverStarts}
-use Rattle.fuse_keeper.proofs.Settled.{includes_left, includes_right}
+use Rattle.fuse_session.proofs.Settled.{includes_left, includes_right}
 
 is_in_one : (lot : ℕ) → is_in (lot ∷ []) lot ≡ true
-is_in_one lot = elim (lot == lot) as (λ b. (lot == lot) ≡ b → (if b then true else false) ≡ true)
+is_in_one lot = elim (lot == lot) as (λ b. (lot == lot) ≡ b → (b || false) ≡ true)
     [ true ↦ λ _. refl | false ↦ λ isnt. absurd (eqb-false lot lot isnt refl) ] refl
 
 -- after a start no lot is taken yet

@@ -10,7 +10,7 @@ use Rattle.fuse_keeper.specs.declared.fault.StoreFault.{StoreFault}
 use Rattle.fuse_keeper.specs.Group.{left_pending}
 use Rattle.fuse_keeper.specs.History.{History, grown, said, is_in, Includes, HistoriesGrow}
 use Rattle.fuse_keeper.specs.Model.{Model}
-use Rattle.fuse_keeper.specs.Stands.{Standing, Stands}
+use Rattle.fuse_keeper.specs.Stands.{Standing, Stands, StillStands}
 use Rattle.fuse_keeper.specs.KeeperState.{KeeperState, StandsFor, IsFirm, AnswersNoMore}
 use Rattle.fuse_session.specs.declared.counts.SessionCounts.{SessionCounts}
 use Rattle.fuse_session.specs.declared.ended.Ended.{Ended}
@@ -31,8 +31,7 @@ use Rattle.fuse_session.proofs.Standing.{standing, exchanged, StandAt}
 use Rattle.fuse_session.proofs.Handing.{left_within}
 use Rattle.fuse_session.proofs.Replies.{replied_none, replied_more, joined-append, replies-append}
 use Rattle.fuse_session.proofs.Outs.{answers_to-append, grown_kept, Works-append, GoesOn-append}
-use Rattle.fuse_session.proofs.Settled.{settled-append, again-parts}
-use Rattle.fuse_keeper.proofs.Settled.{includes_left, includes_right, in_either}
+use Rattle.fuse_session.proofs.Settled.{settled-append, again-parts, includes_left, includes_right, in_either}
 use Rattle.fuse_session.proofs.Gathering.{moments-append}
 use Rattle.fuse_session.proofs.Batching.{are_more, answered_more, answered_last, answered_all, asked_both, left_both, rests_more, some_more, some_all}
 use Rattle.fuse_session.proofs.Transcripts.{handed_more}
@@ -386,11 +385,11 @@ sent_up_to : (marks : List Mark) (answers : List (List ℕ)) → replies marks �
 sent_up_to marks answers sent = record { later = []; first = sym (append-nil (replies marks) ∙ sent); next = inl refl }
 
 -- messages that were answered, as a life, with others after them
-pub turned_life : (M : Model) → (holds new : KeeperState M) (did : Deeds → Type 0) (p q : PortState) (ids ids' : List ℕ)
+pub turned_life : (M : Model) → StillStands M → (holds new : KeeperState M) (did : Deeds → Type 0) (p q : PortState) (ids ids' : List ℕ)
     (prefix others messages : List (List ℕ)) (going : Bool) (counts : SessionCounts) (e : Ended) → ended_store e ≡ false
     → TookTurn (passage holds new p q did) ids ids' prefix going counts → messages ≡ prefix ++ others → (new.is_honest → IsFirm holds → IsFirm new)
     → Broken (passage holds new p q did) ids messages e
-turned_life M holds new did p q ids ids' prefix others messages going counts e inexact one parts firm_still =
+turned_life M still holds new did p q ids ids' prefix others messages going counts e inexact one parts firm_still =
     let w = one.work in
     let x = exchanged p.confirms w.timed w.marks in
     record {
@@ -419,7 +418,7 @@ turned_life M holds new did p q ids ids' prefix others messages going counts e i
           leaves_map M new (λ x r. Stands M x r s (grown h (kept_in M.serves w.timed)) (settled_with t w))
           (λ rows r. Lived M (standing M s h t) x (StandAt M rows r) [])
           (λ rows r stands. lived_all M (StandAt M rows r) (standing M s h t) x [] a.works stands (sent_up_to w.marks _ a.sent))
-          (firm_leaves M new s (grown h (kept_in M.serves w.timed)) (settled_with t w) (firm_still is firm) a.stands);
+          (firm_leaves M still new s (grown h (kept_in M.serves w.timed)) (settled_with t w) (firm_still is firm) a.stands);
       few = λ intact t again h. (ids', one.few intact.honest t again h);
     }
 

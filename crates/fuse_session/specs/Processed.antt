@@ -1,5 +1,6 @@
 -- Messages that are processed, and the bytes that are sent for them (defined by this project).
 use Rattle.std.specs.Prelude.{◌≡◌, ◌⊎◌, ℕ, Bool, true, false, ◌==◌, List, [], ◌∷◌, ◌++◌, map, Option, Some, None}
+use Rattle.std.specs.List.{flat_map}
 use Rattle.fuse_wire.specs.Ids.{id_of}
 use Rattle.fuse_wire.specs.declared.moment.Moment.{Moment}
 use Rattle.fuse_answer.specs.Said.{Said}
@@ -13,6 +14,7 @@ use Rattle.fuse_request.specs.Places.{asked_at}
 use Rattle.fuse_request.specs.Stream.{joined}
 use Rattle.fuse_wire.specs.Opcodes.{fuse_destroy}
 use Rattle.fuse_keeper.specs.Model.{Model}
+use Rattle.fuse_keeper.specs.Group.{HasId}
 use Rattle.fuse_keeper.specs.History.{Entry, History, grown, said}
 
 -- a message, and the moment at which it was processed (any, where it isn't kept)
@@ -46,8 +48,7 @@ abbrev pub entries_at : OpcodeSet → Timed → List Entry
 entries_at V t = entry_if (class_for V t.bytes) (timed_entry t)
 
 abbrev pub kept_in : OpcodeSet → List Timed → List Entry
-kept_in V [] = []
-kept_in V (t ∷ ts) = entries_at V t ++ kept_in V ts
+kept_in V ts = flat_map (entries_at V) ts
 
 -- the answer of a class, by the one said of the id
 abbrev pub answer_by : Class → Option Said → ℕ → List ℕ
@@ -62,6 +63,15 @@ answered M s g t = answer_by (class_for M.serves t.bytes) (said M s g (message_i
 
 abbrev pub answers_to : (M : Model) → M.State → History → List Timed → List (List ℕ)
 answers_to M s g ts = map (answered M s g) ts
+
+-- the answer to a message stays when the history grows after it
+abbrev pub AnswersStay : (M : Model) → Type 0
+AnswersStay M = (s : M.State) (h : History) (t : Timed) (more : List Entry)
+    → answered M s (grown (grown h (entries_at M.serves t)) more) t ≡ answered M s (grown h (entries_at M.serves t)) t
+
+-- a kept message that isn't zero has an id
+abbrev pub KeptHaveIds : Type 0
+KeptHaveIds = (V : OpcodeSet) (bytes : List ℕ) (moment : Moment) → class_for V bytes ≡ Kept → is_zero bytes ≡ false → HasId (message_entry bytes moment)
 
 -- the bytes that are to be sent for messages
 abbrev pub out : (M : Model) → M.State → History → List Timed → List ℕ
@@ -119,5 +129,4 @@ moment_if (Bare errno) t = []
 moment_if Kept t = t ∷ []
 
 abbrev pub moments_in : OpcodeSet → List Timed → List Moment
-moments_in V [] = []
-moments_in V (t ∷ ts) = moment_if (class_for V t.bytes) t.moment ++ moments_in V ts
+moments_in V ts = flat_map (λ t. moment_if (class_for V t.bytes) t.moment) ts

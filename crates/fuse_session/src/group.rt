@@ -29,7 +29,7 @@ use crate::port::Port;
 use crate::session::Session;
 use bytes::Bytes;
 use fuse_answer::Answer;
-use fuse_keeper::{Done, Keeper, histories_grow, kept_groups_grow, perform_group};
+use fuse_keeper::{Done, Keeper, histories_grow, kept_groups_grow, perform_group, still_stands};
 
 /// What comes next, once all answers so far are sent: more messages, or why there are none.
 #[derive(Clone, Copy, Debug, PartialEq, Eq)]
@@ -147,6 +147,7 @@ impl<K: Keeper, P: Port, C: Clock> Session<'_, '_, '_, '_, K, P, C> {
     {
         histories_grow::<K>();
         kept_groups_grow::<K>();
+        still_stands::<K>();
         let Ok(gathered) = gather::<K, C>(self.alloc, self.clock, messages) else {
             return Err(Fault::Memory);
         };

@@ -27,7 +27,7 @@ use crate::input::receive_messages;
 use crate::messages::length_of;
 use crate::port::Port;
 use bytes::Bytes;
-use fuse_keeper::{Keeper, histories_grow};
+use fuse_keeper::{Keeper, histories_grow, still_stands};
 use fuse_request::{FrameFault, Framer, MAX_MESSAGE, cut_joins};
 use fuse_wire::Id;
 use std::alloc::Global;
@@ -174,6 +174,7 @@ impl<K: Keeper, P: Port, C: Clock> Session<'_, '_, '_, '_, K, P, C> {
         ensures loans { SameLoans self.old self.new }
     {
         histories_grow::<K>();
+        still_stands::<K>();
         let begin = framer.fed() - framer.held();
         let waiting = match receive_messages(self.alloc, self.port, framer, buffer) {
             Ok(waiting) => waiting,
@@ -268,6 +269,7 @@ pub fn serve<K: Keeper, P: Port, C: Clock>(
 {
     cut_joins();
     histories_grow::<K>();
+    still_stands::<K>();
     // Each byte is written, so that all its pages are there before a message is copied into them.
     let Ok(mut buffer) = vec![in alloc; 0; MAX_MESSAGE] else {
         return Served {

@@ -13,9 +13,10 @@ use crate::fault::ShowFault;
 use crate::lookup::find;
 use crate::modes::is_regular_file;
 use crate::output::put;
+use fuse_plan::rows_of_trees;
 use fuse_rows::{MAX_FILE, MAX_READ, NodeRow};
 use fuse_session::Sink;
-use fuse_tree::{Look, rows_of_trees};
+use fuse_tree::Look;
 
 // The number of bytes of the next read, when `left` bytes remain.
 fn piece_of(left: u64) -> u32

@@ -1,7 +1,7 @@
 ghost use Rattle.fuse_show.specs.Lookup.{FindsSomething, FoundOnce};
 ghost use Rattle.fuse_show.specs.Names.{NamesApart};
 
-use fuse_tree::rows_of_trees;
+use fuse_plan::rows_of_trees;
 
 /// In a tree the names of a path lead to exactly one node, or fail for exactly one reason.
 pub fn found_once()

@@ -16,9 +16,10 @@ use crate::lookup::find;
 use crate::modes::{is_directory, put_mode};
 use crate::names::write_name;
 use crate::output::{put, put_fields};
+use fuse_plan::rows_of_trees;
 use fuse_rows::{EntryRow, NodeRow};
 use fuse_session::Sink;
-use fuse_tree::{Look, rows_of_trees};
+use fuse_tree::Look;
 
 // The number of entries that one look reads.
 const PAGE: usize = 1024;

@@ -7,8 +7,9 @@ ghost use Rattle.fuse_show.specs.Lookup.{Finds};
 use crate::fault::ShowFault;
 use crate::modes::is_directory;
 use crate::paths::next_name;
+use fuse_plan::rows_of_trees;
 use fuse_rows::{NodeRow, ROOT_ID};
-use fuse_tree::{Look, rows_of_trees};
+use fuse_tree::Look;
 
 // The row of the root.
 fn find_root<L: Look>(look: &mut L) -> Result<NodeRow, ShowFault>

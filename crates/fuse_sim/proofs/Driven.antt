@@ -2,6 +2,7 @@
 use Rattle.std.proofs.Common.{◌≡◌, ℕ, zero, suc, Bool, true, false, List, [], ◌∷◌, ◌++◌, map, All, Option, option_map, refl, sym, ap, ◌∙◌, append_assoc}
 use Rattle.std.proofs.lemmas.List.{map-append}
 use Rattle.std.proofs.lemmas.List.Elements.{All-append, All-nil}
+use Rattle.std.proofs.lemmas.List.Sums.{fold-append}
 use Rattle.fuse_request.specs.Opcodes.{OpcodeSet}
 use Rattle.fuse_answer.specs.Said.{Said}
 use Rattle.fuse_answer.specs.Wire.{wire}
@@ -20,13 +21,13 @@ use Rattle.fuse_sim.specs.Driving.{commits, commits_by, commits_in, committed, a
 use Rattle.fuse_sim.specs.Driving.{dies}
 use Rattle.fuse_sim.specs.HandedOn.{Ledger, empty_ledger, after_one, after_commit, crashed_if, after_event}
 use Rattle.fuse_sim.specs.inner.HandedBy.{handed_by, handed_at, ledger_after, handed_on}
-use Rattle.fuse_sim.proofs.Gathered.{commits-append}
-use Rattle.fuse_session.proofs.Settled.{only_one}
-use Rattle.fuse_keeper.proofs.Settled.{includes_left, includes_right, includes_both}
-use Rattle.fuse_keeper.proofs.Standing.{unsettled_too}
-use Rattle.fuse_keeper.proofs.Histories.{grown-append}
+use Rattle.fuse_sim.proofs.Gathered.{commits-append, only_one}
+use Rattle.fuse_sim.proofs.Settled.{includes_left, includes_right, includes_both, unsettled_too}
 
 -- ---- histories
+
+pub grown-append : (h : History) (xs ys : List Entry) → grown h (xs ++ ys) ≡ grown (grown h xs) ys
+grown-append h xs ys = fold-append add h xs ys
 
 pub committed-append : (V : OpcodeSet) (h : History) (xs ys : List Event) → committed V h (xs ++ ys) ≡ committed V (committed V h xs) ys
 committed-append V h xs ys = ap (grown h) (commits-append V xs ys) ∙ grown-append h (commits_in V xs) (commits_in V ys)

@@ -9,7 +9,7 @@ use Rattle.fuse_keeper.specs.History.{History, HistoriesGrow, Includes, is_in}
 use Rattle.fuse_keeper.specs.History.{said}
 use Rattle.fuse_keeper.specs.Performance.{Performance, performances_of, IsPerformanceLog}
 use Rattle.fuse_keeper.specs.Model.{Model}
-use Rattle.fuse_keeper.specs.Stands.{Records}
+use Rattle.fuse_keeper.specs.Stands.{Records, StillStands}
 use Rattle.fuse_keeper.specs.KeeperState.{KeeperState, StandsFor, KeepsHeld, Reports, IsCount, IsFirm}
 use Rattle.fuse_sim.specs.declared.event.Event.{Event}
 use Rattle.fuse_sim.specs.declared.event.Outcome.{Outcome}
@@ -22,7 +22,7 @@ use Rattle.fuse_sim.specs.inner.HandedBy.{ledger_after, handed_on, AsksOne}
 use Rattle.fuse_sim.specs.LeftRecords.{RecordsLeft, HoldsRecords}
 use Rattle.fuse_sim.specs.Twice.{Seen}
 use Rattle.fuse_sim.specs.inner.Running.{stage, Moved, MayBegin, Opens, StopsAtEvent, AsksFrom, AsksGroup, StopsAsking}
-use Rattle.fuse_keeper.proofs.Settled.{is_in-append, stands_later, stands_kept}
+use Rattle.fuse_sim.proofs.Settled.{is_in-append, stands_later, stands_kept}
 use Rattle.fuse_sim.proofs.Driven.{ledger-append, pending_settled, settled_all, includes_none, handed_came}
 use Rattle.fuse_sim.proofs.Asking.{handed_performances, asks_more}
 use Rattle.fuse_sim.proofs.AskedGroups.{performed_then}
@@ -78,12 +78,12 @@ moved_kept : (M : Model) (holds holds' : KeeperState M) (es others : List Event)
     → StandsFor holds' s (committed M.serves h es) (t ++ handed_on M.serves empty_ledger es)
 moved_kept M holds holds' es others p new moved is s h t so none = moved.ran.stands is s h t t so (λ i there. there) (includes_none t) none
 
-pub moved_stands : (M : Model) (holds holds' : KeeperState M) (es others : List Event) (p : List ℕ) (new : List (Option Outcome))
+pub moved_stands : (M : Model) → StillStands M → (holds holds' : KeeperState M) (es others : List Event) (p : List ℕ) (new : List (Option Outcome))
     → Moved (stage holds [] []) (stage holds' p new) 0 es others
     → holds'.is_honest → (s : M.State) (h : History) (t : List ℕ) → StandsFor holds s h t → NoneReused M.serves t es
     → StandsFor holds' s (committed M.serves h es) (settled_by M.serves t es)
-moved_stands M holds holds' es others p new moved is s h t so none =
-    stands_later M holds' s (committed M.serves h es) (t ++ handed_on M.serves empty_ledger es) (settled_by M.serves t es)
+moved_stands M still holds holds' es others p new moved is s h t so none =
+    stands_later M still holds' s (committed M.serves h es) (t ++ handed_on M.serves empty_ledger es) (settled_by M.serves t es)
     (settled_all M.serves t t empty_ledger es (λ i there. there) (includes_none t))
     (moved_kept M holds holds' es others p new moved is s h t so none)
 
@@ -108,15 +108,15 @@ pub moved_count : (M : Model) (holds holds' : KeeperState M) (es others : List E
     → Moved (stage holds [] []) (stage holds' p new) 0 es others → length new ≡ length es
 moved_count M holds holds' es others p new moved = ap length moved.ran.items ∙ moved.ran.count
 
-pub moved_opened : (M : Model) → {K : Type 0} (told : K → KeeperState M) (became : K → K → ℕ → Type 0) → IsCount became
+pub moved_opened : (M : Model) → StillStands M → {K : Type 0} (told : K → KeeperState M) (became : K → K → ℕ → Type 0) → IsCount became
     → (old mid new : Option K) (events : List Event) (at n : ℕ) (p : List ℕ) (outcomes : List (Option Outcome))
     → Moved (stage (told_in told old) [] []) (stage (told_in told mid) p outcomes) 0 (take at events) (drop at events) → Opened told became old mid (take at events)
     → Opens told became mid new p (take n (drop at events)) → Opened told became old new (take (at + n) events)
-moved_opened M told became law old mid new events at n p outcomes moved opened opens =
+moved_opened M still told became law old mid new events at n p outcomes moved opened opens =
     subst (Opened told became old new) (sym (take-add at n events))
     (opened_more M told became law old mid new (take at events) (take n (drop at events)) p
     (pending_within M.serves (ledger_after M.serves empty_ledger (take at events)) p (take at events) refl moved.pending)
-    (moved_stands M (told_in told old) (told_in told mid) (take at events) (drop at events) p outcomes moved) opened opens)
+    (moved_stands M still (told_in told old) (told_in told mid) (take at events) (drop at events) p outcomes moved) opened opens)
 
 -- which records are left
 kept_or_gone : {A : Type 0} (b : Bool) (o now : Option A) → now ≡ (if b then None else o) → (b ≡ true → ⊥) → now ≡ o
@@ -175,28 +175,28 @@ clean_too M told None f is = is
 clean_too M told (Some k) f is = f k is
 
 -- where the events before it were run
-stopped_at : (M : Model) → {K : Type 0} (told : K → KeeperState M) (old mid : Option K) (events : List Event) (at : ℕ) (fault : DriveFault) (p : List ℕ)
+stopped_at : (M : Model) → StillStands M → {K : Type 0} (told : K → KeeperState M) (old mid : Option K) (events : List Event) (at : ℕ) (fault : DriveFault) (p : List ℕ)
     (outcomes : List (Option Outcome))
     → Moved (stage (told_in told old) [] []) (stage (told_in told mid) p outcomes) 0 (take at events) (drop at events) → event_of fault ≡ at
     → (told_in told mid).is_honest
     → (s : M.State) (h : History) (t : List ℕ) → StandsIn told old s h t → NoneReused M.serves t (before fault events)
     → StandsIn told mid s (committed M.serves h (before fault events)) (settled_by M.serves t (before fault events))
-stopped_at M told old mid events at fault p outcomes moved place is s h t so none =
+stopped_at M still told old mid events at fault p outcomes moved place is s h t so none =
     let same : before fault events ≡ take at events = ap (λ n. take n events) place in
     subst (λ es. StandsIn told mid s (committed M.serves h es) (settled_by M.serves t es)) (sym same)
-    (moved_stands M (told_in told old) (told_in told mid) (take at events) (drop at events) p outcomes moved is s h t so (subst (NoneReused M.serves t) same none))
+    (moved_stands M still (told_in told old) (told_in told mid) (take at events) (drop at events) p outcomes moved is s h t so (subst (NoneReused M.serves t) same none))
 
-pub stopped : (M : Model) → {K : Type 0} (seen : Seen M K) (old mid new : Option K)
+pub stopped : (M : Model) → StillStands M → {K : Type 0} (seen : Seen M K) (old mid new : Option K)
     (events : List Event) (at : ℕ) (fault : DriveFault) (p : List ℕ) (outcomes : List (Option Outcome))
     → ((k : K) → (seen.told k).is_clean → (seen.told k).is_honest) → Moved (stage (told_in seen.told old) [] []) (stage (told_in seen.told mid) p outcomes) 0 (take at events) (drop at events) → StopsAtEvent seen mid new events at fault
     → (s : M.State) (h : History) (t : List ℕ) → StandsIn seen.told old s h t → NoneReused M.serves t (before fault events)
     → LeftBy (told_in seen.told new) (is_store fault) (StandsIn seen.told new s (committed M.serves h (before fault events)) (settled_by M.serves t (before fault events)))
-stopped M seen old mid new events at fault p outcomes too moved stops s h t so none =
+stopped M still seen old mid new events at fault p outcomes too moved stops s h t so none =
     left_map M seen.told (is_store fault) new ((event_of fault ≡ at) × KeepsHeld (told_in seen.told mid) (told_in seen.told new))
     (StandsIn seen.told new s (committed M.serves h (before fault events)) (settled_by M.serves t (before fault events)))
     (clean_too M seen.told new too) stops.left (λ is left.
     stands_kept M (told_in seen.told mid) (told_in seen.told new) s (committed M.serves h (before fault events)) (settled_by M.serves t (before fault events)) left.1
-    (stopped_at M seen.told old mid events at fault p outcomes moved left.0 (stops.was_honest is) s h t so none))
+    (stopped_at M still seen.told old mid events at fault p outcomes moved left.0 (stops.was_honest is) s h t so none))
 
 -- the records that a fault leaves are those that the events before it left
 pub stopped_records : (M : Model) → {K : Type 0} (seen : Seen M K) (old mid new : Option K)
@@ -217,13 +217,13 @@ stopped_records M seen old mid new events at fault p outcomes too moved stops =
 there_is : (M : Model) → {K : Type 0} (told : K → KeeperState M) (k : Option K) → (told_in told k).is_clean → k ≡ None → ⊥
 there_is M told k is none = subst (λ o. (told_in told o).is_clean) none is
 
-pub stopped_store : (M : Model) → {K : Type 0} (seen : Seen M K)
+pub stopped_store : (M : Model) → StillStands M → {K : Type 0} (seen : Seen M K)
     (old mid new : Option K) (events : List Event) (at : ℕ) (fault : DriveFault) (p : List ℕ) (outcomes : List (Option Outcome))
     → ((k : K) → (seen.told k).is_clean → (seen.told k).is_honest) → Moved (stage (told_in seen.told old) [] []) (stage (told_in seen.told mid) p outcomes) 0 (take at events) (drop at events)
     → Opened seen.told seen.became old mid (take at events) → StopsAtEvent seen mid new events at fault → is_store fault ≡ true → (told_in seen.told new).is_clean
     → (s : M.State) (h : History) (t : List ℕ) → StandsIn seen.told old s h t → NoneReused M.serves t (before fault events)
     → AnsweredBy seen.told seen.became old new (before fault events) fault
-stopped_store M seen old mid new events at fault p outcomes too moved opened stops store is s h t so none =
+stopped_store M still seen old mid new events at fault p outcomes too moved opened stops store is s h t so none =
     let stayed = stops.stayed (there_is M seen.told new is) in
     let was = stops.was_honest (clean_too M seen.told new too is) in
     record {
@@ -231,7 +231,7 @@ stopped_store M seen old mid new events at fault p outcomes too moved opened sto
       before = subst (λ n. became_in seen.became old mid (deaths (take n events))) (sym stayed.0) opened.often;
       after = stayed.1;
       may = stops.answered store is s (committed M.serves h (before fault events)) (settled_by M.serves t (before fault events))
-          (stopped_at M seen.told old mid events at fault p outcomes moved stayed.0 was s h t so none);
+          (stopped_at M still seen.told old mid events at fault p outcomes moved stayed.0 was s h t so none);
     }
 
 pub stopped_opened : (M : Model) → {K : Type 0} (seen : Seen M K) → IsCount seen.became
@@ -259,15 +259,15 @@ stopped_emptied M seen law old mid new events at fault opened stops none =
 
 -- ---- what stood on the way, the medium, and what a crash could leave
 
-pub moved_stood : (M : Model) → {K : Type 0} (told : K → KeeperState M) (became : K → K → ℕ → Type 0) → IsCount became
+pub moved_stood : (M : Model) → StillStands M → {K : Type 0} (told : K → KeeperState M) (became : K → K → ℕ → Type 0) → IsCount became
     → (old mid new : Option K) (events : List Event) (at n : ℕ) (p : List ℕ) (outcomes : List (Option Outcome))
     → Moved (stage (told_in told old) [] []) (stage (told_in told mid) p outcomes) 0 (take at events) (drop at events) → Opened told became old mid (take at events)
     → StoodBefore told became old mid (take at events)
     → Opens told became mid new p (take n (drop at events)) → StoodBefore told became old new (take (at + n) events)
-moved_stood M told became law old mid new events at n p outcomes moved opened stood opens =
+moved_stood M still told became law old mid new events at n p outcomes moved opened stood opens =
     subst (StoodBefore told became old new) (sym (take-add at n events))
     (stood_before_more M told became law old mid new (take at events) (take n (drop at events)) p
-    (moved_stands M (told_in told old) (told_in told mid) (take at events) (drop at events) p outcomes moved) opened.often stood opens)
+    (moved_stands M still (told_in told old) (told_in told mid) (take at events) (drop at events) p outcomes moved) opened.often stood opens)
 
 pub stopped_stood : (M : Model) → {K : Type 0} (seen : Seen M K) → IsCount seen.became
     → (old mid new : Option K) (events : List Event) (at : ℕ) (fault : DriveFault)

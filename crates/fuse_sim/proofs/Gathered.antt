@@ -2,7 +2,7 @@
 use Rattle.std.proofs.Common.{◌≡◌, ◌⊎◌, inl, inr, ℕ, ◌+◌, ◌≤◌, ◌<◌, Bool, true, false, List, [], ◌∷◌, ◌++◌, length, take}
 use Rattle.std.proofs.Common.{drop, get_or, All, refl, sym, ap, subst, ◌∙◌, arith, append_assoc, length-append, drop-cons}
 use Rattle.std.proofs.lemmas.List.{take_more, append-nil, map-append, length-map, length-take-le, drop_all}
-use Rattle.std.proofs.lemmas.List.Elements.{All-append, All-nil}
+use Rattle.std.proofs.lemmas.List.Elements.{All-append, All-nil, All-cons}
 use Rattle.fuse_request.specs.Opcodes.{OpcodeSet}
 use Rattle.fuse_wire.specs.declared.moment.Moment.{Moment}
 use Rattle.fuse_request.specs.declared.request.Request.{Request}
@@ -13,15 +13,13 @@ use Rattle.fuse_keeper.specs.History.{Entry}
 use Rattle.fuse_keeper.specs.Model.{Model}
 use Rattle.fuse_keeper.specs.declared.keeper.TheConstants.{MAX_GROUP}
 use Rattle.fuse_keeper.specs.Group.{entry_of, entries_of, HasId, IsKept}
-use Rattle.fuse_session.specs.Processed.{entry_if, message_entry}
+use Rattle.fuse_session.specs.Processed.{entry_if, message_entry, KeptHaveIds}
 use Rattle.fuse_sim.specs.declared.event.Fate.{Fate}
 use Rattle.fuse_sim.specs.declared.event.Fate.TheVariants.{Answered, AnswerLost, DiedBeforeCommit, DiedAfterCommit}
 use Rattle.fuse_sim.specs.declared.event.Event.{Event}
 use Rattle.fuse_sim.specs.declared.group.Group.{Group}
 use Rattle.fuse_sim.specs.Driving.{commits, commits_by, commits_in, dies, IsFit}
 use Rattle.fuse_sim.specs.inner.Running.{dies_before, IsGroupRun, StartsNone, EndsWith, StopsAt, GathersEvents, Joins}
-use Rattle.fuse_session.proofs.Settled.{only_one}
-use Rattle.fuse_session.proofs.Gathering.{has_id}
 
 pub commits-append : (V : OpcodeSet) (xs ys : List Event) → commits_in V (xs ++ ys) ≡ commits_in V xs ++ commits_in V ys
 commits-append V [] ys = refl
@@ -94,12 +92,15 @@ one_kept Silent x e is = absurd (cc is)
 one_kept (Bare errno) x e is = absurd (cc is)
 one_kept Kept x e is = (refl, cc is)
 
-named_more : (V : OpcodeSet) (bytes : List ℕ) (taken taken' : List (Request × Moment)) (one : Request × Moment) (t : Moment) → is_zero bytes ≡ false
+pub only_one : {A : Type 0} (P : A → Type 0) (x : A) → P x → All P (x ∷ [])
+only_one P x p = All-cons P x [] p (All-nil P)
+
+named_more : KeptHaveIds → (V : OpcodeSet) (bytes : List ℕ) (taken taken' : List (Request × Moment)) (one : Request × Moment) (t : Moment) → is_zero bytes ≡ false
     → entry_of one ∷ [] ≡ entry_if (class_for V bytes) (message_entry bytes t) → taken' ≡ taken ++ one ∷ [] → All HasId (entries_of taken)
     → All HasId (entries_of taken')
-named_more V bytes taken taken' one t named some pushed each =
+named_more have V bytes taken taken' one t named some pushed each =
     let kept = one_kept (class_for V bytes) (entry_of one) (message_entry bytes t) some in
-    let here : HasId (entry_of one) = subst HasId (sym kept.1) (has_id V bytes t kept.0 named) in
+    let here : HasId (entry_of one) = subst HasId (sym kept.1) (have V bytes t kept.0 named) in
     subst (All HasId) (sym (ap entries_of pushed ∙ map-append entry_of taken (one ∷ [])))
     (All-append HasId (entries_of taken) (entry_of one ∷ []) each (only_one HasId (entry_of one) here))
 
@@ -118,12 +119,12 @@ few_more : (n m : ℕ) → n ≤ MAX_GROUP → (n ≡ MAX_GROUP → ⊥) → m �
 few_more n m few room is = grind (arith, few, room, is)
 
 -- an event with its request
-pub joins_kept : (M : Model) (e : Event) (old new : Group) (one : Request × Moment) → old.died ≡ false → IsFit e → dies_before e.fate ≡ false
+pub joins_kept : (M : Model) → KeptHaveIds → (e : Event) (old new : Group) (one : Request × Moment) → old.died ≡ false → IsFit e → dies_before e.fate ≡ false
     → entry_of one ∷ [] ≡ entry_if (class_for M.serves e.bytes) (message_entry e.bytes e.moment) → All (IsKept M) (entry_of one ∷ [])
     → (length old.taken.items ≡ MAX_GROUP → ⊥)
     → new.classes.items ≡ old.classes.items ++ class_for M.serves e.bytes ∷ [] → new.taken.items ≡ old.taken.items ++ one ∷ []
     → dies e.fate ≡ new.died → (new.died ≡ true → e.fate ≡ DiedAfterCommit) → Joins M e old new
-joins_kept M e old new one alive fit goes some kept room classed pushed is dead =
+joins_kept M have e old new one alive fit goes some kept room classed pushed is dead =
     λ run g. record {
       fit = All-append IsFit run (e ∷ []) g.fit (only_one IsFit e fit);
       goes = run_more run e new.died (subst (λ b. IsGroupRun b run) alive g.goes) is dead;
@@ -132,7 +133,7 @@ joins_kept M e old new one alive fit goes some kept room classed pushed is dead 
       entries = ap entries_of pushed ∙ map-append entry_of old.taken.items (one ∷ []) ∙ ap (λ r. r ++ entry_of one ∷ []) g.entries
           ∙ entries_one M.serves run e (entry_of one ∷ []) goes some;
       few = few_more (length old.taken.items) (length new.taken.items) g.few room (ap length pushed ∙ length-append old.taken.items (one ∷ []));
-      named = named_more M.serves e.bytes old.taken.items new.taken.items one e.moment fit.named some pushed g.named;
+      named = named_more have M.serves e.bytes old.taken.items new.taken.items one e.moment fit.named some pushed g.named;
       kept = kept_more M old.taken.items new.taken.items one kept pushed g.kept;
     }
 

@@ -3,6 +3,7 @@ use Rattle.std.proofs.Common.{◌≡◌, ℕ, suc, ◌<◌, false, List, [], ◌
 use Rattle.std.proofs.Common.{ap, subst, ◌∙◌, arith}
 use Rattle.std.proofs.lemmas.List.{length-map, map-append}
 use Rattle.std.proofs.lemmas.List.Elements.{All-nil, All-cons}
+use Rattle.std.proofs.lemmas.Simd.{map-map}
 use Rattle.fuse_request.specs.Opcodes.{OpcodeSet}
 use Rattle.fuse_wire.specs.declared.moment.Moment.{Moment}
 use Rattle.fuse_answer.specs.Said.{Said}
@@ -11,9 +12,9 @@ use Rattle.fuse_request.specs.declared.request.Request.{Request}
 use Rattle.fuse_request.specs.declared.class.Class.{Class}
 use Rattle.fuse_request.specs.declared.class.Class.TheVariants.{Silent, Bare, Kept}
 use Rattle.fuse_request.specs.Classes.{class_for}
-use Rattle.fuse_keeper.specs.History.{Entry, entry_id, History, said, IsUnsettled}
+use Rattle.fuse_keeper.specs.History.{Entry, entry_id, History, said, IsUnsettled, after}
 use Rattle.fuse_keeper.specs.declared.fault.StoreFault.{StoreFault}
-use Rattle.fuse_keeper.specs.Model.{Model}
+use Rattle.fuse_keeper.specs.Model.{Model, IsOfGoodState}
 use Rattle.fuse_keeper.specs.KeeperState.{KeeperState, StandsFor, IsFirm, Performed, ActsOn, KeepsOthers, Called}
 use Rattle.fuse_keeper.specs.Taking.{GroupsGrow}
 use Rattle.fuse_keeper.specs.Group.{entry_of, entries_of, handed_to, left_pending}
@@ -26,8 +27,6 @@ use Rattle.fuse_sim.specs.Driving.{commits_in, committed, answer_in, outcome_of,
 use Rattle.fuse_sim.specs.inner.Running.{dies_before, NoneDiesBefore, answers_in, head_answer, outcomes_by, HasAnswers, settles_in, Adds}
 use Rattle.fuse_sim.specs.inner.Running.{Worked, stage}
 use Rattle.fuse_sim.proofs.Gathered.{commits_kept, commits-append}
-use Rattle.fuse_keeper.proofs.Firsts.{first_said}
-use Rattle.fuse_session.proofs.Firsts.{same_answers}
 
 entry_at : Event → Entry
 entry_at e = message_entry e.bytes e.moment
@@ -129,16 +128,19 @@ outcomes_first : (M : Model) → GroupsGrow M → (k k' : KeeperState M) (run : 
     → NoneDiesBefore run → ActsOn k k' handed (commits_in M.serves run) dones → map bytes_given added ≡ outcomes_by M.serves run (answers_in dones)
     → k'.is_honest → (earlier later : List Event) → run ≡ earlier ++ later → (s : M.State) (h : History) (t : List ℕ) → StandsFor k s h t
     → All (IsUnsettled (t ++ handed)) (commits_in M.serves earlier) → OutcomesBegin M s h earlier (map bytes_given added)
+unfolding IsOfGoodState
 outcomes_first M grows k k' run handed dones added goes acts are honest earlier later parts s h t so fresh =
     let entries = ap (commits_in M.serves) parts ∙ commits-append M.serves earlier later in
-    let first = first_said M grows k k' handed (commits_in M.serves run) (commits_in M.serves earlier) (commits_in M.serves later) dones acts entries honest
-    s h t so fresh in (
+    let done = acts honest so.rows so.records so.held (after M s h, so.stands.tree, so.stands.rows_are) in
+    let first = grows.first_said (record { rows = so.rows; records = so.records }) handed (commits_in M.serves run) (commits_in M.serves earlier)
+    (commits_in M.serves later) (record { rows = done.rows; records = done.records }) dones (record { state = s; history = h; settled = t }) done.taken
+    entries so.stands fresh in (
       outcomes_by M.serves later (answers_in first.others),
       are ∙ ap (λ (es : List Event). outcomes_by M.serves es (answers_in dones)) parts
           ∙ ap (λ (ds : List Done). outcomes_by M.serves (earlier ++ later) (answers_in ds)) first.parts
           ∙ ap (λ (said : List Said). outcomes_by M.serves (earlier ++ later) said) (answers-append first.some first.others)
           ∙ outcomes_say M s (committed M.serves h earlier) earlier later (answers_in first.some) (answers_in first.others) (none_first run earlier later parts goes)
-          (same_answers first.some ∙ first.says),
+          (map-map (λ a. Some a) (λ (d : Done). d.answer) first.some ∙ first.says),
     )
 
 pub worked : (M : Model) → GroupsGrow M → (holds holds' : KeeperState M) (run : List Event) (taken : List (Request × Moment))

@@ -5,7 +5,7 @@ use Rattle.fuse_request.specs.Opcodes.{OpcodeSet}
 use Rattle.fuse_request.specs.declared.class.Class.{Class}
 use Rattle.fuse_request.specs.declared.class.Class.TheVariants.{Silent, Bare, Kept}
 use Rattle.fuse_request.specs.Classes.{class_for}
-use Rattle.fuse_keeper.specs.History.{History, HistoriesGrow, Includes, said, is_in, ids_in}
+use Rattle.fuse_keeper.specs.History.{entry_id, History, HistoriesGrow, Includes, said, is_in, ids_in}
 use Rattle.fuse_keeper.specs.Model.{Model}
 use Rattle.fuse_keeper.specs.Stands.{Records}
 use Rattle.fuse_keeper.specs.KeeperState.{KeeperState}
@@ -17,8 +17,7 @@ use Rattle.fuse_sim.specs.Driving.{told_in, StandsIn, commits_in, committed, byt
 use Rattle.fuse_sim.specs.AfterEvents.{StandsAfter, AnswersAre, FirstAnswersAre, DeletesHanded, KeepsUnhanded}
 use Rattle.fuse_sim.specs.HandedOn.{empty_ledger, performances, handed_on_in}
 use Rattle.fuse_sim.specs.LeftRecords.{RecordsLeft}
-use Rattle.fuse_keeper.proofs.Settled.{is_in-append, in_either, includes_left, includes_right, includes_both, ids-append}
-use Rattle.fuse_keeper.proofs.Standing.{unsettled_too}
+use Rattle.fuse_sim.proofs.Settled.{is_in-append, in_either, includes_left, includes_right, includes_both, unsettled_too}
 use Rattle.fuse_sim.proofs.Gathered.{commits-append}
 use Rattle.fuse_sim.proofs.Driven.{committed-append, reused-parts, none_reused, includes_none, handed_settled, settled_all}
 use Rattle.fuse_sim.proofs.Asking.{handed_on_in-append, handed_performances}
@@ -72,7 +71,7 @@ left_in_a_row : (V : OpcodeSet) (xs ys : List Event) (r r' r'' : Records) → Re
     → RecordsLeft V (performances V ys) ys r' r'' → RecordsLeft V (performances V xs ++ performances V ys) (xs ++ ys) r r''
 left_in_a_row V xs ys r r' r'' one two =
     let ids : ids_in (commits_in V (xs ++ ys)) ≡ ids_in (commits_in V xs) ++ ids_in (commits_in V ys) = ap ids_in (commits-append V xs ys)
-    ∙ ids-append (commits_in V xs) (commits_in V ys) in
+    ∙ map-append entry_id (commits_in V xs) (commits_in V ys) in
     let handed = handed_on_in-append (performances V xs) (performances V ys) in
     record {
       gone = λ none i there.

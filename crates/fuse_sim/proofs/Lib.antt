@@ -1,19 +1,19 @@
-pub mod Alone
-pub mod Gathered
-pub mod Outcomes
-pub mod Settled
-pub mod Groups
-pub mod Ledgers
-pub mod Asking
-pub mod Driven
-pub mod Removed
-pub mod Moves
-pub mod Openings
-pub mod Stopping
-pub mod AskedGroups
-pub mod Endings
-pub mod TwoLists
-pub mod InARow
-pub mod Marks
-pub mod Pendings
-pub mod Lifetimes
+mod Alone
+mod Gathered
+mod Outcomes
+mod Settled
+mod Groups
+mod Ledgers
+mod Asking
+mod Driven
+mod Removed
+mod Moves
+mod Openings
+mod Stopping
+mod AskedGroups
+mod Endings
+mod TwoLists
+mod InARow
+mod Marks
+mod Pendings
+mod Lifetimes

@@ -1,12 +1,13 @@
 -- Lives, one after another, and how a run of a server is one.
-use Rattle.std.proofs.Common.{◌≡◌, ◌⊎◌, inl, inr, ℕ, Bool, true, false, if◌then◌else◌, List, [], ◌∷◌, ◌++◌, refl, sym, ap, subst, ◌∙◌, append_assoc}
+use Rattle.std.proofs.Common.{◌≡◌, ◌⊎◌, inl, inr, ℕ, List, [], ◌∷◌, ◌++◌, refl, sym, ap, subst, ◌∙◌, append_assoc}
 use Rattle.std.proofs.lemmas.List.{map-append}
 use Rattle.std.proofs.lemmas.List.Concat.{flat_map-append}
 use Rattle.fuse_wire.specs.declared.moment.Moment.{Moment}
+use Rattle.fuse_request.specs.Classes.{class_for}
 use Rattle.fuse_request.specs.Opcodes.{OpcodeSet}
 use Rattle.fuse_request.specs.Stream.{joined}
 use Rattle.fuse_keeper.specs.Model.{Model}
-use Rattle.fuse_keeper.specs.History.{Entry, entry_id, History, has, Distinct, add, grown, HistoriesGrow}
+use Rattle.fuse_keeper.specs.History.{Entry, History, Distinct, grown, HistoriesGrow}
 use Rattle.fuse_keeper.specs.Stands.{Standing, StandsAt}
 use Rattle.fuse_session.specs.Batches.{TimedFirst}
 use Rattle.fuse_session.specs.Passage.{Passage}
@@ -15,34 +16,20 @@ use Rattle.fuse_session.specs.Exchange.{Lived, HoldsAt}
 use Rattle.fuse_session.specs.Serving.{Run, nothing_waits, exchange}
 use Rattle.fuse_session.specs.Settling.{replies, settled_in}
 use Rattle.fuse_session.specs.Processed.{Timed, bytes_of, kept_in, entries_at, answered, answers_to, out}
-use Rattle.fuse_session.specs.Processed.{moments_in}
+use Rattle.fuse_session.specs.Processed.{moment_if, moments_in, AnswersStay}
 use Rattle.fuse_sim.specs.Lives.{Lifetime, AreLives, after_lives, all_processed, AllSend, RanAsLife, IsLived}
-use Rattle.fuse_keeper.proofs.Histories.{tested, Distinct-append, grown-append}
-use Rattle.fuse_session.proofs.Outs.{grown_kept, answered_stays}
-use Rattle.fuse_session.proofs.Gathering.{moments-append}
+use Rattle.fuse_sim.proofs.Driven.{grown-append}
 
 -- ---- no request stands twice
-
-other : (b c : Bool) → (if b then true else c) ≡ false → (b ≡ false) × (c ≡ false)
-other true c isnt = absurd (cc isnt)
-other false c isnt = (refl, isnt)
-
-Distinct-add : (h : History) (e : Entry) → Distinct h → Distinct (add h e)
-unfolding add
-Distinct-add h e each = elim (tested (has h (entry_id e))) [
-  | inl there ↦ rw there each
-  | inr none ↦ rw none (Distinct-append h e each none)
-]
-
-Distinct-grown : (h : History) (es : List Entry) → Distinct h → Distinct (grown h es)
-Distinct-grown h [] each = each
-Distinct-grown h (e ∷ es) each = Distinct-grown (add h e) es (Distinct-add h e each)
 
 Distinct-none : Distinct []
 unfolding Distinct
 Distinct-none = tt
 
 -- ---- the last history
+
+grown_kept : (V : OpcodeSet) → (h : History) (xs ys : List Timed) → grown h (kept_in V (xs ++ ys)) ≡ grown (grown h (kept_in V xs)) (kept_in V ys)
+grown_kept V h xs ys = ap (grown h) (flat_map-append (entries_at V) xs ys) ∙ grown-append h (kept_in V xs) (kept_in V ys)
 
 later : (V : OpcodeSet) (h : History) (ls : List Lifetime) → after_lives V h ls ≡ grown h (kept_in V (all_processed ls))
 later V h [] = refl
@@ -51,46 +38,46 @@ later V h (l ∷ ls) = later V (grown h (kept_in V l.worked)) ls ∙ sym (grown_
 pub in_a_row : (V : OpcodeSet) (ls : List Lifetime) → after_lives V [] ls ≡ grown [] (kept_in V (all_processed ls))
 in_a_row V ls = later V [] ls
 
-pub once_each : (V : OpcodeSet) (ls : List Lifetime) → Distinct (after_lives V [] ls)
-once_each V ls = subst Distinct (sym (in_a_row V ls)) (Distinct-grown [] (kept_in V (all_processed ls)) Distinct-none)
+pub once_each : (M : Model) → HistoriesGrow M → (ls : List Lifetime) → Distinct (after_lives M.serves [] ls)
+once_each M grows ls = subst Distinct (sym (in_a_row M.serves ls)) (grows.distinct [] (kept_in M.serves (all_processed ls)) Distinct-none)
 
 -- ---- later requests change no answer
 
 -- what is answered where two histories agree on what follows each message
-answers_stay : (M : Model) → HistoriesGrow M → (s : M.State) (h : History) (ts : List Timed) (es ds : List Entry)
+answers_stay : (M : Model) → AnswersStay M → (s : M.State) (h : History) (ts : List Timed) (es ds : List Entry)
     → answers_to M s (grown (grown h (kept_in M.serves ts)) es) ts ≡ answers_to M s (grown (grown h (kept_in M.serves ts)) ds) ts
-answers_stay M grows s h [] es ds = refl
-answers_stay M grows s h (t ∷ ts) es ds =
+answers_stay M stay s h [] es ds = refl
+answers_stay M stay s h (t ∷ ts) es ds =
     let g = grown h (entries_at M.serves t) in
     let place : (xs : List Entry) → grown (grown h (kept_in M.serves (t ∷ ts))) xs ≡ grown (grown g (kept_in M.serves ts)) xs =
     λ xs. ap (λ x. grown x xs) (grown-append h (entries_at M.serves t) (kept_in M.serves ts)) in
     let first : (xs : List Entry) → answered M s (grown (grown g (kept_in M.serves ts)) xs) t ≡ answered M s g t =
-    λ xs. ap (λ x. answered M s x t) (sym (grown-append g (kept_in M.serves ts) xs)) ∙ answered_stays M grows s h t (kept_in M.serves ts ++ xs) in
+    λ xs. ap (λ x. answered M s x t) (sym (grown-append g (kept_in M.serves ts) xs)) ∙ stay s h t (kept_in M.serves ts ++ xs) in
     ap (λ x. answered M s x t ∷ answers_to M s x ts) (place es)
     ∙ ap (λ r. r ∷ answers_to M s (grown (grown g (kept_in M.serves ts)) es) ts) (first es ∙ sym (first ds))
-    ∙ ap (λ r. answered M s (grown (grown g (kept_in M.serves ts)) ds) t ∷ r) (answers_stay M grows s g ts es ds)
+    ∙ ap (λ r. answered M s (grown (grown g (kept_in M.serves ts)) ds) t ∷ r) (answers_stay M stay s g ts es ds)
     ∙ ap (λ x. answered M s x t ∷ answers_to M s x ts) (sym (place ds))
 
-sends_by : (M : Model) → HistoriesGrow M → (s : M.State) (h : History) (ls : List Lifetime) → AreLives M s h ls → AllSend M s (after_lives M.serves h ls) ls
-sends_by M grows s h [] lives = tt
-sends_by M grows s h (l ∷ ls) lives =
+sends_by : (M : Model) → AnswersStay M → (s : M.State) (h : History) (ls : List Lifetime) → AreLives M s h ls → AllSend M s (after_lives M.serves h ls) ls
+sends_by M stay s h [] lives = tt
+sends_by M stay s h (l ∷ ls) lives =
     let g = grown h (kept_in M.serves l.worked) in
     let more = kept_in M.serves (all_processed ls) ++ kept_in M.serves l.worked in
     let end : grown (after_lives M.serves g ls) (kept_in M.serves l.worked) ≡ grown g more =
     ap (λ x. grown x (kept_in M.serves l.worked)) (later M.serves g ls) ∙ sym (grown-append g (kept_in M.serves (all_processed ls)) (kept_in M.serves l.worked)) in
     let same : out M s (after_lives M.serves g ls) l.worked ≡ out M s h l.worked =
-    ap (λ x. joined (answers_to M s x l.worked)) end ∙ ap joined (answers_stay M grows s h l.worked more []) in
-    ((lives.0.unsent, same ∙ lives.0.sends), sends_by M grows s g ls lives.1)
+    ap (λ x. joined (answers_to M s x l.worked)) end ∙ ap joined (answers_stay M stay s h l.worked more []) in
+    ((lives.0.unsent, same ∙ lives.0.sends), sends_by M stay s g ls lives.1)
 
-pub all_send : (M : Model) → HistoriesGrow M → (s : M.State) (ls : List Lifetime) → AreLives M s [] ls → AllSend M s (after_lives M.serves [] ls) ls
-all_send M grows s ls lives = sends_by M grows s [] ls lives
+pub all_send : (M : Model) → AnswersStay M → (s : M.State) (ls : List Lifetime) → AreLives M s [] ls → AllSend M s (after_lives M.serves [] ls) ls
+all_send M stay s ls lives = sends_by M stay s [] ls lives
 
 -- ---- a run of a server is a life
 
 timed_prefix : (V : OpcodeSet) (given : List Moment) (xs ys : List Timed) → TimedFirst V given (xs ++ ys) → TimedFirst V given xs
 timed_prefix V given xs ys timed = (
   moments_in V ys ++ timed.0,
-  timed.1 ∙ ap (λ (r : List Moment). r ++ timed.0) (moments-append V xs ys) ∙ append_assoc (moments_in V xs) (moments_in V ys) timed.0,
+  timed.1 ∙ ap (λ (r : List Moment). r ++ timed.0) (flat_map-append (λ t. moment_if (class_for V t.bytes) t.moment) xs ys) ∙ append_assoc (moments_in V xs) (moments_in V ys) timed.0,
 )
 
 -- the bytes of the answers that are left begin with a part of the first one

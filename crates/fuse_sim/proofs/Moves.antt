@@ -3,6 +3,7 @@ use Rattle.std.proofs.Common.{◌≡◌, ◌⊎◌, inl, inr, ℕ, suc, ◌≤�
 use Rattle.std.proofs.Common.{get_or, All, Option, None, refl, sym, ap, subst, ◌∙◌, append_assoc, length-append, drop-cons, arith}
 use Rattle.std.proofs.lemmas.List.{append-nil, map-append, length-map}
 use Rattle.std.proofs.lemmas.List.Elements.{All-nil, All-cons}
+use Rattle.std.proofs.lemmas.Bool.{cases_Bool}
 use Rattle.fuse_request.specs.Opcodes.{OpcodeSet}
 use Rattle.fuse_wire.specs.declared.moment.Moment.{Moment}
 use Rattle.fuse_wire.specs.declared.id.Id.{Id}
@@ -26,10 +27,8 @@ use Rattle.fuse_sim.specs.HandedOn.{Ledger, empty_ledger, after_commit, crashed_
 use Rattle.fuse_sim.specs.inner.HandedBy.{handed_at, handed_on, ledger_after}
 use Rattle.fuse_sim.specs.inner.Running.{dies_before, IsGroupRun, StartsNone, StopsAt, BeginsGroup, GathersEvents, NoneDiesBefore, settles_in, RecordsRan}
 use Rattle.fuse_sim.specs.inner.Running.{RanEvents, MayBegin, Moved, Worked, stage}
-use Rattle.fuse_sim.proofs.Gathered.{commits-append}
-use Rattle.fuse_session.proofs.Settled.{only_one}
-use Rattle.fuse_keeper.proofs.Settled.{is_in-append, includes_both, in_either, ids-append, stands_kept}
-use Rattle.fuse_keeper.proofs.Histories.{tested}
+use Rattle.fuse_sim.proofs.Gathered.{commits-append, only_one}
+use Rattle.fuse_sim.proofs.Settled.{is_in-append, includes_both, in_either, stands_kept}
 use Rattle.fuse_sim.proofs.Ledgers.{RunLedger, run_begins, few_pending}
 use Rattle.fuse_sim.proofs.Driven.{committed-append, outcomes-append, all_unsettled_too, none_reused, reused-parts, pending_settled, handed_settled}
 use Rattle.fuse_sim.proofs.Driven.{settled_all, handed-append}
@@ -59,9 +58,9 @@ not_same t x i isnt there same =
 
 pub not_among : (t : List ℕ) (es : List Entry) (i : ℕ) → All (IsUnsettled t) es → is_in t i ≡ true → is_in (ids_in es) i ≡ false
 not_among t [] i each there = refl
-not_among t (e ∷ es) i each there = elim (tested (entry_id e == i)) [
+not_among t (e ∷ es) i each there = elim (cases_Bool (entry_id e == i)) [
   | inl same ↦ absurd (not_same t (entry_id e) i (each 0 e (omega arith)) there same)
-  | inr other ↦ ap (λ b. if b then true else is_in (ids_in es) i) other ∙ not_among t es i (λ k d lt. each (suc k) d (omega (arith, lt))) there
+  | inr other ↦ ap (λ b. b || is_in (ids_in es) i) other ∙ not_among t es i (λ k d lt. each (suc k) d (omega (arith, lt))) there
 ]
 
 records_more : (V : OpcodeSet) (l : Ledger) (es es' : List Event) (r r' r'' : Records) → RecordsRan V l es r r' → RecordsRan V (ledger_after V l es) es' r' r''
@@ -69,7 +68,7 @@ records_more : (V : OpcodeSet) (l : Ledger) (es es' : List Event) (r r' r'' : Re
 records_more V l es es' r r' r'' one two =
     let l' = ledger_after V l es in
     let ids : ids_in (commits_in V (es ++ es')) ≡ ids_in (commits_in V es) ++ ids_in (commits_in V es') = ap ids_in (commits-append V es es')
-    ∙ ids-append (commits_in V es) (commits_in V es') in
+    ∙ map-append entry_id (commits_in V es) (commits_in V es') in
     record {
       others = λ i isnt.
           let both = or_false (is_in (ids_in (commits_in V es)) i) (is_in (ids_in (commits_in V es')) i)

@@ -18,10 +18,11 @@ use Rattle.fuse_sim.specs.Driving.{commits_by, commits_in, committed, dies, deat
 use Rattle.fuse_sim.specs.Driving.{Opened, KeepsMedium, StoodAt, StoodBefore}
 use Rattle.fuse_sim.specs.AfterEvents.{StandsAfter}
 use Rattle.fuse_sim.specs.inner.Running.{dies_before, IsGroupRun, DiesLast, GathersEvents, Worked, Opens, stage}
-use Rattle.fuse_keeper.proofs.Settled.{includes_left, includes_both, stands_later}
+use Rattle.fuse_sim.proofs.Settled.{includes_left, includes_both, stands_later}
 use Rattle.fuse_sim.proofs.Driven.{committed-append, settled-append, settled_still, reused-parts, all_unsettled_too, none_reused}
 use Rattle.fuse_sim.proofs.Gathered.{commits-append}
 use Rattle.fuse_sim.proofs.Moves.{handed_within, is_lost, few_taken, split_in}
+use Rattle.fuse_keeper.specs.Stands.{StillStands}
 
 -- ---- what became of a keeper
 
@@ -291,13 +292,13 @@ run_last died (e ∷ run) is = elim is [
   | inr last ↦ inr (last.0, dies_later e.fate last.1, last.2)
 ]
 
-pub group_opens : (M : Model) → {K : Type 0} (told : K → KeeperState M) (became : K → K → ℕ → Type 0) (old mid new : Option K)
+pub group_opens : (M : Model) → StillStands M → {K : Type 0} (told : K → KeeperState M) (became : K → K → ℕ → Type 0) (old mid new : Option K)
     (group : Group) (run slice : List Event) (p p' : List ℕ) (outs outs' : List (Option Outcome)) → GathersEvents M run group → slice ≡ run → Worked (stage (told_in told old) p outs) (stage (told_in told mid) p' outs') slice → became_in became old mid 0
     → became_in became mid new (if group.died then 1 else 0)
     → ((told_in told new).is_honest → KeepsHeld (told_in told mid) (told_in told new))
     → ((told_in told new).is_honest → (told_in told mid).is_honest) → ((told_in told mid).is_honest → (told_in told old).is_honest)
     → KeepsMedium told old new → Opens told became old new p run
-group_opens M told became old mid new group run slice p p' outs outs' gathers same all before after keeps honest was medium =
+group_opens M still told became old mid new group run slice p p' outs outs' gathers same all before after keeps honest was medium =
     let worked = subst (λ x. Worked (stage (told_in told old) p outs) (stage (told_in told mid) p' outs') x) same all in
     let cs = commits_in M.serves run in
     record {
@@ -312,19 +313,19 @@ group_opens M told became old mid new group run slice p p' outs outs' gathers sa
       stood = λ is s h t so within none.
           let handed = handed_within t p cs within in
           let fresh = all_unsettled_too t (t ++ handed_to cs p) cs (includes_both t t (handed_to cs p) (λ i there. there) handed) (none_reused M.serves t run none) in
-          stands_later M (told_in told mid) s (committed M.serves h run) (t ++ handed_to cs p) (settled_by M.serves t run)
+          stands_later M still (told_in told mid) s (committed M.serves h run) (t ++ handed_to cs p) (settled_by M.serves t run)
           (includes_both (settled_by M.serves t run) t (handed_to cs p) (settled_still M.serves t run) (λ i there. settled_still M.serves t run i (handed i there)))
           (worked.stands is s h t so fresh);
       few = few_taken M.serves run group.taken.items 16 gathers.entries gathers.few;
       medium = medium;
     }
 
-pub lost_opens : (M : Model) → {K : Type 0} (told : K → KeeperState M) (became : K → K → ℕ → Type 0) → IsCount became
+pub lost_opens : (M : Model) → StillStands M → {K : Type 0} (told : K → KeeperState M) (became : K → K → ℕ → Type 0) → IsCount became
     → (old new : Option K) (events : List Event) (at : ℕ) (e : Event) (p : List ℕ)
     → at < length events → e ≡ get_or events at e → dies_before e.fate ≡ true → became_in became old new 1
     → ((told_in told new).is_honest → KeepsHeld (told_in told old) (told_in told new)) → ((told_in told new).is_honest → (told_in told old).is_honest)
     → KeepsMedium told old new → Opens told became old new p (take 1 (drop at events))
-lost_opens M told became law old new events at e p lt is before once keeps honest medium =
+lost_opens M still told became law old new events at e p lt is before once keeps honest medium =
     let lost = is_lost e.fate before in
     let one : e ∷ [] ≡ take 1 (drop at events) = ap (λ (x : Event). x ∷ []) is ∙ ap (take 1) (sym (drop-cons events at e lt)) in
     let none : commits_in M.serves (e ∷ []) ≡ [] = ap (λ f. commits_by f (entry_if (class_for M.serves e.bytes) (message_entry e.bytes e.moment)) ++ []) lost in
@@ -339,7 +340,7 @@ lost_opens M told became law old new events at e p lt is before once keeps hones
       kept = keeps;
       stood = λ is s h t so within unused.
           subst (λ cs. StandsIn told old s (grown h cs) (settled_by M.serves t (e ∷ []))) (sym none)
-          (stands_later M (told_in told old) s h t (settled_by M.serves t (e ∷ [])) (includes_left t (settles M.serves e)) so);
+          (stands_later M still (told_in told old) s h t (settled_by M.serves t (e ∷ [])) (includes_left t (settles M.serves e)) so);
       few = omega (arith, ap length none);
       medium = medium;
     })

@@ -1,10 +1,10 @@
 -- The requests that are pending: sent, sent again, and taken.
-use Rattle.std.proofs.Common.{◌≡◌, ◌≢◌, inl, inr, ℕ, zero, suc, ◌+◌, ◌<◌, ◌≤◌, ◌==◌, Bool, true, false, not, if◌then◌else◌, List, [], ◌∷◌, ◌++◌, length}
+use Rattle.std.proofs.Common.{◌≡◌, ◌≢◌, inl, inr, ℕ, zero, suc, ◌+◌, ◌<◌, ◌==◌, Bool, true, false, not, if◌then◌else◌, List, [], ◌∷◌, ◌++◌, length, ◌||◌}
 use Rattle.std.proofs.Common.{take, drop, map, get_or, set, All, Vec, slice_get, zero-add, Option, Some, None, refl, sym, ap, subst, ◌∙◌, append_assoc, arith}
 use Rattle.std.specs.Global.{Global}
 use Rattle.std.specs.List.{AllByRecursion, remove}
 use Rattle.std.specs.Option.{option_map}
-use Rattle.std.proofs.lemmas.Bool.{eqb-true, eq-eqb}
+use Rattle.std.proofs.lemmas.Bool.{eqb-true, eq-eqb, cases_Bool}
 use Rattle.std.proofs.Math.Seq.{drop-cons}
 use Rattle.std.proofs.lemmas.List.{take_at, drop_at, length-append, take-append-drop, length-take-le, append-nil, map-append, map-set, take_more, get_or-map}
 use Rattle.std.proofs.lemmas.List.{length-map, take-map, drop-map}
@@ -13,7 +13,7 @@ use Rattle.std.proofs.lemmas.Option.{slice_get-get_or}
 use Rattle.fuse_wire.specs.Opcodes.{silent}
 use Rattle.fuse_wire.specs.Bytes.{number_of}
 use Rattle.fuse_wire.specs.Ids.{id_of}
-use Rattle.fuse_request.specs.Act.{Asked, opcode_of}
+use Rattle.fuse_request.specs.Act.{Asked}
 use Rattle.fuse_request.specs.Canon.{canon}
 use Rattle.fuse_request.specs.Places.{asked_at, SpelledAt}
 use Rattle.fuse_request.specs.Spelling.{Spells}
@@ -23,7 +23,6 @@ use Rattle.fuse_sim.specs.Pending.{requests_in}
 use Rattle.fuse_sim.specs.KeptMessages.{IsOwed, NoneTwice, ArePending}
 use Rattle.fuse_sim.specs.inner.Marking.{StandsFirst}
 use Rattle.fuse_sim.proofs.Marks.{again_twice, same_id as same_request}
-use Rattle.fuse_keeper.proofs.Histories.{tested}
 
 same_id : (n : ℕ) → (n == n) ≡ true
 same_id n = grind arith
@@ -42,12 +41,12 @@ pending_canon pending p = canon_each (messages_in pending) (recursion_from_All I
 is_in-append : (xs : List ℕ) (y i : ℕ) → is_in xs i ≡ false → (y == i) ≡ false → is_in (xs ++ y ∷ []) i ≡ false
 is_in-append [] y i none isnt = rw isnt
 is_in-append (x ∷ xs) y i none isnt =
-    elim (x == i) as (λ b. (if b then true else is_in xs i) ≡ false → (if b then true else is_in (xs ++ y ∷ []) i) ≡ false)
+    elim (x == i) as (λ b. (b || is_in xs i) ≡ false → (b || is_in (xs ++ y ∷ []) i) ≡ false)
     [ true ↦ λ is. absurd (cc is) | false ↦ λ rest. is_in-append xs y i rest isnt ] none
 
 head_isnt : (x y : ℕ) (xs : List ℕ) → is_in (x ∷ xs) y ≡ false → ((y == x) ≡ false) × (is_in xs y ≡ false)
 head_isnt x y xs none =
-    elim (tested (x == y)) [
+    elim (cases_Bool (x == y)) [
       | inl is ↦ absurd (let there : is_in (x ∷ xs) y ≡ true = rw is in cc)
       | inr isnt ↦ (grind arith, let rest : is_in (x ∷ xs) y ≡ is_in xs y = rw isnt in sym rest ∙ none)
     ]
@@ -66,7 +65,7 @@ pub sent : SpelledAt → (old new : List (Vec ℕ Global)) (v : Asked) (m : List
 sent spelled old new v m p may spells is grown =
     let at = spelled v m spells in
     let says : asked_at m ≡ v = at.says in
-    elim (tested (is_silent v)) [
+    elim (cases_Bool (is_silent v)) [
       | inl quiet ↦
           let test : silent (number_of 4 (drop 4 m)) ≡ true = ap silent at.opcode ∙ quiet in
           let same : messages_in new ≡ messages_in old = grown ∙ ap (λ (b : Bool). messages_in old ++ (if b then [] else m ∷ [])) test
@@ -103,12 +102,12 @@ sent spelled old new v m p may spells is grown =
 
 is_in-here : (xs : List ℕ) (i : ℕ) → is_in (xs ++ i ∷ []) i ≡ true
 is_in-here [] i = rw same_id
-is_in-here (x ∷ xs) i = elim (x == i) as (λ b. (if b then true else is_in (xs ++ i ∷ []) i) ≡ true) [ true ↦ refl | false ↦ is_in-here xs i ]
+is_in-here (x ∷ xs) i = elim (x == i) as (λ b. (b || is_in (xs ++ i ∷ []) i) ≡ true) [ true ↦ refl | false ↦ is_in-here xs i ]
 
 is_in-other : (xs : List ℕ) (y i : ℕ) → (y == i) ≡ false → is_in (xs ++ y ∷ []) i ≡ is_in xs i
 is_in-other [] y i isnt = rw isnt
 is_in-other (x ∷ xs) y i isnt =
-    elim (x == i) as (λ b. (if b then true else is_in (xs ++ y ∷ []) i) ≡ (if b then true else is_in xs i)) [ true ↦ refl | false ↦ is_in-other xs y i isnt ]
+    elim (x == i) as (λ b. (b || is_in (xs ++ y ∷ []) i) ≡ (b || is_in xs i)) [ true ↦ refl | false ↦ is_in-other xs y i isnt ]
 
 apart : (m n : ℕ) → m < n → (m == n) ≡ false
 apart m n less = grind arith
@@ -274,10 +273,10 @@ map-remove f xs i =
     ∙ ap (λ x. take i (map f xs) ++ x) (sym (drop-map f (suc i) xs))
 
 is_in-less : (xs : List ℕ) (y : ℕ) (ys : List ℕ) (i : ℕ) → is_in (xs ++ y ∷ ys) i ≡ false → is_in (xs ++ ys) i ≡ false
-is_in-less [] y ys i none = elim (y == i) as (λ b. (if b then true else is_in ys i) ≡ false
+is_in-less [] y ys i none = elim (y == i) as (λ b. (b || is_in ys i) ≡ false
     → is_in ys i ≡ false) [ true ↦ λ is. absurd (cc is) | false ↦ λ rest. rest ] none
 is_in-less (x ∷ xs) y ys i none =
-    elim (x == i) as (λ b. (if b then true else is_in (xs ++ y ∷ ys) i) ≡ false → (if b then true else is_in (xs ++ ys) i) ≡ false)
+    elim (x == i) as (λ b. (b || is_in (xs ++ y ∷ ys) i) ≡ false → (b || is_in (xs ++ ys) i) ≡ false)
     [ true ↦ λ is. absurd (cc is) | false ↦ λ rest. is_in-less xs y ys i rest ] none
 
 NoneTwice-less : (xs : List ℕ) (y : ℕ) (ys : List ℕ) → NoneTwice (xs ++ y ∷ ys) → NoneTwice (xs ++ ys) × (is_in ys y ≡ false)
@@ -297,7 +296,7 @@ others_kept unique r rs isnt rest = rw isnt (ap (λ x. r ∷ x) rest)
 
 others_before : (unique : ℕ) (rs : List Asked) → owner unique rs ≡ None → others unique rs ≡ rs
 others_before unique [] none = refl
-others_before unique (r ∷ rs) none = elim (tested (has_unique unique r)) [
+others_before unique (r ∷ rs) none = elim (cases_Bool (has_unique unique r)) [
   | inl is ↦ absurd (let found : owner unique (r ∷ rs) ≡ Some r = rw is in cc)
   | inr isnt ↦ let rest : owner unique (r ∷ rs) ≡ owner unique rs = rw isnt in others_kept unique r rs isnt (others_before unique rs (sym rest ∙ none))
 ]
@@ -308,7 +307,7 @@ others_after : (unique : ℕ) (one : Asked) (rs : List Asked) → has_unique uni
 others_after unique one [] is none = refl
 others_after unique one (r ∷ rs) is none =
     let apart = head_isnt (request_id r) (request_id one) (request_ids rs) none in
-    elim (tested (has_unique unique r)) [
+    elim (cases_Bool (has_unique unique r)) [
       | inl too ↦ absurd (let same : one.header.unique ≡ r.header.unique = eqb-true one.header.unique unique is ∙ sym (eqb-true r.header.unique unique too) in
           let equal : (request_id one == request_id r) ≡ true = eq-eqb (request_id one) (request_id r) (ap (λ (u : ℕ). id_of u) same) in cc)
       | inr isnt ↦ others_kept unique r rs isnt (others_after unique one rs is apart.1)
@@ -371,7 +370,7 @@ found pending unique place m p f here =
 
 is_in-among : (xs : List ℕ) (y : ℕ) (ys : List ℕ) (i : ℕ) → (y == i) ≡ true → is_in (xs ++ y ∷ ys) i ≡ true
 is_in-among [] y ys i is = rw is
-is_in-among (x ∷ xs) y ys i is = elim (x == i) as (λ b. (if b then true else is_in (xs ++ y ∷ ys) i) ≡ true) [ true ↦ refl | false ↦ is_in-among xs y ys i is ]
+is_in-among (x ∷ xs) y ys i is = elim (x == i) as (λ b. (b || is_in (xs ++ y ∷ ys) i) ≡ true) [ true ↦ refl | false ↦ is_in-among xs y ys i is ]
 
 pub id_passed : (pending : List (Vec ℕ Global)) (place id : ℕ) (m : Vec ℕ Global) → place < length pending → m ≡ get_or pending place m
     → is_in (request_ids (take place (requests_in pending))) id ≡ false

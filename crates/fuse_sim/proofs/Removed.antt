@@ -1,7 +1,8 @@
 -- Which records go, and how the ledgers say it.
-use Rattle.std.proofs.Common.{◌≡◌, ◌⊎◌, inl, inr, ℕ, zero, suc, ◌≤◌, ◌<◌, ◌==◌, Bool, true, false, if◌then◌else◌, List, [], ◌∷◌, ◌++◌, length, All, refl, sym}
+use Rattle.std.proofs.Common.{◌≡◌, ◌⊎◌, inl, inr, ℕ, zero, suc, ◌≤◌, ◌<◌, ◌==◌, Bool, true, false, List, [], ◌∷◌, ◌++◌, length, All, refl, sym, ◌||◌}
 use Rattle.std.proofs.Common.{ap, ◌∙◌, length-append, arith}
 use Rattle.std.proofs.lemmas.List.Elements.{All-nil, All-cons}
+use Rattle.std.proofs.lemmas.Bool.{cases_Bool}
 use Rattle.fuse_request.specs.Opcodes.{OpcodeSet}
 use Rattle.fuse_request.specs.declared.class.Class.{Class}
 use Rattle.fuse_request.specs.declared.class.Class.TheVariants.{Silent, Bare, Kept}
@@ -16,8 +17,7 @@ use Rattle.fuse_sim.specs.Driving.{commits, commits_in, settles, is_taken, dies,
 use Rattle.fuse_sim.specs.HandedOn.{Ledger, empty_ledger, after_one, after_commit, crashed_if, after_event}
 use Rattle.fuse_sim.specs.inner.HandedBy.{handed_by, handed_at, ledger_after, handed_on}
 use Rattle.fuse_sim.specs.LeftRecords.{Follow, SettledBefore}
-use Rattle.fuse_keeper.proofs.Histories.{tested}
-use Rattle.fuse_keeper.proofs.Settled.{includes_left, includes_right, in_either}
+use Rattle.fuse_sim.proofs.Settled.{includes_left, includes_right, in_either}
 use Rattle.fuse_sim.proofs.Ledgers.{commits_one, none_step, one_step}
 use Rattle.fuse_sim.proofs.Driven.{handed-append}
 
@@ -27,9 +27,9 @@ settles_only_by : (b : Bool) (class : Class) (n i : ℕ) → is_in (settles_if b
 settles_only_by false class n i there = absurd (cc there)
 settles_only_by true Silent n i there = absurd (cc there)
 settles_only_by true (Bare errno) n i there = absurd (cc there)
-settles_only_by true Kept n i there = elim (tested (n == i)) [
+settles_only_by true Kept n i there = elim (cases_Bool (n == i)) [
   | inl same ↦ let e : n ≡ i = grind (arith, same) in ap (λ (x : ℕ). x ∷ []) e
-  | inr other ↦ absurd (let isnt = sym there ∙ ap (λ b. if b then true else false) other in cc isnt)
+  | inr other ↦ absurd (let isnt = sym there ∙ ap (λ b. b || false) other in cc isnt)
 ]
 
 settles_only : (V : OpcodeSet) (e : Event) (i : ℕ) → is_in (settles V e) i ≡ true → settles V e ≡ i ∷ []
@@ -45,7 +45,7 @@ itself : (i : ℕ) → (i == i) ≡ true
 itself i = grind arith
 
 one_in : (i : ℕ) → is_in (i ∷ []) i ≡ true
-one_in i = ap (λ b. if b then true else false) (itself i)
+one_in i = ap (λ b. b || false) (itself i)
 
 -- ---- the 16th that is committed after it begins another group
 
@@ -212,7 +212,7 @@ hands_calm V l e es i calm there follow = elim (commits_one V e) [
 hands_later : (V : OpcodeSet) (l : Ledger) (e : Event) (es : List Event) (i : ℕ) → Waits V (after_event V l e) es i → Waits V l (e ∷ es) i
 unfolding Waits
 hands_later V l e es i waits = elim waits [
-  | inl was ↦ elim (tested (dies e.fate)) [
+  | inl was ↦ elim (cases_Bool (dies e.fate)) [
     | inl died ↦ absurd (let isnt = sym was.0 ∙ ap (λ b. is_in (crashed_if b (after_commit (commits V e) l (settles V e))).pending i) died in cc isnt)
     | inr calm ↦ hands_calm V l e es i calm was.0 was.1
   ]

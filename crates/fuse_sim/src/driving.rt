@@ -22,7 +22,9 @@ ghost use Rattle.fuse_sim.specs.inner.Running.{AsksGroup, AsksFrom, StopsAsking}
 
 use crate::event::{DriveFault, Event, Outcome};
 use crate::group::{Group, answer_group, gather, is_before_commit, test_event};
-use fuse_keeper::{Restart, StoreFault, histories_grow, kept_groups_grow, perform_group};
+use fuse_keeper::{
+    Restart, StoreFault, histories_grow, kept_groups_grow, perform_group, still_stands,
+};
 use fuse_wire::Id;
 use std::alloc::{AllocError, Global};
 
@@ -131,6 +133,7 @@ fn work_group<K: Restart>(
     ensures some { OnErr result (0 < length group.now.taken.items) }
 {
     kept_groups_grow::<K>();
+    still_stands::<K>();
     let inner = keeper.as_mut().unwrap();
     let dones = perform_group(alloc, inner, group.taken.as_slice(), pending)?;
     answer_group::<K>(
@@ -176,6 +179,7 @@ fn run_group<K: Restart>(
     ensures err_asked { IfErr result (StopsAsking (seen_of K.told K.became K.performed K.refuses)
         keeper.old keeper.new (ids_of pending.old.items) (drop at events.now)) }
 {
+    still_stands::<K>();
     let Ok(group) = gather::<K>(alloc, &events[at..]) else {
         return Err(DriveFault::Memory { event: at });
     };
@@ -223,6 +227,7 @@ fn run_next<K: Restart>(
     ensures err_asked { IfErr result (StopsAsking (seen_of K.told K.became K.performed K.refuses)
         keeper.old keeper.new (ids_of pending.old.items) (drop at events.now)) }
 {
+    still_stands::<K>();
     let event = &events[at];
     test_event(event, at)?;
     if !is_before_commit(event.fate) {
@@ -339,6 +344,7 @@ pub fn drive<K: Restart>(
         (performances K.model.serves events.now) events.now) }
 {
     histories_grow::<K>();
+    still_stands::<K>();
     let mut outcomes = Vec::new(alloc);
     let mut pending = Vec::new(alloc);
     let mut at = 0;

@@ -20,6 +20,7 @@ use crate::event::{DriveFault, Event, Fate, Outcome};
 use fuse_answer::{Answer, head_of};
 use fuse_keeper::{Done, Keeper, MAX_GROUP, classify};
 use fuse_request::{Class, Request, decode, has_zero_unique, is_message, one_cut, unique_of};
+use fuse_session::kept_have_ids;
 use fuse_wire::{Id, Moment};
 use std::alloc::{AllocError, Global};
 use std::vec::IntoIter;
@@ -106,6 +107,7 @@ fn take_in<'a, K: Keeper>(group: &mut Group<'a>, event: &'a Event) -> Result<boo
     ensures ends { IfOk result (λ joins. joins ≡ false
         → (group.new ≡ group.old) × EndsWith group.old event.now) }
 {
+    kept_have_ids();
     if group.died || stands_apart(event) {
         return Ok(false);
     }

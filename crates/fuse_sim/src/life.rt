@@ -8,7 +8,7 @@ ghost use Rattle.fuse_sim.specs.Lives.{Lifetime, AreLives, after_lives, all_proc
 ghost use Rattle.fuse_sim.specs.Lives.{RunsAreLives};
 
 use fuse_keeper::{Keeper, histories_grow};
-use fuse_session::{Clock, Port};
+use fuse_session::{Clock, Port, answers_stay};
 
 /// Over every list of lives of one mount, each beginning with the history that the one before left
 /// and the first with none.
@@ -23,6 +23,7 @@ pub fn lives<K: Keeper>()
         → AreLives K.model s [] ls → AllSend K.model s (after_lives K.model.serves [] ls) ls }
 {
     histories_grow::<K>();
+    answers_stay::<K>();
 }
 
 /// Each run of `serve` is such a life, of a keeper that was `k` and is `k'`, at whatever end. Its port

@@ -1,5 +1,5 @@
 -- How many records there are.
-use Rattle.std.proofs.Common.{◌≡◌, ◌<◌, ◌==◌, ℕ, pos, Bool, true, false, List, [], ◌∷◌, map, length, Option, Some, option_map, is_some, Less}
+use Rattle.std.proofs.Common.{◌≡◌, ◌<◌, ◌==◌, ℕ, pos, Bool, true, false, List, [], ◌∷◌, map, length, Option, Some, option_map, is_some, Less, ◌||◌}
 use Rattle.std.proofs.Common.{if◌then◌else◌, suc}
 use Rattle.std.proofs.Common.{refl, sym, ap, subst, arith, ◌∙◌, int_cmp}
 use Rattle.std.specs.Prelude.{nat_eq}
@@ -50,7 +50,7 @@ same_number : (a b : ℕ) → is_eq (nat_cmp a b) ≡ (a == b)
 same_number a b = grind (arith, nat_tests)
 
 found : (b c : Bool) (k : Kept) (o : Option Kept) (r : Bool) → c ≡ b → r ≡ is_some (option_map (λ x. x.said) o)
-    → (if b then true else r) ≡ is_some (option_map (λ x. x.said) (if c then Some k else o))
+    → (b || r) ≡ is_some (option_map (λ x. x.said) (if c then Some k else o))
 found true true k o r same rest = refl
 found true false k o r same rest = absurd cc
 found false true k o r same rest = absurd cc

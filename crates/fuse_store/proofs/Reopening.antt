@@ -17,7 +17,7 @@ use Rattle.fuse_store_tables.specs.Moves.{RestsAs, LeavesAlone, RollsBack, Commi
 use Rattle.fuse_store_tables.specs.Opening.{IsLaid, HasMeta, profile_in, IsStored, IsSecond, IsUnindexed, IsOpened, IsWantedStore, IsWanted, migrated, opened}
 use Rattle.fuse_store_tree.specs.Holding.{Holding, TreesAreInOrder}
 use Rattle.fuse_store_tree.specs.inner.Laws.{still_survives}
-use Rattle.fuse_store.specs.Opening.{Stored, First, Second, Unindexed, StoredFor, OpenedFor, UnindexedFor, WasFor, WantedFor, IsWantedOf, IsUndone, opened_for}
+use Rattle.fuse_store.specs.Opening.{Stored, First, Second, Unindexed, StoredFor, OpenedFor, UnindexedFor, WasFor, WantedFor, IsWantedOf, IsUndone, IsWholeOf, opened_for}
 use Rattle.fuse_keeper.specs.declared.fault.StoreFault.{StoreFault}
 use Rattle.fuse_store_tables.specs.Faults.{IsOutside}
 use Rattle.fuse_store.proofs.Fitting.{fit_for, second_for, profile_is}
@@ -123,15 +123,17 @@ has_meta (Unindexed y) d at = subst (λ (s : Schema). table_named s (codes "meta
 pub no_none : {X Y : Type 0} (o : Option X) (x : X) → o ≡ Some x → is_some o ≡ false → Y
 no_none o x is none = absurd (let e = sym (ap is_some is) ∙ none in cc)
 
--- what was opened had a whole `meta`, whether or not it holds a tree
-pub meta_whole : {X E : Type 0} (a b : State) (r : Result X E) → true ≡ not a.in_transaction → (IsTrue a.is_open → a.now ≡ a.committed)
-    → (HasCleanDisk b → OnOk r (IsTrue a.is_open)) → (HasCleanDisk b → OnOk r ((c : Content) → RestsAs (IsLaid c) a → HasMeta c)) → HasCleanDisk b
-    → OnOk r ((c : Content) → IsLaid c a.now → HasMeta c)
-meta_whole a b (Err e) outside settled was whole clean = tt
-meta_whole a b (Ok x) outside settled was whole clean = λ c at.
+-- what was opened had a whole `meta` of the profile that is returned, whether or not it holds a tree
+pub meta_whole : {E : Type 0} (a b : State) (r : Result Profile E) → true ≡ not a.in_transaction → (IsTrue a.is_open → a.now ≡ a.committed)
+    → (HasCleanDisk b → OnOk r (IsTrue a.is_open)) → (HasCleanDisk b → OnOk r ((c : Content) → RestsAs (IsLaid c) a → HasMeta c))
+    → (HasCleanDisk b → IfOk r (λ p. (c : Content) → RestsAs (IsLaid c) a → p ≡ profile_in c)) → HasCleanDisk b
+    → IfOk r (λ p. (c : Content) → IsLaid c a.now → IsWholeOf p c)
+meta_whole a b (Err e) outside settled was whole told clean = tt
+meta_whole a b (Ok p) outside settled was whole told clean = λ c at.
     let is_open = was clean in
-    whole clean c
-    (record { is_open = is_open; autocommit = no_transaction a.in_transaction outside; holds = at; committed = sym (settled is_open) })
+    let rests : RestsAs (IsLaid c) a =
+    record { is_open = is_open; autocommit = no_transaction a.in_transaction outside; holds = at; committed = sym (settled is_open) } in
+    record { whole = whole clean c rests; profile = sym (told clean c rests) }
 
 -- ---- nothing is done
 

@@ -15,7 +15,7 @@ use Rattle.fuse_store_tables.specs.Content.{Content, Counter, Answer, HoldsAs, L
 use Rattle.fuse_keeper.specs.declared.fault.StoreFault.{StoreFault}
 use Rattle.fuse_store_tables.specs.Faults.{IsOutside}
 use Rattle.fuse_store_tables.specs.Moves.{RestsAs, LeavesAlone, RollsBack}
-use Rattle.fuse_store_tables.specs.Opening.{HoldsUnindexed, IsStored, IsOpened, IsWanted, under}
+use Rattle.fuse_store_tables.specs.Opening.{HoldsUnindexed, IsStored, IsOpened, IsWanted, HasMeta, profile_in, under}
 use Rattle.fuse_store_tables.specs.Saying.{Says, IsRefusal, IsToMigrate}
 use Rattle.fuse_store_tree.specs.Fits.{Fits, KeepsRecord}
 use Rattle.fuse_store_tree.specs.Store.{FitsSettings, in_order, counter, is_there, minor_of, readahead_of, flags_of, byte_in, rows_bytes, rows_ends, AreWithin}
@@ -87,6 +87,11 @@ version_for _ = 2
 
 abbrev pub OpenedFor : Stored → Database → Type 0
 OpenedFor z = HeldFor (opened_for z)
+
+-- the rows of a store that was opened, those too that no tree has: `meta` is whole, and of this profile
+pub record IsWholeOf (p : Profile) (c : Content) : Type 0 where
+  pub whole : HasMeta c
+  pub profile : profile_in c ≡ p
 
 -- it is of the profile that is wanted, if one is
 abbrev pub IsWantedOf : Option Profile → Stored → Type 0

@@ -14,9 +14,9 @@ ghost use Rattle.fuse_store.specs.Creating.{new_holding, IsBlank, LeavesNew, IsT
 
 use fuse_init::Profile;
 use fuse_keeper::StoreFault;
+use fuse_plan::new_store_is_tree;
 use fuse_rows::Origin;
 use fuse_store_tables::{is_empty, make_store, try_store};
-use fuse_tree::new_store_is_tree;
 use sqlite::{Alter, Connection, Error};
 
 // The blocks that a store of this profile has room for, where it has a bound.

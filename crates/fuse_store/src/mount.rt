@@ -10,18 +10,18 @@ ghost use Rattle.fuse_store_tables.specs.Faults.{IsOutside, IsPlain};
 ghost use Rattle.fuse_store_tables.specs.Moves.{RestsAs, ServesAs, StaysOpen, IsSafe};
 ghost use Rattle.fuse_store_tables.specs.Moves.{Serves, LeavesAlone, RollsBack, CommitsOnce};
 ghost use Rattle.fuse_store_tables.specs.Clearing.{IsBegun, cleared};
-ghost use Rattle.fuse_store_tables.specs.Opening.{IsStored, IsLaid, HasMeta};
+ghost use Rattle.fuse_store_tables.specs.Opening.{IsStored, IsLaid};
 ghost use Rattle.fuse_store_tables.specs.Saying.{Says, IsTabled, IsRefusal};
 ghost use Rattle.fuse_store_tree.specs.Holding.{HeldFor};
 ghost use Rattle.fuse_store.specs.Mounting.{cleared_for};
-ghost use Rattle.fuse_store.specs.Opening.{Stored, StoredFor, WasFor, opened_for};
+ghost use Rattle.fuse_store.specs.Opening.{Stored, StoredFor, WasFor, IsWholeOf, opened_for};
 ghost use Rattle.fuse_store.specs.Starting.{BegunFor};
 
 use fuse_init::Profile;
 use fuse_keeper::StoreFault;
+use fuse_plan::clearing;
 use fuse_store_tables::set_up_fresh;
 use fuse_store_tree::rows_in_order;
-use fuse_tree::clearing;
 use sqlite::{Alter, Connection, Error};
 
 /// Begins a mount: deletes records and lots, and the state of the last mount in the tree. The
@@ -62,8 +62,8 @@ pub(crate) fn set_up_begun<S: Alter>(conn: &mut Connection<S>) -> Result<Profile
     // The profile is that of the store.
     ensures profile { HasCleanDisk (state S.Store conn.new) → IfOk result (λ p. (z : Stored)
         → WasFor z (state S.Store conn.old) → p ≡ profile_of (opened_for z).tree) }
-    ensures whole { HasCleanDisk (state S.Store conn.new) → OnOk result ((c : Content)
-        → IsLaid c (state S.Store conn.old).now → HasMeta c) }
+    ensures whole { HasCleanDisk (state S.Store conn.new) → IfOk result (λ p. (c : Content)
+        → IsLaid c (state S.Store conn.old).now → IsWholeOf p c) }
     ensures tabled { HasCleanDisk (state S.Store conn.new)
         → OnOk result (IsTabled (state S.Store conn.old).now) }
     ensures absent { (state S.Store conn.old).in_transaction ≡ false

@@ -9,10 +9,10 @@ ghost use Rattle.fuse_store_tables.specs.Content.{Content, LeftAs};
 ghost use Rattle.fuse_store_tables.specs.Faults.{IsOutside};
 ghost use Rattle.fuse_store_tables.specs.Moves.{RestsAs, ServesAs, IsSafe, LeavesAlone};
 ghost use Rattle.fuse_store_tables.specs.Moves.{RollsBack, CommitsOnce};
-ghost use Rattle.fuse_store_tables.specs.Opening.{IsStored, IsOpened, IsLaid, HasMeta, IsWanted};
+ghost use Rattle.fuse_store_tables.specs.Opening.{IsStored, IsOpened, IsLaid, IsWanted};
 ghost use Rattle.fuse_store_tables.specs.Saying.{Says, IsTabled, IsRefusal, IsToMigrate};
 ghost use Rattle.fuse_store.specs.Opening.{Stored, StoredFor, OpenedFor, WasFor};
-ghost use Rattle.fuse_store.specs.Opening.{opened_for, IsWantedOf, WantedFor};
+ghost use Rattle.fuse_store.specs.Opening.{opened_for, IsWantedOf, WantedFor, IsWholeOf};
 
 use fuse_init::Profile;
 use fuse_keeper::StoreFault;
@@ -42,8 +42,8 @@ pub(crate) fn set_up_for<S: Alter>(
     // The profile is that of the store.
     ensures profile { HasCleanDisk (state S.Store conn.new) → IfOk result (λ p. (z : Stored)
         → WasFor z (state S.Store conn.old) → p ≡ profile_of (opened_for z).tree) }
-    ensures whole { HasCleanDisk (state S.Store conn.new) → OnOk result ((c : Content)
-        → IsLaid c (state S.Store conn.old).now → HasMeta c) }
+    ensures whole { HasCleanDisk (state S.Store conn.new) → IfOk result (λ p. (c : Content)
+        → IsLaid c (state S.Store conn.old).now → IsWholeOf p c) }
     ensures tabled { HasCleanDisk (state S.Store conn.new)
         → OnOk result (IsTabled (state S.Store conn.old).now) }
     ensures absent { (state S.Store conn.old).in_transaction ≡ false

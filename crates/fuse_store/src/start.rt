@@ -13,13 +13,14 @@ ghost use Rattle.fuse_store_tables.specs.Faults.{IsOutside};
 ghost use Rattle.fuse_store_tables.specs.Layout.{no_schema};
 ghost use Rattle.fuse_store_tables.specs.Making.{IsBare};
 ghost use Rattle.fuse_store_tables.specs.Moves.{RestsAs, LeavesAlone};
-ghost use Rattle.fuse_store_tables.specs.Opening.{IsLaid, HasMeta};
+ghost use Rattle.fuse_store_tables.specs.Opening.{IsLaid};
 ghost use Rattle.fuse_store_tables.specs.Saying.{Says, IsTabled, IsRefusal, IsToMigrate};
 ghost use Rattle.fuse_store_tree.specs.Store.{records_of};
 ghost use Rattle.fuse_store_tree.specs.Holding.{lots_of};
 ghost use Rattle.fuse_tree.specs.State.{profile_of};
 ghost use Rattle.fuse_store.specs.Creating.{IsBlank};
-ghost use Rattle.fuse_store.specs.Opening.{IsUndone, Stored, StoredFor, WasFor, KeepsRows, opened_for};
+ghost use Rattle.fuse_store.specs.Opening.{IsUndone, Stored, StoredFor, WasFor, KeepsRows};
+ghost use Rattle.fuse_store.specs.Opening.{IsWholeOf, opened_for};
 ghost use Rattle.fuse_store.specs.Starting.{LeavesStarted, BeginsAfter, KeepsNamed};
 ghost use Rattle.fuse_store.specs.Starting.{LeavesFresh, begun_for, holding_for};
 ghost use Rattle.fuse_store.specs.Storing.{opening_fault};
@@ -95,7 +96,7 @@ pub fn open_or_create<S: Alter>(
         → IsErrAnd result (λ r. r.0 ≡ NotAStore) }
     ensures whole { IfOk result (λ k. (store_told k).is_honest
         → (IsBlank (state S.Store conn) → ⊥) → (c : Content)
-        → IsLaid c (state S.Store conn).now → HasMeta c) }
+        → IsLaid c (state S.Store conn).now → IsWholeOf (own_profile k) c) }
     ensures tabled { IfOk result (λ k. (store_told k).is_honest
         → (IsBlank (state S.Store conn) → ⊥) → IsTabled (state S.Store conn).now) }
     // A refusal leaves everything as it was, and no transaction is left open.
@@ -180,7 +181,7 @@ pub fn open_fresh<S: Alter>(
         → IsErrAnd result (λ r. r.0 ≡ NotAStore) }
     ensures whole { IfOk result (λ k. (store_told k).is_honest
         → (IsBlank (state S.Store conn) → ⊥) → (c : Content)
-        → IsLaid c (state S.Store conn).now → HasMeta c) }
+        → IsLaid c (state S.Store conn).now → IsWholeOf (own_profile k) c) }
     ensures tabled { IfOk result (λ k. (store_told k).is_honest
         → (IsBlank (state S.Store conn) → ⊥) → IsTabled (state S.Store conn).now) }
     // A refusal leaves everything as it was, and no transaction is left open.

@@ -12,7 +12,7 @@ ghost use Rattle.fuse_store_tables.specs.Faults.{IsOutside};
 ghost use Rattle.fuse_store_tables.specs.Layout.{no_schema};
 ghost use Rattle.fuse_store_tables.specs.Making.{IsBare};
 ghost use Rattle.fuse_store_tables.specs.Moves.{RestsAs, LeavesAlone};
-ghost use Rattle.fuse_store_tables.specs.Opening.{IsLaid, HasMeta};
+ghost use Rattle.fuse_store_tables.specs.Opening.{IsLaid};
 ghost use Rattle.fuse_store_tables.specs.Refusing.{HasMetaTable};
 ghost use Rattle.fuse_store_tables.specs.Saying.{IsTabled};
 ghost use Rattle.fuse_store_tree.specs.Store.{records_of};
@@ -20,7 +20,7 @@ ghost use Rattle.fuse_store_tree.specs.Holding.{lots_of};
 ghost use Rattle.fuse_tree.specs.State.{profile_of};
 ghost use Rattle.fuse_store.specs.Creating.{IsBlank, IsTakenFault, LeavesNew, origin_of};
 ghost use Rattle.fuse_store.specs.Opening.{Stored, WasFor};
-ghost use Rattle.fuse_store.specs.Opening.{OpenRefused, KeepsRows, opened_for};
+ghost use Rattle.fuse_store.specs.Opening.{OpenRefused, KeepsRows, IsWholeOf, opened_for};
 ghost use Rattle.fuse_store.specs.Starting.{FreshRefused, KeepsNamed, begun_for, holding_for};
 ghost use Rattle.fuse_store.specs.Starting.{BeginsAfter};
 ghost use Rattle.fuse_store.specs.TableKeeper.{SharesMedium};
@@ -33,8 +33,8 @@ use crate::setup::set_up_for;
 use crate::table_keeper::TableKeeper;
 use fuse_init::{EverydayProfile, PlainProfile, Profile};
 use fuse_keeper::StoreFault;
+use fuse_plan::rows_tell_state;
 use fuse_store_tree::{TableLook, lots_are_read, one_holding};
-use fuse_tree::rows_tell_state;
 use sqlite::{Alter, Connection};
 use std::alloc::Global;
 use std::marker::PhantomData;
@@ -133,7 +133,7 @@ impl<S: Alter> StoreKeeper<S> {
             → IsErrAnd result (λ r. r.0 ≡ NotAStore) }
         // Nothing is opened over a `meta` that is damaged, or without a table of its version.
         ensures whole { IfOk result (λ k. (store_told k).is_honest → (c : Content)
-            → IsLaid c (state S.Store conn).now → HasMeta c) }
+            → IsLaid c (state S.Store conn).now → IsWholeOf (own_profile k) c) }
         ensures tabled { IfOk result (λ k. (store_told k).is_honest
             → IsTabled (state S.Store conn).now) }
         // All rows are kept, those too that no tree has.
@@ -205,7 +205,7 @@ impl<S: Alter> StoreKeeper<S> {
             → IsErrAnd result (λ r. r.0 ≡ NotAStore) }
         // Nothing is opened over a `meta` that is damaged, or without a table of its version.
         ensures whole { IfOk result (λ k. (store_told k).is_honest → (c : Content)
-            → IsLaid c (state S.Store conn).now → HasMeta c) }
+            → IsLaid c (state S.Store conn).now → IsWholeOf (own_profile k) c) }
         ensures tabled { IfOk result (λ k. (store_told k).is_honest
             → IsTabled (state S.Store conn).now) }
         // All rows are kept but those that the begin of a mount deletes.

@@ -11,13 +11,14 @@ use crate::setup::set_up_for;
 use fuse_answer::Answer;
 use fuse_init::{Profiled, Settings};
 use fuse_keeper::{Done, Keeper, StoreCounts, StoreFault};
+use fuse_plan::rows_tell_state;
 use fuse_request::Request;
 use fuse_rows::{Origin, Room};
 use fuse_store_tree::{
     TableLook, answer_at_rest, calls_perform, counts_at_rest, lots_are_read, one_holding, perform,
     room_at_rest, settings_at_rest, size_at_rest,
 };
-use fuse_tree::{rows_tell_state, serves_further};
+use fuse_tree::serves_further;
 use fuse_wire::{Id, Moment};
 use sqlite::{Alter, Connection};
 use std::alloc::Global;
@@ -49,7 +50,7 @@ impl<P: Profiled, S: Alter> TableKeeper<P, S> {
     ghost use Rattle.fuse_store_tables.specs.Layout.{no_schema};
     ghost use Rattle.fuse_store_tables.specs.Making.{IsBare};
     ghost use Rattle.fuse_store_tables.specs.Moves.{RestsAs, OnlyReads, LeavesAlone};
-    ghost use Rattle.fuse_store_tables.specs.Opening.{IsLaid, HasMeta};
+    ghost use Rattle.fuse_store_tables.specs.Opening.{IsLaid};
     ghost use Rattle.fuse_store_tables.specs.Refusing.{HasMetaTable};
     ghost use Rattle.fuse_store_tables.specs.Saying.{IsTabled};
     ghost use Rattle.fuse_store_tree.specs.Store.{records_of};
@@ -57,7 +58,7 @@ impl<P: Profiled, S: Alter> TableKeeper<P, S> {
     ghost use Rattle.fuse_tree.specs.State.{new_store, profile_of};
     ghost use Rattle.fuse_store.specs.Creating.{IsBlank, IsTakenFault, LeavesNew, new_holding};
     ghost use Rattle.fuse_store.specs.Opening.{Stored, WasFor, OpenedFor};
-    ghost use Rattle.fuse_store.specs.Opening.{OpenRefused, KeepsRows, opened_for};
+    ghost use Rattle.fuse_store.specs.Opening.{OpenRefused, KeepsRows, IsWholeOf, opened_for};
     ghost use Rattle.fuse_store.specs.TableKeeper.{keeper_told, conn_of, SharesMedium};
     ghost use Rattle.fuse_store.specs.TableKeeper.{FaultsOutside};
 
@@ -168,7 +169,7 @@ impl<P: Profiled, S: Alter> TableKeeper<P, S> {
             → IsErrAnd result (λ r. r.0 ≡ NotAStore) }
         // Nothing is opened over a `meta` that is damaged, or without a table of its version.
         ensures whole { IfOk result (λ k. (keeper_told P.PROFILE S.Store k).is_honest → (c : Content)
-            → IsLaid c (state S.Store conn).now → HasMeta c) }
+            → IsLaid c (state S.Store conn).now → IsWholeOf P.PROFILE c) }
         ensures tabled { IfOk result (λ k. (keeper_told P.PROFILE S.Store k).is_honest
             → IsTabled (state S.Store conn).now) }
         // All rows are kept, those too that no tree has.

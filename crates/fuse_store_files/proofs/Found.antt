@@ -45,14 +45,14 @@ use Rattle.fuse_store_tree.specs.Store.{records_of}
 use Rattle.fuse_tree.specs.TheTree.{tree_of}
 use Rattle.fuse_tree.specs.State.{profile_of}
 use Rattle.fuse_store.specs.Creating.{IsBlank}
-use Rattle.fuse_store.specs.Opening.{Stored, StoredFor, WasFor, IsUndone, opened_for}
+use Rattle.fuse_store.specs.Opening.{Stored, StoredFor, WasFor, IsUndone, IsWholeOf, opened_for}
 use Rattle.fuse_store.specs.Storing.{opening_fault}
 use Rattle.fuse_store_files.specs.declared.files.Opening.{Opening}
 use Rattle.fuse_store_files.specs.declared.files.Opening.TheVariants.{Existing, Any, Fresh}
 use Rattle.fuse_store_files.specs.Files.{HoldSome, FilesHold, HoldNothing, TreesTell, AreTheirs}
 use Rattle.fuse_store_files.specs.Starting.{OpensAs, KeepsStore, FilesHoldRows}
 use Rattle.fuse_store_files.specs.Left.{LeavesAsFound, LeavesOpening, LeavesStore, LeavesUnclosed, IsMadeBy}
-use Rattle.fuse_store_files.specs.Databases.{FilesHave, IsToOpen, IsToMake, IsToChange, OpensOwn, KeepsFound, FailsOver, LeavesOnce}
+use Rattle.fuse_store_files.specs.Databases.{FilesHave, IsToOpen, IsToMake, IsToChange, OpensOwn, KeepsFound, FilesHaveProfile, FailsOver, LeavesOnce}
 use Rattle.fuse_store_files.specs.Restarting.{LeavesCrashed}
 use Rattle.fuse_store_files.specs.inner.Opened.{OpensOver, LeavesOver, IsNotOpened}
 use Rattle.fuse_store_files.proofs.Finding.{holds_one, holds_more}
@@ -145,6 +145,10 @@ module _ (image : Image) (s : State) (opens : Opens s) (live : IsLive s) (finds 
     tabled = λ d have ours. let same = found_now d have in subst IsTabled (sym same) (tabled (subst (IsToOpen how) same ours));
     whole = λ d have ours c laid. let same = found_now d have in whole (subst (IsToOpen how) same ours) c (subst (IsLaid c) same laid);
   }
+
+  pub has_profile : (how : Opening) (p : Profile) → (IsToOpen how s.now → (c : Content) → IsLaid c s.now → IsWholeOf p c) → FilesHaveProfile p how image
+  has_profile how p whole d have ours c laid =
+      let same = found_now d have in (whole (subst (IsToOpen how) same ours) c (subst (IsLaid c) same laid)).profile
 
   pub says_found : (how : Opening) (f : StoreFault) → (IsToOpen how s.now → Says s.now f) → (d : Database) → FilesHave image d → IsToOpen how d → Says d f
   says_found how f says d have ours =

@@ -11,12 +11,13 @@ use Rattle.sqlite.specs.declared.file.Leftover.{Leftover}
 use Rattle.sqlite.specs.declared.file.Leftover.TheVariants as left
 use Rattle.sqlite.specs.declared.error.Error.TheVariants.{SqliteFailure}
 use Rattle.sqlite.specs.declared.error.ErrorCode.TheVariants.{CannotOpen, DatabaseBusy}
+use Rattle.fuse_init.specs.declared.profile.Profile.{Profile}
 use Rattle.fuse_keeper.specs.declared.fault.StoreFault.{StoreFault}
 use Rattle.fuse_keeper.specs.declared.fault.StoreFault.TheVariants.{Memory, Sql}
 use Rattle.fuse_store_tables.specs.Content.{Content}
 use Rattle.fuse_store_tables.specs.Faults.{IsOutside}
 use Rattle.fuse_store_tables.specs.Layout.{no_schema}
-use Rattle.fuse_store_tables.specs.Opening.{IsLaid, HasMeta}
+use Rattle.fuse_store_tables.specs.Opening.{IsLaid, HasMeta, profile_in}
 use Rattle.fuse_store_tables.specs.Saying.{Says, IsTabled, IsToMigrate}
 use Rattle.fuse_store_files.specs.declared.files.Opening.{Opening}
 use Rattle.fuse_store_files.specs.declared.files.Opening.TheVariants.{Existing, Any, Fresh}
@@ -54,6 +55,10 @@ pub record OpensOwn (how : Opening) (image : Image) : Type 0 where
   pub sound : IsDatabase db
   pub tabled : (d : Database) → FilesHave image d → IsToOpen how d → IsTabled d
   pub whole : (d : Database) → FilesHave image d → IsToOpen how d → (c : Content) → IsLaid c d → HasMeta c
+
+-- the rows of a database in them that is opened are of this profile, those too that no tree has
+abbrev pub FilesHaveProfile : Profile → Opening → Image → Type 0
+FilesHaveProfile p how image = (d : Database) → FilesHave image d → IsToOpen how d → (c : Content) → IsLaid c d → profile_in c ≡ p
 
 -- a crash leaves what an open of the files finds, or one database as a whole: of two that it may leave both are that one
 abbrev pub LeavesOnce : {D : Type 0} {g : Ghosts D} → Image → Leftover D g → Type 0

@@ -21,7 +21,7 @@ ghost use Rattle.fuse_store_files.specs.declared.files.Opening.TheVariants.{Exis
 ghost use Rattle.fuse_store_files.specs.Files.{FilesHold};
 ghost use Rattle.fuse_store_files.specs.Starting.{path_of, OpensAs, KeepsStore, FilesHoldRows, RowsKept};
 ghost use Rattle.fuse_store_files.specs.Left.{LeavesAsFound, LeavesOpening};
-ghost use Rattle.fuse_store_files.specs.Databases.{OpensOwn, FailsOver, KeepsFound};
+ghost use Rattle.fuse_store_files.specs.Databases.{OpensOwn, FailsOver, KeepsFound, FilesHaveProfile};
 ghost use Rattle.fuse_store_files.specs.Databases.{IsNeverOpened};
 ghost use Rattle.fuse_store_files.specs.inner.Opened.{IsNotOpened};
 
@@ -122,6 +122,8 @@ pub fn open_store<S: Start>(
         → RestsAs (RowsKept how c) (file_state (own_conn k))) }
     // Of any database in the files: only a store of a version that is known is opened. What the
     // fault says is so, and what isn't to be changed is left as it was found.
+    ensures of_profile { IfOk result (λ k. (store_told k).is_honest
+        → FilesHaveProfile (own_profile k) how (image_at S.Start)) }
     ensures own { IfOk result (λ k. (store_told k).is_honest → OpensOwn how (image_at S.Start)) }
     ensures found { IfOk result (λ k. (store_told k).is_honest
         → KeepsFound how (image_at S.Start) (file_state (own_conn k))) }

@@ -8,10 +8,10 @@ ghost use Rattle.fuse_keeper.specs.KeeperState.{IsFirm};
 ghost use Rattle.fuse_store_tables.specs.Content.{Content};
 ghost use Rattle.fuse_store_tables.specs.Faults.{IsOutside};
 ghost use Rattle.fuse_store_tables.specs.Moves.{RestsAs, LeavesAlone};
-ghost use Rattle.fuse_store_tables.specs.Opening.{IsStored, IsLaid, HasMeta};
+ghost use Rattle.fuse_store_tables.specs.Opening.{IsStored, IsLaid};
 ghost use Rattle.fuse_store_tables.specs.Saying.{Says, IsTabled, IsRefusal};
 ghost use Rattle.fuse_store.specs.Creating.{IsBlank};
-ghost use Rattle.fuse_store.specs.Opening.{Stored, WasFor, IsUndone};
+ghost use Rattle.fuse_store.specs.Opening.{Stored, WasFor, IsUndone, IsWholeOf};
 ghost use Rattle.fuse_store.specs.TableKeeper.{SharesMedium};
 ghost use Rattle.fuse_store.specs.StoreKeeper.{own_profile, own_conn, store_told};
 ghost use Rattle.fuse_store_files.specs.Databases.{IsToOpen, IsToMake, IsToChange};
@@ -52,7 +52,7 @@ pub(crate) fn open_as<S: Alter>(
         → IsToOpen how (state S.Store conn).now → IsTabled (state S.Store conn).now) }
     ensures whole { IfOk result (λ k. (store_told k).is_honest
         → IsToOpen how (state S.Store conn).now → (c : Content)
-        → IsLaid c (state S.Store conn).now → HasMeta c) }
+        → IsLaid c (state S.Store conn).now → IsWholeOf (own_profile k) c) }
     ensures stays { IfOk result (λ k. (store_told k).is_honest
         → IsToOpen how (state S.Store conn).now → ¬ (IsToChange how (state S.Store conn).now)
         → LeavesAlone (state S.Store conn) (state S.Store (own_conn k))) }

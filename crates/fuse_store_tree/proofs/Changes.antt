@@ -13,7 +13,7 @@ use Rattle.fuse_store_tree.specs.declared.meta.Meta.{Meta}
 use Rattle.fuse_store_tree.specs.Looking.{sees_in, sees_known}
 use Rattle.fuse_store_tree.specs.Store.{Held}
 use Rattle.fuse_store_tree.specs.Holding.{store_of}
-use Rattle.fuse_store_tree.specs.Knowing.{Knows, HeldForKnown}
+use Rattle.fuse_store_tree.specs.Knowing.{Knows, HeldForKnown, knowing}
 use Rattle.fuse_store_tree.specs.inner.Knowing.{ChangedKnown, HeldKnown}
 use Rattle.fuse_store_tree.specs.inner.Writing.{made_one, made_all, with_changes, with_change}
 use Rattle.fuse_rows.specs.declared.rows.Change.{Change}
@@ -50,7 +50,7 @@ plan_made s t cs is same = changes_made (rowed s) cs (ap capacity_in is ∙ capa
 -- a plan that was made, and its changes made
 module _ (m n : Option Meta) (a b : State) (leaves : LeavesTrees a b) (knows : HasCleanDisk b → (rows : Rows) → sees_in a rows → Knows m rows → Knows n rows) where
   pub acted : (o : Option Meta) (d : State) (s : TreeState) (p : Planned) (e : Done) → Tree s → e.state.capacity ≡ s.capacity
-      → ChangedKnown n o (with_changes p.changes) b d → (HasCleanDisk b → sees_known m a (rowed s) → Meets s p e) → ActsInside m o a d s e p.answer
+      → ChangedKnown n o (with_changes p.changes) b d → (HasCleanDisk b → sees_known m a (rowed s) → Meets s p e) → ActsInside (knowing m a) (knowing o d) s e p.answer
   acted o d s p e tree same changed meets clean x is at right =
       let mid = earlier b d _ changed.stays.survives clean in
       let met = meets mid ((x, at, is), subst (Knows m) is right) in

@@ -1,5 +1,5 @@
 -- What is found under an id, as records come and go.
-use Rattle.std.proofs.Common.{◌≡◌, ℕ, ◌==◌, List, [], ◌∷◌, Bool, true, false, cond, not, Option, Some, None, option_map, Less, Equal, Greater}
+use Rattle.std.proofs.Common.{◌≡◌, ℕ, ◌==◌, List, [], ◌∷◌, Bool, true, false, cond, not, Option, Some, None, option_map, Less, Equal, Greater, ◌||◌}
 use Rattle.std.proofs.Common.{refl, sym, ap, arith, ◌∙◌}
 use Rattle.std.specs.Ordering.{is_eq, nat_cmp, match_ordering}
 use Rattle.std.specs.declared.cmp.Ordering.{Ordering}
@@ -41,7 +41,7 @@ module _ {X : Type 0} where
   both true p = refl
   both false p = refl
 
-  nest : (a b : Bool) (p r : X) → cond b p (cond a p r) ≡ cond (cond a true b) p r
+  nest : (a b : Bool) (p r : X) → cond b p (cond a p r) ≡ cond (a || b) p r
   nest true b p r = sym (both b p)
   nest false b p r = refl
 

@@ -19,6 +19,7 @@ use Rattle.fuse_store_tables.specs.inner.Following.{earlier}
 use Rattle.fuse_store_tree.specs.Fits.{Fits, KeepsRecord}
 use Rattle.fuse_store_tree.specs.Store.{Store, records_of, meta_rows_of}
 use Rattle.fuse_store_tree.specs.inner.Reading.{Describes, value_of}
+use Rattle.fuse_store_tree.specs.Knowing.{knowing}
 use Rattle.fuse_store_tree.specs.inner.Acting.{ActsInside}
 use Rattle.fuse_store_tree.specs.declared.meta.Meta.{Meta}
 use Rattle.fuse_store_tree.specs.inner.Changing.{InsideFor, Turned}
@@ -114,7 +115,7 @@ recorded id lot said a b x low fits small p =
 -- ---- a request acts
 
 pub acts : (m n : Option Meta) (e : Entry) (a b : State) (answer : Said) → Stays a b → StaysInside a b
-    → ((s : TreeState) → Tree s → ActsInside m n a b s (done s e.asked e.moment) answer) → TurnedKnown m n (with_act e) a b
+    → ((s : TreeState) → Tree s → ActsInside (knowing m a) (knowing n b) s (done s e.asked e.moment) answer) → TurnedKnown m n (with_act e) a b
 acts m n e a b answer keeps within acted = record {
   stays = keeps;
   within = within;
@@ -236,14 +237,14 @@ done_new m n id lot e a b d r done looks found p clean told y at =
 
 -- ---- a request that acted, and its record
 
-said_is : (m n : Option Meta) (e : Entry) (a b : State) (answer : Said) → ((s : TreeState) → Tree s → ActsInside m n a b s (done s e.asked e.moment) answer)
+said_is : (m n : Option Meta) (e : Entry) (a b : State) (answer : Said) → ((s : TreeState) → Tree s → ActsInside (knowing m a) (knowing n b) s (done s e.asked e.moment) answer)
     → HasCleanDisk b → (y : Holding) → InsideKnown m y a → answer ≡ said_of e y
 said_is m n e a b answer acted clean y at =
     let held = held_for m y a at in
     (acted y.tree held.holds.tree clean (store_of y) refl (told_in y a held) at.holds.1).answer_is
 
 pub acted_recorded : (m n : Option Meta) (id lot : ℕ) (e : Entry) (a b d : State) (answer : Said) → id ≡ entry_id e → Stays a b → StaysInside a b
-    → ((s : TreeState) → Tree s → ActsInside m n a b s (done s e.asked e.moment) answer) → Turned (with_record id lot answer) b d
+    → ((s : TreeState) → Tree s → ActsInside (knowing m a) (knowing n b) s (done s e.asked e.moment) answer) → Turned (with_record id lot answer) b d
     → TurnedKnown m n (acted_on lot e) a d
 acted_recorded m n id lot e a b d answer same keeps within acted p =
     turned_known_same m n (λ y. with_record id lot answer (with_act e y)) (acted_on lot e) a d
@@ -253,6 +254,6 @@ acted_recorded m n id lot e a b d answer same keeps within acted p =
     (turned_so n (with_record id lot answer) b d (λ y. refl) p))
 
 pub answer_told : (m n : Option Meta) (id lot : ℕ) (e : Entry) (a b d : State) (answer : Said)
-    → ((s : TreeState) → Tree s → ActsInside m n a b s (done s e.asked e.moment) answer) → Turned (with_record id lot answer) b d → HasCleanDisk d
+    → ((s : TreeState) → Tree s → ActsInside (knowing m a) (knowing n b) s (done s e.asked e.moment) answer) → Turned (with_record id lot answer) b d → HasCleanDisk d
     → (y : Holding) → InsideKnown m y a → done_newly answer ≡ done_newly (said_of e y)
 answer_told m n id lot e a b d answer acted p clean y at = ap done_newly (said_is m n e a b answer acted (earlier b d _ p.stays.survives clean) y at)

@@ -69,10 +69,10 @@ call_good {p} g lot ids es y good =
 pub call_performed : {p : Profile} → Below p → (lot : Option ℕ) (ids : List ℕ) (es : List Entry) (y : Holding) (s : State) (h : History) (t : List ℕ) → Tree y.tree
     → Includes t ids
     → All (IsUnsettled t) es → Stands (tree_of p) (rowed y.tree) (records_of y.kept) s h t
-    → HasPerformed p (performed lot ids es y) s h t es (all_dones lot ids es y)
+    → HasPerformed p (performed lot ids es y) (record { state = s; history = h; settled = t }) es (all_dones lot ids es y)
 call_performed {p} g lot ids es y s h t tree within each so =
     let z = without_settled ids y in
-    group_performed g (lot_for lot y) es (with_lot_for lot z) s h t each
+    group_performed g (lot_for lot y) es (with_lot_for lot z) (record { state = s; history = h; settled = t }) each
     (lotted_stand p lot z s h t (settled_stand p ids y s h t within so))
 
 -- the entries of the group are taken over the records that aren't settled

@@ -1,13 +1,13 @@
 -- What a group makes of rows and records, in the words of a keeper.
-use Rattle.std.proofs.Common.{◌≡◌, ℕ, ◌==◌, suc, zero, List, [], ◌∷◌, ◌++◌, Bool, true, false, cond, All, Option, Some, None, refl, sym, ap, subst, arith, ◌∙◌}
+use Rattle.std.proofs.Common.{◌≡◌, ℕ, ◌==◌, suc, zero, List, [], ◌∷◌, ◌++◌, Bool, true, false, cond, All, Option, Some, None, refl, sym, ap, subst, arith, ◌∙◌, ◌||◌}
 use Rattle.fuse_answer.specs.Said.{Said}
 use Rattle.fuse_rows.specs.Rows.{profile_for}
 use Rattle.fuse_tree.specs.State.{State, Tree}
 use Rattle.fuse_tree.specs.Rowed.{rowed}
 use Rattle.fuse_tree.specs.Do.{done}
 use Rattle.fuse_tree.specs.Laws.{TreeKept, RowsTellState}
-use Rattle.fuse_keeper.specs.History.{Entry, entry_id, History, IsUnsettled, is_in, ids_in}
-use Rattle.fuse_keeper.specs.Stands.{Stands, OthersStay}
+use Rattle.fuse_keeper.specs.History.{Entry, entry_id, IsUnsettled, is_in, ids_in}
+use Rattle.fuse_keeper.specs.Stands.{Standing, Stands, OthersStay}
 use Rattle.fuse_keeper.specs.Taking.{Took, TookBy, TakesAll, Acts, ActedOn, GroupsGrow}
 use Rattle.fuse_keeper.specs.declared.keeper.Done.{Done}
 use Rattle.fuse_store_tree.specs.Store.{records_of}
@@ -80,28 +80,28 @@ no_more : {X : Type 0} (xs : List X) → xs ≡ xs ++ []
 no_more [] = refl
 no_more (x ∷ xs) = ap (λ more. x ∷ more) (no_more xs)
 
-group_took : {p : Profile} → Below p → (lot : ℕ) (es : List Entry) (y : Holding) (s : State) (h : History) (t : List ℕ) (so_far : List Entry) (dones : List Done)
-    → All (IsUnsettled t) es → HasPerformed p y s h t so_far dones → HasPerformed p (with_group lot es y) s h t (so_far ++ es) (dones ++ dones_of lot es y)
-group_took {p} g lot [] y s h t so_far dones each does =
-    subst (λ l. HasPerformed p y s h t l (dones ++ [])) (no_more so_far) (subst (λ l. HasPerformed p y s h t so_far l) (no_more dones) does)
-group_took {p} g lot (e ∷ es) y s h t so_far dones each does =
+group_took : {p : Profile} → Below p → (lot : ℕ) (es : List Entry) (y : Holding) (at : Standing (tree_of p)) (so_far : List Entry) (dones : List Done)
+    → All (IsUnsettled at.settled) es → HasPerformed p y at so_far dones
+    → HasPerformed p (with_group lot es y) at (so_far ++ es) (dones ++ dones_of lot es y)
+group_took {p} g lot [] y at so_far dones each does =
+    subst (λ l. HasPerformed p y at l (dones ++ [])) (no_more so_far) (subst (λ l. HasPerformed p y at so_far l) (no_more dones) does)
+group_took {p} g lot (e ∷ es) y at so_far dones each does =
     let z = (taken lot e y).holding in
     let d = (taken lot e y).done in
-    let more : HasPerformed p z s h t (so_far ++ e ∷ []) (dones ++ d ∷ []) =
-    (g.grow).one_more (keeper_content_of p y) e (keeper_content_of p z) d (record { state = s; history = h; settled = t }) so_far dones (each zero e (omega arith))
+    let more : HasPerformed p z at (so_far ++ e ∷ []) (dones ++ d ∷ []) =
+    (g.grow).one_more (keeper_content_of p y) e (keeper_content_of p z) d at so_far dones (each zero e (omega arith))
     (took g lot e y) does in
-    let all = group_took g lot es z s h t (so_far ++ e ∷ []) (dones ++ d ∷ []) (λ k x below. each (suc k) x (omega (arith, below))) more in
-    subst (λ l. HasPerformed p (with_group lot es z) s h t l (dones ++ d ∷ dones_of lot es z)) (grouped so_far (e ∷ []) es)
-    (subst (λ l. HasPerformed p (with_group lot es z) s h t ((so_far ++ e ∷ []) ++ es) l) (grouped dones (d ∷ []) (dones_of lot es z)) all)
+    let all = group_took g lot es z at (so_far ++ e ∷ []) (dones ++ d ∷ []) (λ k x below. each (suc k) x (omega (arith, below))) more in
+    subst (λ l. HasPerformed p (with_group lot es z) at l (dones ++ d ∷ dones_of lot es z)) (grouped so_far (e ∷ []) es)
+    (subst (λ l. HasPerformed p (with_group lot es z) at ((so_far ++ e ∷ []) ++ es) l) (grouped dones (d ∷ []) (dones_of lot es z)) all)
 
-pub group_performed : {p : Profile} → Below p → (lot : ℕ) (es : List Entry) (y : Holding) (s : State) (h : History) (t : List ℕ) → All (IsUnsettled t) es
-    → Stands (tree_of p) (rowed y.tree) (records_of y.kept) s h t → HasPerformed p (with_group lot es y) s h t es (dones_of lot es y)
-group_performed {p} g lot es y s h t each so =
-    group_took g lot es y s h t [] [] each ((g.grow).none_yet (keeper_content_of p y) (record { state = s; history = h; settled = t }) so)
+pub group_performed : {p : Profile} → Below p → (lot : ℕ) (es : List Entry) (y : Holding) (at : Standing (tree_of p)) → All (IsUnsettled at.settled) es
+    → Stands (tree_of p) (rowed y.tree) (records_of y.kept) at.state at.history at.settled → HasPerformed p (with_group lot es y) at es (dones_of lot es y)
+group_performed {p} g lot es y at each so = group_took g lot es y at [] [] each ((g.grow).none_yet (keeper_content_of p y) at so)
 
 -- ---- the records of other ids
 
-neither : (a b : Bool) → cond a true b ≡ false → (a ≡ false) × (b ≡ false)
+neither : (a b : Bool) → (a || b) ≡ false → (a ≡ false) × (b ≡ false)
 neither true b is = absurd cc
 neither false b is = (refl, is)
 

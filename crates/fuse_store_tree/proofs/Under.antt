@@ -1,5 +1,5 @@
 -- The lots under which a call leaves the records.
-use Rattle.std.proofs.Common.{◌≡◌, ◌<◌, ◌⊎◌, ℕ, ◌==◌, List, [], ◌∷◌, Bool, true, false, cond, Option, Some, None, inl, inr}
+use Rattle.std.proofs.Common.{◌≡◌, ◌<◌, ◌⊎◌, ℕ, ◌==◌, List, [], ◌∷◌, Bool, true, false, cond, Option, Some, None, inl, inr, ◌||◌}
 use Rattle.std.proofs.Common.{refl, sym, ap, arith, ◌∙◌}
 use Rattle.std.proofs.lemmas.Bool.{cases_Bool}
 use Rattle.std.proofs.lemmas.Bool.Decides.{nat_tests}
@@ -42,7 +42,7 @@ group_still lot (e ∷ es) y i a there =
 
 -- ---- a record that comes is under the lot of this start
 
-left_over : (b c : Bool) → b ≡ false → cond b true c ≡ true → c ≡ true
+left_over : (b c : Bool) → b ≡ false → (b || c) ≡ true → c ≡ true
 left_over true c off is = absurd cc
 left_over false c off is = is
 
@@ -85,7 +85,7 @@ not_this a b low = grind (arith, nat_tests)
 
 fresh : (n : ℕ) (lots : List ℕ) → AreBelow n lots → is_in lots n ≡ false
 fresh n [] below = refl
-fresh n (x ∷ lots) below = ap (λ b. cond b true (is_in lots n)) (not_this x n below.0) ∙ fresh n lots below.1
+fresh n (x ∷ lots) below = ap (λ b. b || is_in lots n) (not_this x n below.0) ∙ fresh n lots below.1
 
 all_lots : (lot : Option ℕ) (ids : List ℕ) (es : List Entry) (y : Holding)
     → (performed lot ids es y).lots ≡ (with_lot_for lot (without_settled ids y)).lots

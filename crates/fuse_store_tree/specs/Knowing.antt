@@ -24,6 +24,14 @@ Knows known rows = IfSome known (λ m. m ≡ meta_of rows)
 abbrev pub Recalls : Option LastNode → Rows → Type 0
 Recalls last rows = IsRowed rows → IfSome last (λ l. l.row ≡ row_at rows l.number)
 
+-- the tables, and what is known of them
+pub record KnownTables : Type 1 where
+  pub tables : State
+  pub known : Option Meta
+
+abbrev pub knowing : Option Meta → State → KnownTables
+knowing m s = record { tables = s; known = m }
+
 -- a database of the tables that holds this, where what is known is right
 abbrev pub HeldForKnown : Option Meta → Holding → Database → Type 0
 HeldForKnown known y d = HeldFor y d × Knows known (rowed y.tree)

@@ -12,7 +12,7 @@ use Rattle.fuse_store_tree.specs.declared.look.LastNode.{LastNode}
 use Rattle.fuse_store_tree.specs.declared.meta.Meta.{Meta}
 use Rattle.fuse_store_tree.specs.Store.{Store, Held}
 use Rattle.fuse_store_tree.specs.Holding.{HeldFor}
-use Rattle.fuse_store_tree.specs.Knowing.{Knows, Recalls}
+use Rattle.fuse_store_tree.specs.Knowing.{KnownTables, Knows, Recalls}
 
 -- the fault of a read, as `plan` gets it
 abbrev pub told_as : StoreFault → LookFault
@@ -36,11 +36,11 @@ abbrev pub sees_with : Option Meta → Option LastNode → State → Rows → Ty
 sees_with known last s rows = sees_known known s rows × Recalls last rows
 
 -- only reads that succeeded lie between the two states, the fault is as it was, and what is known stays right
-pub record WentWell (old new : State) (was is : Option StoreFault) (before after : Option Meta) (first last : Option LastNode) : Type 0 where
-  pub looked : LookedInside old new
+pub record WentWell (old new : KnownTables) (was is : Option StoreFault) (first last : Option LastNode) : Type 0 where
+  pub looked : LookedInside old.tables new.tables
   pub same : is ≡ was
-  pub knows : HasCleanDisk new → (rows : Rows) → sees_in old rows → Knows before rows → Knows after rows
-  pub recalls : HasCleanDisk new → (rows : Rows) → sees_in old rows → Recalls first rows → Recalls last rows
+  pub knows : HasCleanDisk new.tables → (rows : Rows) → sees_in old.tables rows → Knows old.known rows → Knows new.known rows
+  pub recalls : HasCleanDisk new.tables → (rows : Rows) → sees_in old.tables rows → Recalls first rows → Recalls last rows
 
 -- only reads lie between the two states, and the last may have failed; its fault is plain, and outside where a tree was held
 pub record MayFail (old new : State) (was is : Option StoreFault) : Type 0 where

@@ -5,7 +5,7 @@ use Rattle.fuse_tree.specs.State.{State, Tree}
 use Rattle.fuse_rows.specs.Rows.{Rows}
 use Rattle.fuse_tree.specs.Rowed.{rowed}
 use Rattle.fuse_keeper.specs.History.{Entry, History, Includes, IsUnsettled}
-use Rattle.fuse_keeper.specs.Stands.{Records, KeeperContent, Stands, AreThese, PerformedBy, OthersStay, without}
+use Rattle.fuse_keeper.specs.Stands.{Records, KeeperContent, Standing, Stands, AreThese, PerformedBy, OthersStay, without}
 use Rattle.fuse_keeper.specs.Taking.{TakesAll}
 use Rattle.fuse_keeper.specs.Lots.{RecordsUnder}
 use Rattle.fuse_keeper.specs.declared.keeper.Done.{Done}
@@ -28,9 +28,8 @@ abbrev pub HoldingStands : Profile → Holding → State → History → List �
 HoldingStands p y s h t = Stands (tree_of p) (rowed y.tree) (records_of y.kept) s h t
 
 -- the holding stands for the history extended by a group, and each answer is the one said in it
-abbrev pub HasPerformed : Profile → Holding → State → History → List ℕ → List Entry → List Done → Type 0
-HasPerformed p y s h t es dones =
-    PerformedBy (tree_of p) (AreThese (tree_of p) (rowed y.tree) (records_of y.kept)) (record { state = s; history = h; settled = t }) es dones
+abbrev pub HasPerformed : (p : Profile) → Holding → Standing (tree_of p) → List Entry → List Done → Type 0
+HasPerformed p y at es dones = PerformedBy (tree_of p) (AreThese (tree_of p) (rowed y.tree) (records_of y.kept)) at es dones
 
 -- of a call with the lot of this opening, settled ids and a group
 pub record CallsPerform (p : Profile) : Type 0 where
@@ -40,7 +39,8 @@ pub record CallsPerform (p : Profile) : Type 0 where
   pub good : (lot : Option ℕ) (ids : List ℕ) (es : List Entry) (y : Holding) → (tree_of p).IsGood y.tree → (tree_of p).IsGood (performed lot ids es y).tree
   -- the group is performed
   pub group : (lot : Option ℕ) (ids : List ℕ) (es : List Entry) (y : Holding) (s : State) (h : History) (t : List ℕ) → Tree y.tree → Includes t ids
-      → All (IsUnsettled t) es → HoldingStands p y s h t → HasPerformed p (performed lot ids es y) s h t es (all_dones lot ids es y)
+      → All (IsUnsettled t) es → HoldingStands p y s h t
+      → HasPerformed p (performed lot ids es y) (record { state = s; history = h; settled = t }) es (all_dones lot ids es y)
   -- the entries are taken one after the other over the records that aren't settled
   pub acts : (lot : Option ℕ) (ids : List ℕ) (es : List Entry) (y : Holding) (rows : Rows) (records : Records) → Tree y.tree
       → AreThese (tree_of p) (rowed y.tree) (records_of y.kept) rows records

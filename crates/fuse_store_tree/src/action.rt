@@ -7,7 +7,7 @@ ghost use Rattle.fuse_tree.specs.State.{State, Tree};
 ghost use Rattle.fuse_store_tables.specs.Faults.{IsPlain};
 ghost use Rattle.fuse_store_tables.specs.inner.Performing.{IsSure};
 ghost use Rattle.fuse_store_tree.specs.inner.Acting.{ActsInside, why_no_plan};
-ghost use Rattle.fuse_store_tree.specs.Knowing.{HeldForKnown};
+ghost use Rattle.fuse_store_tree.specs.Knowing.{HeldForKnown, knowing};
 ghost use Rattle.fuse_store_tree.specs.Looking.{as_look_fault};
 ghost use Rattle.fuse_store_tables.specs.Moves.{Stays, StaysInside};
 
@@ -45,8 +45,9 @@ pub(crate) fn act<S: Alter>(
 ) -> Result<Answer, StoreFault>
     requires { as_look_fault look.old.fault ≡ None }
     ensures acts { IfOk result (λ answer. (s : State) → Tree s
-        → ActsInside look.old.known look.new.known (state S.Store look.old.conn)
-        (state S.Store look.new.conn) s (done s (asked request.now) now) answer) }
+        → ActsInside (knowing look.old.known (state S.Store look.old.conn))
+        (knowing look.new.known (state S.Store look.new.conn)) s (done s (asked request.now) now)
+        answer) }
     // Nothing is committed, whether it succeeds or not.
     ensures keeps { Stays (state S.Store look.old.conn) (state S.Store look.new.conn) }
     // And the transaction stays open where it succeeds.

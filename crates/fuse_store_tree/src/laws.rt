@@ -6,8 +6,7 @@ ghost use Rattle.fuse_store_tree.specs.Performing.{OneHolding, CallsPerform};
 use fuse_init::Profiled;
 use fuse_keeper::groups_grow;
 use fuse_lists::PlainTree;
-use fuse_plan::tree_kept;
-use fuse_tree::rows_tell_state;
+use fuse_plan::{rows_tell_state, tree_kept};
 
 /// A database holds only one tree, with its records and lots.
 pub fn one_holding()

@@ -9,7 +9,7 @@ ghost use Rattle.fuse_rows.specs.Bounds.{file_limit};
 ghost use Rattle.fuse_rows.specs.Rows.{Rows, row_at, bytes_at};
 ghost use Rattle.fuse_tree.specs.Rowed.{IsRowed};
 ghost use Rattle.fuse_store_tree.specs.Holding.{Holding};
-ghost use Rattle.fuse_store_tree.specs.Knowing.{Knows, Recalls, meta_of};
+ghost use Rattle.fuse_store_tree.specs.Knowing.{Knows, Recalls, knowing, meta_of};
 ghost use Rattle.fuse_store_tree.specs.Looking.{as_look_fault, told_as, sees_in, WentWell};
 ghost use Rattle.fuse_store_tree.specs.inner.Changing.{InsideFor};
 
@@ -89,9 +89,10 @@ impl<S: Alter> TableLook<S> {
 
     // The counters and the settings, as they are known or read.
     fn find_meta(&mut self) -> Result<Meta, StoreFault>
-        ensures looks { OnOk result (WentWell (state S.Store self.old.conn)
-            (state S.Store self.new.conn) self.old.fault self.new.fault self.old.known
-            self.new.known self.old.last self.new.last) }
+        ensures looks { OnOk result (WentWell
+            (knowing self.old.known (state S.Store self.old.conn))
+            (knowing self.new.known (state S.Store self.new.conn))
+            self.old.fault self.new.fault self.old.last self.new.last) }
         ensures fails { OnErr result (Stays (state S.Store self.old.conn)
             (state S.Store self.new.conn)) }
         ensures value { HasCleanDisk (state S.Store self.new.conn) → IfOk result (λ meta.
@@ -130,9 +131,10 @@ impl<S: Alter> TableLook<S> {
 
     // At most `len` bytes of a node's content, whose size is known or read.
     fn find_bytes(&mut self, node: u64, offset: u64, len: u32) -> Result<ByteList, StoreFault>
-        ensures looks { OnOk result (WentWell (state S.Store self.old.conn)
-            (state S.Store self.new.conn) self.old.fault self.new.fault self.old.known
-            self.new.known self.old.last self.new.last) }
+        ensures looks { OnOk result (WentWell
+            (knowing self.old.known (state S.Store self.old.conn))
+            (knowing self.new.known (state S.Store self.new.conn))
+            self.old.fault self.new.fault self.old.last self.new.last) }
         ensures fails { OnErr result (Stays (state S.Store self.old.conn)
             (state S.Store self.new.conn)) }
         ensures value { HasCleanDisk (state S.Store self.new.conn) → IfOk result (λ bytes.
@@ -162,6 +164,7 @@ impl<S: Alter> TableLook<S> {
 }
 
 impl<S: Alter> Look for TableLook<S> {
+    ghost use Rattle.fuse_store_tree.specs.Knowing.{knowing};
     ghost use Rattle.fuse_store_tree.specs.Looking.{sees_with, WentWell, MayFail};
     ghost use Rattle.fuse_store_tree.specs.inner.Laws.{well_still, well_then, well_fails};
     ghost use Rattle.fuse_store_tree.specs.inner.Laws.{well_less, looked_clean, well_kept};
@@ -172,8 +175,8 @@ impl<S: Alter> Look for TableLook<S> {
 
     ghost is_clean = { λ k. HasCleanDisk (state S.Store k.conn) };
 
-    ghost looks = { λ a b. WentWell (state S.Store a.conn) (state S.Store b.conn) a.fault b.fault
-        a.known b.known a.last b.last };
+    ghost looks = { λ a b. WentWell (knowing a.known (state S.Store a.conn))
+        (knowing b.known (state S.Store b.conn)) a.fault b.fault a.last b.last };
 
     ghost fails = { λ a b. MayFail (state S.Store a.conn) (state S.Store b.conn) a.fault b.fault };
 
@@ -260,15 +263,15 @@ impl<S: Alter> Look for TableLook<S> {
         }
     }
 
-    ghost still = { λ a. well_still _ _ _ _ };
+    ghost still = { λ a. well_still _ _ _ };
 
-    ghost and_then = { λ a b d p q. well_then _ _ _ _ _ _ _ _ p _ _ _ _ q };
+    ghost and_then = { λ a b d p q. well_then _ _ _ _ _ _ p _ _ _ q };
 
-    ghost and_fails = { λ a b d p q. well_fails _ _ _ _ _ _ _ _ p _ _ q };
+    ghost and_fails = { λ a b d p q. well_fails _ _ _ _ _ _ p _ _ q };
 
-    ghost or_less = { λ a b p. well_less _ _ _ _ _ _ _ _ p };
+    ghost or_less = { λ a b p. well_less _ _ _ _ _ _ p };
 
     ghost was_clean = { λ a b p clean. looked_clean _ _ p.looked clean };
 
-    ghost kept = { λ a b p clean rows sees. well_kept _ _ _ _ _ _ _ _ p clean rows sees };
+    ghost kept = { λ a b p clean rows sees. well_kept _ _ _ _ _ _ p clean rows sees };
 }

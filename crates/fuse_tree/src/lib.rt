@@ -5,22 +5,17 @@ mod agreement;
 mod laws;
 mod look;
 mod mode;
-mod mount;
 mod new_node;
 mod rename_mode;
 mod space;
 mod terms;
 
 pub use agreement::Agreement;
-pub use laws::{
-    answers_are_read, answers_fit, bytes_kept, lies_in_is_under, listing_is_longest, mode_numbers,
-    new_store_is_tree, plus_listing_is_longest, rows_of_trees, rows_tell_state,
-};
+pub use laws::mode_numbers;
 pub use look::{Look, LookFault};
 pub use mode::{
     S_IFBLK, S_IFCHR, S_IFDIR, S_IFIFO, S_IFLNK, S_IFREG, S_IFSOCK, S_ISGID, TYPE_UNIT, TYPES,
 };
-pub use mount::clearing;
 pub use new_node::NewNode;
 pub use rename_mode::RenameMode;
 pub use space::blocks_of;

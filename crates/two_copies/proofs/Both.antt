@@ -1,18 +1,21 @@
 -- The state of two copies, from the state of each.
 use Rattle.std.proofs.Common.{◌≡◌, ◌||◌, Bool, true, false, ℕ, List, Result, Ok, Err, refl, sym, ap, subst, ◌∙◌, inl, inr, ◌⊎◌}
+use Rattle.std.proofs.Math.Bool.{or-true}
 use Rattle.fuse_keeper.specs.declared.fault.StoreFault.{StoreFault}
 use Rattle.fuse_keeper.specs.declared.keeper.Done.{Done}
 use Rattle.fuse_keeper.specs.declared.plain.PlainKeeper.{PlainKeeper}
 use Rattle.fuse_keeper.specs.Model.{Model}
 use Rattle.fuse_keeper.specs.History.{Entry, History}
-use Rattle.fuse_keeper.specs.Stands.{Records, Stands, AreThese}
+use Rattle.fuse_keeper.specs.Lots.{no_lots, SameLots}
+use Rattle.fuse_keeper.specs.Stands.{Records, Stands, AreThese, StillStands}
 use Rattle.fuse_keeper.specs.Plain.{mapped}
 use Rattle.fuse_keeper.specs.PlainKeeper.{plain_told}
 use Rattle.fuse_keeper.specs.KeeperState.{StandsFor, Performed, IsFirm, KeepsHeld, Leaves, Called, Looked, HoldsTaken, HoldsOthers, ActsOn, Reopened}
-use Rattle.fuse_keeper.proofs.Standing.{Stands-same}
-use Rattle.fuse_keeper.proofs.Keeping.{or-true, lots_stay}
 use Rattle.two_copies.specs.declared.copies.TwoCopies.{TwoCopies}
 use Rattle.two_copies.specs.TwoCopies.{HoldsAlike, two_told, WorkingAsked}
+
+lots_stay : SameLots no_lots no_lots
+lots_stay = record { numbers = refl; current = refl; under = λ i. refl }
 
 or-append : (a b c : Bool) → (a || (b || c)) ≡ ((a || b) || c)
 or-append true b c = refl
@@ -25,10 +28,10 @@ module _ {F : Type 0} (M : Model) (held : F → M.Rows) where
   plain_firm p = λ y q so. (tt, λ x r left. (left.0 ∙ sym so.0, λ i. left.1 i ∙ sym (so.1 i)))
 
   -- what it holds stands for the history
-  pub held_stands : (p : PlainKeeper F) (s : M.State) (h : History) (t : List ℕ) (x : M.Rows) (r : Records) → StandsFor (plain_told M held p) s h t
+  pub held_stands : StillStands M → (p : PlainKeeper F) (s : M.State) (h : History) (t : List ℕ) (x : M.Rows) (r : Records) → StandsFor (plain_told M held p) s h t
       → (plain_told M held p).holds x r → Stands M x r s h t
-  held_stands p s h t x r so left =
-      Stands-same M so.rows so.records x r s h t (left.0 ∙ sym so.held.0, λ i. left.1 i ∙ sym (so.held.1 i)) so.stands
+  held_stands still p s h t x r so left =
+      still.same so.rows so.records x r s h t (left.0 ∙ sym so.held.0, λ i. left.1 i ∙ sym (so.held.1 i)) so.stands
 
   -- ---- both
 
@@ -44,18 +47,18 @@ module _ {F : Type 0} (M : Model) (held : F → M.Rows) where
   committed_stands k s h t so = record { rows = so.rows; records = so.records; held = so.held.0; stands = so.stands }
 
   -- the committed copy is that of before, so a crash leaves what was held then
-  pub leaves_old : (old new : TwoCopies F) (s : M.State) (h : History) (t : List ℕ) (x : M.Rows) (r : Records) → new.committed ≡ old.committed
+  pub leaves_old : StillStands M → (old new : TwoCopies F) (s : M.State) (h : History) (t : List ℕ) (x : M.Rows) (r : Records) → new.committed ≡ old.committed
       → StandsFor (two_told M held old) s h t → (two_told M held new).may_leave x r → Stands M x r s h t
-  leaves_old old new s h t x r is so left =
-      held_stands old.committed s h t x r (committed_stands old s h t so) (subst (λ p. (plain_told M held p).holds x r) is left)
+  leaves_old still old new s h t x r is so left =
+      held_stands still old.committed s h t x r (committed_stands old s h t so) (subst (λ p. (plain_told M held p).holds x r) is left)
 
   -- and where the commit held, what the working copy then leaves
-  pub leaves_either : (old new : TwoCopies F) (w : PlainKeeper F) (s : M.State) (h : History) (t : List ℕ) (P : M.Rows → Records → Type 0)
+  pub leaves_either : StillStands M → (old new : TwoCopies F) (w : PlainKeeper F) (s : M.State) (h : History) (t : List ℕ) (P : M.Rows → Records → Type 0)
       → (new.committed ≡ old.committed) ⊎ HoldsAlike (plain_told M held w) (plain_told M held new.committed)
       → StandsFor (two_told M held old) s h t → ((x : M.Rows) (r : Records) → Stands M x r s h t → P x r)
       → Leaves (plain_told M held w) P → Leaves (two_told M held new) P
-  leaves_either old new w s h t P (inl same) so first leaves = (tt, λ x r left. first x r (leaves_old old new s h t x r same so left))
-  leaves_either old new w s h t P (inr alike) so first leaves = (tt, λ x r left. leaves.1 x r (alike.1 x r left))
+  leaves_either still old new w s h t P (inl same) so first leaves = (tt, λ x r left. first x r (leaves_old still old new s h t x r same so left))
+  leaves_either still old new w s h t P (inr alike) so first leaves = (tt, λ x r left. leaves.1 x r (alike.1 x r left))
 
   -- the same of what was held
   pub left_held : (old new : TwoCopies F) (rows : M.Rows) (records : Records) (x : M.Rows) (r : Records) → new.committed ≡ old.committed

@@ -1,1 +1,1 @@
-pub mod Both
+mod Both

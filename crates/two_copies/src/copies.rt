@@ -14,7 +14,9 @@ ghost use Rattle.two_copies.specs.TwoCopies.{FailedAsPlanned, Follows, IsLater, 
 
 use fuse_answer::Answer;
 use fuse_init::Settings;
-use fuse_keeper::{Done, FileSystem, Keeper, PlainKeeper, Restart, StoreCounts, StoreFault};
+use fuse_keeper::{
+    Done, FileSystem, Keeper, PlainKeeper, Restart, StoreCounts, StoreFault, still_stands,
+};
 use fuse_request::Request;
 use fuse_wire::{Id, Memory, Moment};
 use std::alloc::Global;
@@ -169,6 +171,7 @@ impl<F: FileSystem> Keeper for TwoCopies<F> {
             → IfErr result (λ fault. (fault ≡ StoreFault.Memory)
             ⊎ FailedAsPlanned F.model F.held self.old self.new fault) }
     {
+        still_stands::<PlainKeeper<F>>();
         if self.in_doubt {
             return Err(StoreFault::Damaged);
         }
@@ -203,6 +206,7 @@ impl<F: FileSystem> Keeper for TwoCopies<F> {
             → IfErr result (λ fault. (fault ≡ StoreFault.Memory)
             ⊎ FailedAsPlanned F.model F.held self.old self.new fault) }
     {
+        still_stands::<PlainKeeper<F>>();
         if self.in_doubt {
             return Err(StoreFault::Damaged);
         }

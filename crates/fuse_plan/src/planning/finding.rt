@@ -70,7 +70,7 @@ pub(crate) fn is_taken<L: Look>(look: &mut L, dir: u64, name: &[u8]) -> Result<b
 }
 
 // The entry of this name in the directory, with the row of its child.
-#[tactic(auto, using(fuse_tree::proofs::Bounds::child_row))]
+#[tactic(auto, using(crate::proofs::Bounds::child_row))]
 pub(crate) fn find_link<L: Look>(
     look: &mut L,
     dir: u64,

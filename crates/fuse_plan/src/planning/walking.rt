@@ -12,7 +12,7 @@ use fuse_rows::MAX_NODES;
 use fuse_tree::Look;
 
 // The directory above a node, 0 where no entry leads to it.
-#[tactic(auto, using(fuse_tree::proofs::Walking::row_up, fuse_tree::proofs::Walking::none_up))]
+#[tactic(auto, using(crate::proofs::Walking::row_up, crate::proofs::Walking::none_up))]
 fn find_up<L: Look>(look: &mut L, number: u64) -> Result<u64, PlanFault>
     requires { L.fault look.old ≡ None }
     ensures { LooksUp (view L.is_clean L.sees L.fault L.looks L.fails) look.old look.new result
@@ -26,7 +26,7 @@ fn find_up<L: Look>(look: &mut L, number: u64) -> Result<u64, PlanFault>
 
 // Whether a directory is this node, or lies under it. No way up is longer than the number of
 // nodes, of which no tree has more than MAX_NODES.
-#[tactic(auto, using(fuse_tree::proofs::Walking::rows_end, fuse_tree::proofs::Walking::rows_few))]
+#[tactic(auto, using(crate::proofs::Walking::rows_end, crate::proofs::Walking::rows_few))]
 pub(crate) fn lies_in<L: Look>(look: &mut L, node: u64, dir: u64) -> Result<bool, PlanFault>
     requires { L.fault look.old ≡ None }
     ensures { LooksUp (view L.is_clean L.sees L.fault L.looks L.fails) look.old look.new result

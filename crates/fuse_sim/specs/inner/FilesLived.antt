@@ -1,5 +1,5 @@
 -- Runs over files are lives of one mount, by the law of lives (defined by this project).
-use Rattle.std.proofs.Common.{◌≡◌, inl, ℕ, Bool, true, false, ◌==◌, if◌then◌else◌, List, [], ◌∷◌, ◌++◌, refl, sym, ap, subst, ◌∙◌}
+use Rattle.std.proofs.Common.{◌≡◌, inl, ℕ, Bool, true, false, ◌==◌, List, [], ◌∷◌, ◌++◌, refl, sym, ap, subst, ◌∙◌, ◌||◌}
 use Rattle.std.proofs.lemmas.List.{append-nil, map-append}
 use Rattle.fuse_request.specs.Opcodes.{OpcodeSet}
 use Rattle.fuse_request.specs.Stream.{cut}
@@ -38,7 +38,7 @@ stands_more M rows records s h t u all stands = record {
   kept = λ i isnt. stands.kept i (not_either (is_in t i) (is_in u i) (all i) isnt);
 }
 
-if_more : (b p q : Bool) → (p ≡ true → q ≡ true) → (if b then true else p) ≡ true → (if b then true else q) ≡ true
+if_more : (b p q : Bool) → (p ≡ true → q ≡ true) → (b || p) ≡ true → (b || q) ≡ true
 if_more true p q more is = refl
 if_more false p q more is = more is
 

@@ -8,7 +8,7 @@ use Rattle.fuse_tree.specs.Rowed.{rowed}
 use Rattle.fuse_store_tables.specs.Moves.{InsideAs}
 use Rattle.fuse_store_tree.specs.declared.meta.Meta.{Meta}
 use Rattle.fuse_store_tree.specs.Store.{Store, Held}
-use Rattle.fuse_store_tree.specs.Knowing.{Knows}
+use Rattle.fuse_store_tree.specs.Knowing.{KnownTables, Knows}
 use Rattle.fuse_keeper.specs.declared.fault.StoreFault.{StoreFault}
 use Rattle.fuse_keeper.specs.declared.fault.StoreFault.TheVariants.{Memory, Damaged}
 use Rattle.fuse_plan.specs.declared.planning.fault.PlanFault.{PlanFault}
@@ -22,9 +22,10 @@ pub record ActedInside (known : Option Meta) (new : State) (x : Store) (d : Done
   pub inside : InsideAs (Held (with_rows (rowed d.state) x)) new
   pub knows : Knows known (rowed d.state)
 
-abbrev pub ActsInside : Option Meta → Option Meta → State → State → TreeState → Done → Said → Type 0
-ActsInside was is old new s d answer =
-    HasCleanDisk new → (x : Store) → x.rows ≡ rowed s → InsideAs (Held x) old → Knows was x.rows → ActedInside is new x d answer
+abbrev pub ActsInside : KnownTables → KnownTables → TreeState → Done → Said → Type 0
+ActsInside old new s d answer =
+    HasCleanDisk new.tables → (x : Store) → x.rows ≡ rowed s → InsideAs (Held x) old.tables → Knows old.known x.rows
+    → ActedInside new.known new.tables x d answer
 
 -- the fault that was the cause of one of a read
 abbrev pub cause_in : Option StoreFault → StoreFault

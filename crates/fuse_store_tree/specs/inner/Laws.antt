@@ -10,7 +10,7 @@ use Rattle.fuse_store_tables.specs.Faults.{IsOutside, IsPlain}
 use Rattle.fuse_store_tables.specs.Moves.{IsReady, Stays, LookedInside}
 use Rattle.fuse_store_tables.specs.inner.Following.{earlier, inside_then, stays_then}
 use Rattle.fuse_store_tree.specs.declared.look.LastNode.{LastNode}
-use Rattle.fuse_store_tree.specs.declared.meta.Meta.{Meta}
+use Rattle.fuse_store_tree.specs.Knowing.{KnownTables}
 use Rattle.fuse_store_tree.specs.Holding.{HeldFor}
 use Rattle.fuse_store_tree.specs.Looking.{sees_in, sees_with, WentWell, MayFail}
 
@@ -68,38 +68,38 @@ looked_ready a b p clean (y, at) =
       },
     )
 
-pub well_still : (a : State) (f : Option StoreFault) (m : Option Meta) (l : Option LastNode) → WentWell a a f f m m l l
-well_still a f m l = record { looked = looked_still a; same = refl; knows = λ clean rows sees knows. knows; recalls = λ clean rows sees recalls. recalls }
+pub well_still : (a : KnownTables) (f : Option StoreFault) (l : Option LastNode) → WentWell a a f f l l
+well_still a f l = record { looked = looked_still a.tables; same = refl; knows = λ clean rows sees knows. knows; recalls = λ clean rows sees recalls. recalls }
 
-module _ (a b : State) (f g : Option StoreFault) (m n : Option Meta) (k l : Option LastNode) (p : WentWell a b f g m n k l) where
-  pub well_then : (d : State) (h : Option StoreFault) (o : Option Meta) (j : Option LastNode) → WentWell b d g h n o l j → WentWell a d f h m o k j
-  well_then d h o j q = record {
-    looked = looked_then a b d p.looked q.looked;
+module _ (a b : KnownTables) (f g : Option StoreFault) (k l : Option LastNode) (p : WentWell a b f g k l) where
+  pub well_then : (d : KnownTables) (h : Option StoreFault) (j : Option LastNode) → WentWell b d g h l j → WentWell a d f h k j
+  well_then d h j q = record {
+    looked = looked_then a.tables b.tables d.tables p.looked q.looked;
     same = q.same ∙ p.same;
     knows = λ clean rows sees knows.
-        let mid = earlier b d _ q.looked.stays.survives clean in
-        q.knows clean rows (looked_kept a b p.looked mid rows sees) (p.knows mid rows sees knows);
+        let mid = earlier b.tables d.tables _ q.looked.stays.survives clean in
+        q.knows clean rows (looked_kept a.tables b.tables p.looked mid rows sees) (p.knows mid rows sees knows);
     recalls = λ clean rows sees recalls.
-        let mid = earlier b d _ q.looked.stays.survives clean in
-        q.recalls clean rows (looked_kept a b p.looked mid rows sees) (p.recalls mid rows sees recalls);
+        let mid = earlier b.tables d.tables _ q.looked.stays.survives clean in
+        q.recalls clean rows (looked_kept a.tables b.tables p.looked mid rows sees) (p.recalls mid rows sees recalls);
   }
 
-  pub well_fails : (d : State) (h : Option StoreFault) → MayFail b d g h → MayFail a d f h
+  pub well_fails : (d : State) (h : Option StoreFault) → MayFail b.tables d g h → MayFail a.tables d f h
   well_fails d h q = record {
-    stays = looked_fails a b d p.looked q.stays;
+    stays = looked_fails a.tables b.tables d p.looked q.stays;
     plain = λ none. q.plain (p.same ∙ none);
-    sure = λ none clean ready. q.sure (p.same ∙ none) clean (looked_ready a b p.looked (earlier b d _ q.stays.survives clean) ready);
+    sure = λ none clean ready. q.sure (p.same ∙ none) clean (looked_ready a.tables b.tables p.looked (earlier b.tables d _ q.stays.survives clean) ready);
   }
 
-  pub well_less : MayFail a b f g
+  pub well_less : MayFail a.tables b.tables f g
   well_less = record {
     stays = p.looked.stays;
     plain = λ none. subst (λ o. IfSome o IsPlain) (sym (p.same ∙ none)) tt;
     sure = λ none clean ready. subst (λ o. IfSome o IsOutside) (sym (p.same ∙ none)) tt;
   }
 
-  pub well_kept : HasCleanDisk b → (rows : Rows) → sees_with m k a rows → sees_with n l b rows
+  pub well_kept : HasCleanDisk b.tables → (rows : Rows) → sees_with a.known k a.tables rows → sees_with b.known l b.tables rows
   well_kept clean rows ((sees, knows), recalls) = (
-    (looked_kept a b p.looked clean rows sees, p.knows clean rows sees knows),
+    (looked_kept a.tables b.tables p.looked clean rows sees, p.knows clean rows sees knows),
     p.recalls clean rows sees recalls,
   )

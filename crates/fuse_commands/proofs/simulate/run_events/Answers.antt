@@ -4,16 +4,16 @@ use Rattle.fuse_commands.specs.Simulating.{driven}
 use Rattle.fuse_commands.proofs.Simulations.{IsUnfit, never_unfit, went, counts_are, asked_all, opened_all, all_left, keeps_by, fault_left, reused_prefix, drive_ended, counts_ended, refused_again, never_emptied}
 use Rattle.fuse_commands.proofs.simulate.run_events.Goals as goal
 
+pub returns-in-Ok-counts-clause-counts : goal.returns-in-Ok-counts-clause-counts
+returns-in-Ok-counts-clause-counts g c =
+    counts_are g.K.Keeper.told c.args.keeper.now c.drive.new.keeper c.in-Some.keeper c.counts.new.self c.args.events.now _ c.in-Some.is
+    c.in-Ok-counts.ensures.looked c.in-Ok.ensures.records c.in-Ok-counts.ensures.nodes c.in-Ok-counts.ensures.handles
+
 pub returns-in-Ok-counts-clause-ok : goal.returns-in-Ok-counts-clause-ok
 returns-in-Ok-counts-clause-ok g c = λ honest s so again.
     went g.K.Keeper.told c.args.keeper.now c.drive.new.keeper c.in-Some.keeper c.counts.new.self s c.args.events.now _ c.in-Some.is c.in-Ok-counts.ensures.looked
     (g.met.K.Keeper.sound c.counts.new.self) honest (λ good. c.in-Ok.ensures.outcomes good s [] [] so again)
     (λ good. c.in-Ok.ensures.tree_stands good s [] [] so again) c.in-Ok.ensures.firm c.in-Ok-counts.ensures.nodes c.in-Ok-counts.ensures.handles
-
-pub returns-in-Ok-counts-clause-counts : goal.returns-in-Ok-counts-clause-counts
-returns-in-Ok-counts-clause-counts g c =
-    counts_are g.K.Keeper.told c.args.keeper.now c.drive.new.keeper c.in-Some.keeper c.counts.new.self c.args.events.now _ c.in-Some.is
-    c.in-Ok-counts.ensures.looked c.in-Ok.ensures.records c.in-Ok-counts.ensures.nodes c.in-Ok-counts.ensures.handles
 
 pub returns-in-Ok-counts-clause-begin : goal.returns-in-Ok-counts-clause-begin
 returns-in-Ok-counts-clause-begin g c = λ honest earlier later parts s so none.

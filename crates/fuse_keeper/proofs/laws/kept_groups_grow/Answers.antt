@@ -1,3 +1,4 @@
+use Rattle.fuse_keeper.proofs.Firsts.{first_said}
 use Rattle.fuse_keeper.proofs.InARow.{none_taken, one_more_taken, same_taken, taken_is_performed}
 use Rattle.fuse_keeper.proofs.Performing.{none_yet, one_more}
 use Rattle.fuse_keeper.proofs.laws.kept_groups_grow.Goals as goal
@@ -10,4 +11,5 @@ returns g c = record {
   one_more_taken = one_more_taken g.K.Keeper.model;
   same_taken = same_taken g.K.Keeper.model;
   taken_is_performed = taken_is_performed g.K.Keeper.model;
+  first_said = first_said g.K.Keeper.model;
 }

@@ -2,7 +2,7 @@ use Rattle.fuse_request.specs.Act.{asked}
 use Rattle.fuse_tree.specs.Rowed.{rowed}
 use Rattle.std.proofs.Common.{rules}
 use Rattle.fuse_plan.proofs.Agreeing.{answered, read, no_tree}
-use Rattle.fuse_tree.proofs.Bounds.{is_rowed}
+use Rattle.fuse_plan.proofs.Bounds.{is_rowed}
 use Rattle.fuse_plan.proofs.planning.plan.Goals as goal
 
 pub returns-clause-meets : goal.returns-clause-meets

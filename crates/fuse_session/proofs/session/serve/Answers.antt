@@ -35,7 +35,7 @@ returns-in_default-clause-session g c =
       deeds = no_deeds;
       done = none;
       ends = record { counts = none_counted; ends = tt; told_are = refl };
-      life = life_none M k (λ d. d ≡ no_deeds) (g.P.Port.told c.args.port.now) nothing_waits Memory refl refl;
+      life = life_none M c.still_stands.ensures k (λ d. d ≡ no_deeds) (g.P.Port.told c.args.port.now) nothing_waits Memory refl refl;
       prompt = record { first = first_none M _ _ _; stops = stops_none };
       groups = ([], refl);
       lots = λ _ _ rows (records : Records) held rowed.
@@ -207,7 +207,7 @@ returns-clause-session g c =
         );
         told_are = refl;
       };
-      life = whole_life M k k' _ _ _ nothing_waits _ c.loop-turn.counts Turns refl whole inv.firm;
+      life = whole_life M c.still_stands.ensures k k' _ _ _ nothing_waits _ c.loop-turn.counts Turns refl whole inv.firm;
       prompt = record { first = work.done.0.first; stops = work.done.0.stops };
       groups = ([], work.done.0.groups ∙ sym (append-nil (groups_asked work.deeds.asked)));
       lots = λ confirms intact rows (records : Records) held rowed.

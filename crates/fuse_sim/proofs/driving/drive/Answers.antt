@@ -39,11 +39,11 @@ loop-at-preserved g c =
           c.run_next.new.outcomes.items c.run_next.ensures.honest c.loop-at.invariant.moved c.in_ok-at.ensures.ok;
       few = c.in_ok-at.ensures.few;
       going = c.in_ok-at.ensures.going;
-      opened = moved_opened g.K.Keeper.model k.told k.became g.met.K.Keeper.counted c.args.keeper.now c.loop-at.keeper c.run_next.new.keeper c.args.events.now
+      opened = moved_opened g.K.Keeper.model c.still_stands.ensures k.told k.became g.met.K.Keeper.counted c.args.keeper.now c.loop-at.keeper c.run_next.new.keeper c.args.events.now
           c.loop-at.at c.in_ok-at.field-0
           (ids_of c.loop-at.pending.items) c.loop-at.outcomes.items c.loop-at.invariant.moved c.loop-at.invariant.opened c.in_ok-at.ensures.opens;
       honest = λ is. c.loop-at.invariant.honest (c.run_next.ensures.honest is);
-      stood = moved_stood g.K.Keeper.model k.told k.became g.met.K.Keeper.counted c.args.keeper.now c.loop-at.keeper c.run_next.new.keeper c.args.events.now
+      stood = moved_stood g.K.Keeper.model c.still_stands.ensures k.told k.became g.met.K.Keeper.counted c.args.keeper.now c.loop-at.keeper c.run_next.new.keeper c.args.events.now
           c.loop-at.at c.in_ok-at.field-0
           (ids_of c.loop-at.pending.items) c.loop-at.outcomes.items c.loop-at.invariant.moved c.loop-at.invariant.opened c.loop-at.invariant.stood
           c.in_ok-at.ensures.opens;
@@ -59,7 +59,7 @@ pub returns-in_err-at-clause-after_fault : goal.returns-in_err-at-clause-after_f
 returns-in_err-at-clause-after_fault g c =
     let k = g.K.Keeper in
     let p = err_from_is_err_and c.from_residual.result c.from_residual.ensures.1 in
-    rw (p.1, p.2) (stopped g.K.Keeper.model (seen_of k.told k.became k.performed g.K.Restart.refuses) c.args.keeper.now c.loop-at.keeper c.run_next.new.keeper c.args.events.now
+    rw (p.1, p.2) (stopped g.K.Keeper.model c.still_stands.ensures (seen_of k.told k.became k.performed g.K.Restart.refuses) c.args.keeper.now c.loop-at.keeper c.run_next.new.keeper c.args.events.now
     c.loop-at.at c.in_err-at.field-0.0 (ids_of c.loop-at.pending.items) c.loop-at.outcomes.items
     (λ k. (g.met.K.Keeper.sound k).clean_is_honest) c.loop-at.invariant.moved c.in_err-at.ensures.err)
 
@@ -75,7 +75,7 @@ pub returns-in_err-at-clause-store : goal.returns-in_err-at-clause-store
 returns-in_err-at-clause-store g c =
     let k = g.K.Keeper in
     let p = err_from_is_err_and c.from_residual.result c.from_residual.ensures.1 in
-    rw (p.1, p.2) (stopped_store g.K.Keeper.model (seen_of k.told k.became k.performed g.K.Restart.refuses) c.args.keeper.now c.loop-at.keeper c.run_next.new.keeper
+    rw (p.1, p.2) (stopped_store g.K.Keeper.model c.still_stands.ensures (seen_of k.told k.became k.performed g.K.Restart.refuses) c.args.keeper.now c.loop-at.keeper c.run_next.new.keeper
     c.args.events.now c.loop-at.at c.in_err-at.field-0.0 (ids_of c.loop-at.pending.items) c.loop-at.outcomes.items
     (λ k. (g.met.K.Keeper.sound k).clean_is_honest) c.loop-at.invariant.moved c.loop-at.invariant.opened c.in_err-at.ensures.err)
 
@@ -105,7 +105,7 @@ returns-clause-opened g c =
 
 pub returns-clause-tree_stands : goal.returns-clause-tree_stands
 returns-clause-tree_stands g c =
-    moved_stands g.K.Keeper.model _ _ c.args.events.now _ _ _
+    moved_stands g.K.Keeper.model c.still_stands.ensures _ _ c.args.events.now _ _ _
     (moved_all g.K.Keeper.model (told_in g.K.Keeper.told c.args.keeper.now) (told_in g.K.Keeper.told c.loop-at.keeper) c.args.events.now _ c.loop-at.at _ _
     c.loop-at-test.false c.loop-at.invariant.moved)
 

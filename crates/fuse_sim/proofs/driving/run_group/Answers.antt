@@ -92,7 +92,7 @@ returns-clause-opens g c =
     (ids_of c.args.pending.now.items) (ids_of c.make_room.new.pending.items) (ids_of c.work_group.new.pending.items) c.args.outcomes.now.items
     c.make_room.new.outcomes.items c.work_group.new.outcomes.items (ap ids_of c.make_room.ensures.pending) c.make_room.ensures.outcomes
     c.in_default-work_group.ensures.ok in
-    group_opens k.model k.told k.became c.args.keeper.now c.work_group.new.keeper c.end_group.new.keeper
+    group_opens k.model c.still_stands.ensures k.told k.became c.args.keeper.now c.work_group.new.keeper c.end_group.new.keeper
     group (take count (drop at events)) (take (at + count - at) (drop at events))
     (ids_of c.args.pending.now.items) (ids_of c.work_group.new.pending.items) c.args.outcomes.now.items c.work_group.new.outcomes.items
     gathers (run_slice events at count) worked c.work_group.ensures.same c.in_ok-end_group.ensures.opened c.in_ok-end_group.ensures.same

@@ -62,7 +62,7 @@ returns-clause-ok g c = λ room may.
 pub returns-clause-opens : goal.returns-clause-opens
 returns-clause-opens g c =
     let k = g.K.Keeper in
-    lost_opens g.K.Keeper.model k.told k.became g.met.K.Keeper.counted c.args.keeper.now c.end_group.new.keeper c.args.events.now c.args.at
+    lost_opens g.K.Keeper.model c.still_stands.ensures k.told k.became g.met.K.Keeper.counted c.args.keeper.now c.end_group.new.keeper c.args.events.now c.args.at
     c.index-events-at.result (ids_of c.args.pending.now.items)
     c.requires.at c.index-events-at.is (sym c.is_before_commit.ensures ∙ c.if-not-is_before_commit.false) c.in_ok-end_group.ensures.opened
     c.in_ok-end_group.ensures.same c.end_group.ensures.honest c.in_ok-end_group.ensures.medium

@@ -40,7 +40,7 @@ returns-clause-ok g c =
     (ids_of c.args.pending.now.items) (ids_of c.perform_group.new.pending.items) (ids_of c.answer_group.new.pending.items) c.in_ok-dones.dones.items
     c.args.outcomes.now.items c.answer_group.new.outcomes.items
     (none_dies c.args.group.now.died c.args.run.now gathers.goes) (ap entries_of c.as_slice.ensures.value ∙ gathers.entries)
-    (performs_later k.model (k.told inner) (k.told c.perform_group.new.keeper) (handed_to (entries_of c.as_slice.result.now) (ids_of c.args.pending.now.items))
+    (performs_later k.model c.still_stands.ensures (k.told inner) (k.told c.perform_group.new.keeper) (handed_to (entries_of c.as_slice.result.now) (ids_of c.args.pending.now.items))
     (entries_of c.as_slice.result.now) c.in_ok-dones.dones.items c.in_ok-dones.ensures.ok)
     c.in_ok-dones.ensures.acts c.in_ok-dones.ensures.others (λ is so. c.in_ok-dones.ensures.firm is (inl so)) c.in_ok-dones.ensures.pending
     c.answer_group.ensures.outcomes c.answer_group.ensures.pending in

@@ -17,7 +17,7 @@ returns-clause-joins g c = λ _.
     let class : c.classify-class.result ≡ class_for M.serves e.bytes = c.classify-class.ensures ∙ ap (class_for M.serves) c.as_slice.ensures in
     elim c.match-read_one.branch [
       | in-Some+else-len-eq-MAX_GROUP+in_ok-push w ↦
-          joins_kept M e old new w.in-Some.one c.if-group.false fit goes
+          joins_kept M c.kept_have_ids.ensures e old new w.in-Some.one c.if-group.false fit goes
           w.in-Some.ensures.entry w.in-Some.ensures.kept (λ full. grind (arith, full, w.len.ensures, w.if-len-eq-MAX_GROUP.false))
           (c.in_ok-push-2.ensures.items ∙ ap (λ g. g.classes.items ++ c.classify-class.result ∷ []) w.group-is
           ∙ ap (λ (k : Class). old.classes.items ++ k ∷ []) class)

@@ -1,4 +1,4 @@
-use Rattle.std.proofs.Common.{◌≡◌, ◌∙◌, ap, arith}
+use Rattle.std.proofs.Common.{◌∙◌, ap, arith}
 use Rattle.fuse_request.specs.Act.{Asked}
 use Rattle.fuse_request.specs.AskedSize.{size_asked}
 use Rattle.fuse_request.specs.Places.{asked_at}

@@ -40,6 +40,12 @@ returns-then-is_none-clause-refused g c = λ refused.
 
 -- ---- with it
 
+pub returns-clause-whole : goal.returns-clause-whole
+returns-clause-whole g c =
+    meta_whole (state g.S.Store c.args.conn.now) (state g.S.Store c.set_up_fresh.new.conn) c.set_up_fresh.result c.if-not-is_autocommit.ensures.value
+    (c.if-not-is_autocommit.ensures.settled refl) c.set_up_fresh.ensures.was c.set_up_fresh.ensures.whole
+    c.set_up_fresh.ensures.profile
+
 pub returns-clause-rows : goal.returns-clause-rows
 returns-clause-rows g c = c.set_up_fresh.ensures.serves
 
@@ -85,11 +91,6 @@ returns-clause-fault g c =
     let a = state g.S.Store c.args.conn.now in
     sure_so StoredFor BegunFor (λ z. WasFor z a) a (state g.S.Store c.set_up_fresh.new.conn)
     (λ z was. rests_was z a c.schema.ensures.live (c.if-not-is_autocommit.ensures.settled refl) was) c.set_up_fresh.result (returns-clause-safe g c)
-
-pub returns-clause-whole : goal.returns-clause-whole
-returns-clause-whole g c =
-    meta_whole (state g.S.Store c.args.conn.now) (state g.S.Store c.set_up_fresh.new.conn) c.set_up_fresh.result c.if-not-is_autocommit.ensures.value
-    (c.if-not-is_autocommit.ensures.settled refl) c.set_up_fresh.ensures.was c.set_up_fresh.ensures.whole
 
 pub returns-clause-profile : goal.returns-clause-profile
 returns-clause-profile g c =

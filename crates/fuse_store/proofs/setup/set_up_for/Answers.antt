@@ -92,7 +92,7 @@ returns-clause-sure g c = λ clean.
 pub returns-clause-whole : goal.returns-clause-whole
 returns-clause-whole g c =
     meta_whole (state g.S.Store c.args.conn.now) (state g.S.Store c.set_up.new.conn) c.set_up.result c.if-not-is_autocommit.ensures.value
-    (c.if-not-is_autocommit.ensures.settled refl) c.set_up.ensures.was c.set_up.ensures.whole
+    (c.if-not-is_autocommit.ensures.settled refl) c.set_up.ensures.was c.set_up.ensures.whole c.set_up.ensures.profile
 
 pub returns-clause-profile : goal.returns-clause-profile
 returns-clause-profile g c =

@@ -8,7 +8,7 @@ use Rattle.fuse_store.specs.Storing.{opening_fault}
 use Rattle.fuse_store.specs.StoreKeeper.{own_profile, own_conn, store_told}
 use Rattle.fuse_store_files.proofs.Fresh.{some_weaker}
 use Rattle.fuse_store_files.proofs.Found.{keeps, opens_as, was_for, rests, left_open, left_alone, stays_found, not_opened, not_wanting}
-use Rattle.fuse_store_files.proofs.Found.{opens_own, keeps_found, fails_unopened, fails_open}
+use Rattle.fuse_store_files.proofs.Found.{opens_own, has_profile, keeps_found, fails_unopened, fails_open}
 use Rattle.fuse_store_files.specs.Databases.{FailsOver, IsNeverOpened}
 use Rattle.fuse_store_files.proofs.files.open_store.Goals as goal
 
@@ -21,6 +21,12 @@ returns-in-Err-clause-fault g c =
     some_weaker c.in-Err.left _ _
     (λ it not clean z held. subst IsOutside (sym c.opening_fault.ensures) (not_wanting (image_at g.S.Start) it c.in-Err.error not clean _ held))
     c.in-Err.ensures.left
+
+pub returns-in-Ok-open_as-clause-found : goal.returns-in-Ok-open_as-clause-found
+returns-in-Ok-open_as-clause-found g c = λ honest.
+    let clean = c.in-Ok-open_as.ensures.honest honest in
+    keeps_found (image_at g.S.Start) c.args.how c.in-Ok.conn (λ f. inl refl) (c.in-Ok.ensures.opened clean) (c.in-Ok.ensures.found clean)
+    (file_state (own_conn c.in-Ok-open_as.keeper)) (c.in-Ok-open_as.ensures.medium.honest.0 honest) (c.in-Ok-open_as.ensures.stays honest)
 
 pub returns-in-Ok-open_as-clause-opened : goal.returns-in-Ok-open_as-clause-opened
 returns-in-Ok-open_as-clause-opened g c = λ honest.
@@ -89,6 +95,13 @@ returns-in-Ok-open_as-clause-own g c = λ honest.
     let clean = c.in-Ok-open_as.ensures.honest honest in
     let live = c.in-Ok.ensures.opened clean in
     opens_own (image_at g.S.Start) (file_state c.in-Ok.conn) live.0 live.1 (c.in-Ok.ensures.found clean) c.args.how (c.in-Ok-open_as.ensures.tabled honest)
+    (λ ours content laid. (c.in-Ok-open_as.ensures.whole honest ours content laid).whole)
+
+pub returns-in-Ok-open_as-clause-of_profile : goal.returns-in-Ok-open_as-clause-of_profile
+returns-in-Ok-open_as-clause-of_profile g c = λ honest.
+    let clean = c.in-Ok-open_as.ensures.honest honest in
+    let live = c.in-Ok.ensures.opened clean in
+    has_profile (image_at g.S.Start) (file_state c.in-Ok.conn) live.0 live.1 (c.in-Ok.ensures.found clean) c.args.how (own_profile c.in-Ok-open_as.keeper)
     (c.in-Ok-open_as.ensures.whole honest)
 
 pub returns-in-Err-clause-fails : goal.returns-in-Err-clause-fails
@@ -104,9 +117,3 @@ returns-in-Err-open_as-clause-fails g c =
     (file_state c.in-Err-open_as.conn) c.into_store.result c.in-Err-open_as.fault c.in-Err-open_as.ensures.crash c.into_store.ensures.quiet.clean
     c.into_store.ensures.quiet.outcomes c.into_store.ensures.sound c.in-Err-open_as.ensures.says c.in-Err-open_as.ensures.alone
     c.in-Err-open_as.ensures.undone c.in-Err-open_as.ensures.blank
-
-pub returns-in-Ok-open_as-clause-found : goal.returns-in-Ok-open_as-clause-found
-returns-in-Ok-open_as-clause-found g c = λ honest.
-    let clean = c.in-Ok-open_as.ensures.honest honest in
-    keeps_found (image_at g.S.Start) c.args.how c.in-Ok.conn (λ f. inl refl) (c.in-Ok.ensures.opened clean) (c.in-Ok.ensures.found clean)
-    (file_state (own_conn c.in-Ok-open_as.keeper)) (c.in-Ok-open_as.ensures.medium.honest.0 honest) (c.in-Ok-open_as.ensures.stays honest)

@@ -1,5 +1,5 @@
 use Rattle.std.proofs.Common.{rules, sym, ◌∙◌, refl}
-use Rattle.fuse_tree.proofs.Bounds.{child_row}
+use Rattle.fuse_plan.proofs.Bounds.{child_row}
 use Rattle.fuse_plan.proofs.planning.finding.find_link.Goals as goal
 
 pub returns-in_default-2-clause-row : goal.returns-in_default-2-clause-row

@@ -1,6 +1,6 @@
 use Rattle.std.proofs.Common.{rules, ap, ℕ, not, ◌∙◌, eqb, length, List}
 use Rattle.fuse_rows.specs.declared.rows.EntryRow.{EntryRow}
-use Rattle.fuse_tree.proofs.Bounds.{entries_told}
+use Rattle.fuse_plan.proofs.Bounds.{entries_told}
 use Rattle.fuse_plan.proofs.planning.finding.has_entries.Goals as goal
 
 pub returns : goal.returns

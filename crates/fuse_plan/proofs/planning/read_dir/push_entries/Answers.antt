@@ -2,7 +2,7 @@ use Rattle.std.proofs.Common.{map, sym}
 use Rattle.std.proofs.lemmas.List.Elements.{All-push}
 use Rattle.fuse_answer.specs.Entries.{directory_entry_of, IsNamed}
 use Rattle.fuse_plan.specs.inner.PlanListing.{listed_child, IsShown}
-use Rattle.fuse_tree.proofs.Shown.{all_at, one_more}
+use Rattle.fuse_plan.proofs.Shown.{all_at, one_more}
 use Rattle.fuse_plan.proofs.planning.read_dir.push_entries.Goals as goal
 
 pub returns-in_err-dirent-clause-shown : goal.returns-in_err-dirent-clause-shown

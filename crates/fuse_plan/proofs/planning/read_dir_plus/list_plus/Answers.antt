@@ -2,7 +2,7 @@ use Rattle.std.proofs.Common.{None, rules, refl, sym, ap, ◌∙◌, map}
 use Rattle.fuse_rows.specs.Rows.{entries_after}
 use Rattle.fuse_plan.specs.inner.PlanPlus.{listed_plus}
 use Rattle.fuse_plan.proofs.ShownRows.{all_shown}
-use Rattle.fuse_tree.proofs.Shown.{made_of}
+use Rattle.fuse_plan.proofs.Shown.{made_of}
 use Rattle.fuse_plan.proofs.planning.read_dir_plus.list_plus.Goals as goal
 
 pub returns : goal.returns

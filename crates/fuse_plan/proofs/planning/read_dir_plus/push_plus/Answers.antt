@@ -4,7 +4,7 @@ use Rattle.fuse_answer.specs.Entries.{directory_entry_of, IsNamed}
 use Rattle.fuse_answer.specs.PlusEntries.{plus_of}
 use Rattle.fuse_plan.specs.inner.PlanPlus.{listed_plus}
 use Rattle.fuse_plan.specs.inner.PlanListing.{IsShown}
-use Rattle.fuse_tree.proofs.Shown.{all_at, one_more}
+use Rattle.fuse_plan.proofs.Shown.{all_at, one_more}
 use Rattle.fuse_plan.proofs.planning.read_dir_plus.push_plus.Goals as goal
 
 pub returns-in_err-dirent-clause-shown : goal.returns-in_err-dirent-clause-shown

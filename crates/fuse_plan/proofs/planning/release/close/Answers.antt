@@ -1,6 +1,6 @@
 use Rattle.std.proofs.Common.{◌≡◌, None, true, refl, sym, ap, ◌∙◌, rules}
 use Rattle.fuse_tree.specs.Handles.{is_open}
-use Rattle.fuse_tree.proofs.Bounds.{handle_counted}
+use Rattle.fuse_plan.proofs.Bounds.{handle_counted}
 use Rattle.fuse_plan.proofs.planning.release.close.Goals as goal
 
 pub returns-then-counters-eq0 : goal.returns-then-counters-eq0

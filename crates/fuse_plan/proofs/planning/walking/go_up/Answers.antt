@@ -1,5 +1,5 @@
 use Rattle.std.proofs.Common.{None, rules, refl, sym}
-use Rattle.fuse_tree.proofs.Walking.{leads_at, leads_no_more, above_next, leads_next}
+use Rattle.fuse_plan.proofs.Walking.{leads_at, leads_no_more, above_next, leads_next}
 use Rattle.fuse_plan.proofs.planning.walking.go_up.Goals as goal
 
 pub returns-then-place-node-clause-under : goal.returns-then-place-node-clause-under

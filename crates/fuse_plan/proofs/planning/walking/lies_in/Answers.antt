@@ -1,5 +1,5 @@
 use Rattle.std.proofs.Common.{rules}
-use Rattle.fuse_tree.proofs.Walking.{rows_end, rows_few}
+use Rattle.fuse_plan.proofs.Walking.{rows_end, rows_few}
 use Rattle.fuse_plan.proofs.planning.walking.lies_in.Goals as goal
 
 pub returns : goal.returns

@@ -31,7 +31,7 @@ returns-in_default-clause-err g c =
       slices = [];
       events = refl;
     }) refl refl (replied_none p)
-    (λ rows records held. held) (λ firm s h t so. firm_leaves g.K.Keeper.model (g.K.Keeper.told k) s h t firm so)
+    (λ rows records held. held) (λ firm s h t so. firm_leaves g.K.Keeper.model c.still_stands.ensures (g.K.Keeper.told k) s h t firm so)
 
 pub returns-in_default-clause-at_most : goal.returns-in_default-clause-at_most
 returns-in_default-clause-at_most g c = λ intact (before : KeptRecords) h.
@@ -108,7 +108,7 @@ returns-in-Ok-send_answers-clause-ok g c =
     let done = c.in-Ok-perform_group.ensures in
     let few = left_few pending left es done.pending (omega (arith, length-map c.args.self.now.pending.now.items (λ (x : Id). x.0), c.requires.few))
     (omega (arith, length-map c.as_slice-group.result.now entry_of, ap length c.as_slice-group.ensures.value, c.in-Ok.ensures.few)) in
-    turned M c.histories_grow.ensures c.kept_groups_grow.ensures k k' gave (Grouped g.K.Keeper.model.serves c.args.messages.now
+    turned M c.histories_grow.ensures c.kept_groups_grow.ensures c.still_stands.ensures k k' gave (Grouped g.K.Keeper.model.serves c.args.messages.now
     (groups_of g.K.Keeper.model.serves (drop c.len-count.result c.args.messages.now)) (g.K.Keeper.performed c.args.self.now.keeper.now c.perform_group.new.keeper))
     (g.P.Port.became c.args.self.now.port.now c.send_answers.new.port) (g.P.Port.told c.args.self.now.port.now) _ pending left _ c.args.messages.now
     c.len-count.result group.taken.items group.ends c.as_slice-group.result.now (take c.len-count.result c.args.messages.now)
@@ -168,7 +168,7 @@ returns-clause-err g c =
     let done = c.in-Ok-perform_group.ensures in
     let few = left_few pending left es done.pending (omega (arith, length-map c.args.self.now.pending.now.items (λ (x : Id). x.0), c.requires.few))
     (omega (arith, length-map c.as_slice-group.result.now entry_of, ap length c.as_slice-group.ensures.value, c.in-Ok.ensures.few)) in
-    broken_sent M c.histories_grow.ensures c.kept_groups_grow.ensures k k' gave (GroupedSome g.K.Keeper.model.serves c.args.messages.now
+    broken_sent M c.histories_grow.ensures c.kept_groups_grow.ensures c.still_stands.ensures k k' gave (GroupedSome g.K.Keeper.model.serves c.args.messages.now
     (g.K.Keeper.performed c.args.self.now.keeper.now c.perform_group.new.keeper))
     (g.P.Port.became c.args.self.now.port.now c.send_answers.new.port) (g.P.Port.told c.args.self.now.port.now) _ pending left c.args.messages.now
     c.len-count.result group.taken.items group.ends c.as_slice-group.result.now (take c.len-count.result c.args.messages.now)

@@ -41,7 +41,7 @@ returns-in-Err-clause-err g c =
       deeds = deeds;
       done = turn_none (g.C.Clock.gave clock clock) (g.K.Keeper.performed keeper keeper) g.P.Port.became c.args.self.now.port.now c.receive_messages.new.port
           one.result one.received g.K.Keeper.model.serves c.args.framer.now.bytes ((g.met.C.Clock.logged).none clock) ((g.met.K.Keeper.log).none keeper) one.once;
-      life = life_unheard g.K.Keeper.model k _ (by_just one) _ _ (ids_of c.args.self.now.pending.now.items) c.args.framer.now e by.0 alone just
+      life = life_unheard g.K.Keeper.model c.still_stands.ensures k _ (by_just one) _ _ (ids_of c.args.self.now.pending.now.items) c.args.framer.now e by.0 alone just
           c.in-Err.ensures.hearing;
       counts = none_counted;
       below = none_below (2 ^ 20);
@@ -194,7 +194,7 @@ returns-clause-err g c =
     record {
       deeds = then_did (one_heard heard.came.result heard.received) work.deeds;
       done = turn.0;
-      life = life_worked g.K.Keeper.model c.histories_grow.ensures k k' s.honest _ _ (g.P.Port.became c.args.self.now.port.now c.receive_messages.new.port) _ _ _
+      life = life_worked g.K.Keeper.model c.histories_grow.ensures c.still_stands.ensures k k' s.honest _ _ (g.P.Port.became c.args.self.now.port.now c.receive_messages.new.port) _ _ _
           (ids_of c.args.self.now.pending.now.items) (ids_of c.serve_messages.new.self.pending.now.items)
           c.args.framer.now c.receive_messages.new.framer c.in-Ok.waiting.messages.items c.as_slice-slice.result.now c.in-Ok.waiting.fault progress
           e by.0 heard (λ b two. just_more (one_heard heard.came.result heard.received) work.deeds b _ two turn.1)

@@ -7,7 +7,7 @@ use Rattle.fuse_request.specs.Places.{asked_at}
 use Rattle.fuse_answer.specs.Replies.{Told, Answers, FirstFault}
 use Rattle.fuse_answer.specs.declared.reply.BadAnswer.{BadAnswer}
 use Rattle.fuse_sim.specs.declared.kernel.TakeFault.TheVariants.{BadAnswer as Bad}
-use Rattle.fuse_sim.specs.Pending.{requests_in, borne, owner, others, AnswersIt, TakenOf}
+use Rattle.fuse_sim.specs.Pending.{requests_in, borne, owner, others, TakenOf}
 use Rattle.fuse_sim.specs.KeptMessages.{IsOwed, ArePending}
 use Rattle.fuse_sim.specs.inner.Marking.{StandsFirst}
 use Rattle.fuse_sim.proofs.Pendings.{Found, found}

@@ -10,6 +10,16 @@ use Rattle.fuse_store.proofs.Grouping.{its_own}
 use Rattle.fuse_store.proofs.Reopening.{not_busy, is_undone, once_seen}
 use Rattle.fuse_store.proofs.store_keeper.StoreKeeper.open.Goals as goal
 
+pub returns-in-Ok-Plain-clause-whole : goal.returns-in-Ok-Plain-clause-whole
+returns-in-Ok-Plain-clause-whole g c = λ clean content at.
+    let so = c.in-Ok-Plain.ensures.whole clean content at in
+    record { whole = so.whole; profile = so.profile ∙ c.in-Ok-Plain.field-0-is }
+
+pub returns-in-Ok-Everyday-clause-whole : goal.returns-in-Ok-Everyday-clause-whole
+returns-in-Ok-Everyday-clause-whole g c = λ clean content at.
+    let so = c.in-Ok-Everyday.ensures.whole clean content at in
+    record { whole = so.whole; profile = so.profile ∙ c.in-Ok-Everyday.field-0-is }
+
 pub returns-in-Ok-Plain-clause-profile : goal.returns-in-Ok-Plain-clause-profile
 returns-in-Ok-Plain-clause-profile g c = λ clean z was. sym (c.in-Ok-Plain.ensures.profile clean z was) ∙ c.in-Ok-Plain.field-0-is
 

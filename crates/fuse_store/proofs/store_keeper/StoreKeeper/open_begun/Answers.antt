@@ -19,6 +19,16 @@ returns-in-Ok-Plain-clause-profile g c = λ clean z was. sym (c.in-Ok-Plain.ensu
 pub returns-in-Ok-Everyday-clause-profile : goal.returns-in-Ok-Everyday-clause-profile
 returns-in-Ok-Everyday-clause-profile g c = λ clean z was. sym (c.in-Ok-Everyday.ensures.profile clean z was) ∙ c.in-Ok-Everyday.field-0-is
 
+pub returns-in-Ok-Plain-clause-whole : goal.returns-in-Ok-Plain-clause-whole
+returns-in-Ok-Plain-clause-whole g c = λ clean content at.
+    let so = c.in-Ok-Plain.ensures.whole clean content at in
+    record { whole = so.whole; profile = so.profile ∙ c.in-Ok-Plain.field-0-is }
+
+pub returns-in-Ok-Everyday-clause-whole : goal.returns-in-Ok-Everyday-clause-whole
+returns-in-Ok-Everyday-clause-whole g c = λ clean content at.
+    let so = c.in-Ok-Everyday.ensures.whole clean content at in
+    record { whole = so.whole; profile = so.profile ∙ c.in-Ok-Everyday.field-0-is }
+
 pub returns-in-Ok-Plain-clause-holds : goal.returns-in-Ok-Plain-clause-holds
 returns-in-Ok-Plain-clause-holds g c = λ clean z was.
     holds_at c.one_holding.ensures None (state g.S.Store c.set_up_begun.new.conn) (begun_for z) (rowed (begun_for z).tree) (records_of (begun_for z).kept)

@@ -12,6 +12,11 @@ use Rattle.fuse_store.proofs.table_keeper.TableKeeper.open.Goals as goal
 pub returns-in-Ok-clause-profile : goal.returns-in-Ok-clause-profile
 returns-in-Ok-clause-profile g c = λ clean z was. sym (c.in-Ok.ensures.profile clean z was) ∙ c.in-Ok.ensures.wanted ∙ c.PROFILE.ensures
 
+pub returns-in-Ok-clause-whole : goal.returns-in-Ok-clause-whole
+returns-in-Ok-clause-whole g c = λ clean content at.
+    let so = c.in-Ok.ensures.whole clean content at in
+    record { whole = so.whole; profile = so.profile ∙ c.in-Ok.ensures.wanted ∙ c.PROFILE.ensures }
+
 pub returns-in-Ok-clause-holds : goal.returns-in-Ok-clause-holds
 returns-in-Ok-clause-holds g c = λ clean z was.
     holds_at c.one_holding.ensures None (state g.S.Store c.set_up_for.new.conn) (opened_for z) (rowed (opened_for z).tree) (records_of (opened_for z).kept)

@@ -1,5 +1,0 @@
-use Rattle.fuse_tree.proofs.Fitting as fitting
-use Rattle.fuse_tree.proofs.laws.answers_fit.Goals as goal
-
-pub returns : goal.returns
-returns c = fitting.fits c.record_sizes.ensures

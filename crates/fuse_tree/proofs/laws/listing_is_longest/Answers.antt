@@ -1,5 +1,0 @@
-use Rattle.fuse_tree.proofs.Listing as listing
-use Rattle.fuse_tree.proofs.laws.listing_is_longest.Goals as goal
-
-pub returns : goal.returns
-returns c = listing.listing_is_longest

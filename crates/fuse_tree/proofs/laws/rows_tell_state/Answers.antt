@@ -1,5 +1,0 @@
-use Rattle.fuse_tree.proofs.Telling.{rows_tell}
-use Rattle.fuse_tree.proofs.laws.rows_tell_state.Goals as goal
-
-pub returns : goal.returns
-returns c = rows_tell
