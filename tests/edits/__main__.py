@@ -9,11 +9,12 @@ make a check short:
   `rt ci` proves. Lemmas get holes too (holes.py).
 - It reuses the results of earlier checks (`--incremental`).
 
-An edit counts as refused only where the prover refuses a function that the edit changes, for a reason of that function's own. An edit
-that isn't refused so is tried again, alone, over the whole crate; and so is an edit that changes anything other than functions. Where a
-source can't be read because of some edits of a check, the others are tried again without them. A witness shows that the holes aren't the
-reason of the refusals: in the same check stands one function that no edit changes, with its own proof. Where no function can be the
-witness, the shortest function that edits change must be proved without them; and over a tree in which the crate isn't proved, all of them.
+An edit counts as refused only where the prover refuses a function that the edit changes, for a reason of that function's own. That a proof
+names what the edit removed is none: it says nothing of the contract. An edit that isn't refused so is tried again, alone, over the whole
+crate; and so is an edit that changes anything other than functions. Where a source can't be read because of some edits of a check, the
+others are tried again without them. A witness shows that the holes aren't the reason of the refusals: in the same check stands one function
+that no edit changes, with its own proof. Where no function can be the witness, the shortest function that edits change must be proved
+without them; and over a tree in which the crate isn't proved, all of them.
 
 The lines of `rattle check` that are read here. PATH names a function, as `fuse_wire::access_mode::AccessMode::of`. Other lines are
 skipped, and so is the rest of a line.
@@ -335,7 +336,7 @@ def without_own(edit, said):
     if errors and len(removed) < len(errors) and re.search(r"(?m)^fn \S+: (not proved|no proof)", said):
         return Tried(edit, True, f"refused: {next(it for it in errors if it not in removed)[:160]}")
     if removed:
-        return Tried(edit, True, f"refused, but only since a proof names what the edit removed: {removed[0][:160]}")
+        return Tried(edit, False, f"NOT REFUSED: a proof names what the edit removed, and that is all: {removed[0][:160]}")
     lines = errors or said.strip().split("\n")
     return Tried(edit, False, f"BAD EDIT: no contract was tried: {' / '.join(lines[:3])[:300]}")
 
@@ -411,6 +412,8 @@ def chosen_edits(crate, given):
 def try_chosen(tree, crate, given):
     """Tries the chosen edits of a crate; what came of them, the lines about the crate, and whether all its edits were refused."""
     edits, choice = chosen_edits(crate, given)
+    if choice and not edits:
+        return [], [choice], False
     tried, summary = (check_unedited if given.unedited else try_crate)(tree, crate, edits)
     is_whole = not choice and not given.unedited and all(it.refused for it in tried)
     return tried, [it for it in (choice, summary) if it], is_whole

@@ -1,9 +1,11 @@
-"""Which edits the gate tries: all of a crate that has changed since all its edits were seen refused, and a quarter of the others.
+"""Which edits the gate tries: all of a crate that has changed since all its edits were seen refused, and all of a quarter of the others.
 
 The file `seen` has a line for each crate whose edits were all seen refused: its name, and the digest of what that check read, which is
 the toolchain, the crate, its edits and the sources of the crates below. Which quarter is tried follows from the digest of all crates, so
-that each change of the sources has another one tried."""
+that each change of the sources has another one tried. A quarter is of crates, and not of the edits of each, since a check of one edit takes
+nearly as long as one of ten."""
 import hashlib
+from collections import Counter
 from functools import cache
 from pathlib import Path
 
@@ -11,8 +13,8 @@ from edits.sources import TOP
 
 SEEN = Path(__file__).resolve().parent / "seen"
 READ = ("src", "specs", "proofs")
-# One edit of so many is tried of a crate that has not changed.
-PART = 4
+# The crates that have not changed are tried in so many parts.
+PARTS = 4
 
 
 def add_files(sum_, folders):
@@ -58,14 +60,30 @@ def digest_of_all():
     return found.hexdigest()
 
 
-def is_in_part(name):
-    """Whether an edit of a crate that has not changed is tried."""
-    return int(hashlib.sha256(f"{digest_of_all()} {name}".encode()).hexdigest(), 16) % PART == 0
+def edits_by_crate():
+    """How many edits each crate has, the crates with most of them first."""
+    counts = Counter(it.parent.parent.name for it in (TOP / "crates").glob("*/must-fail/*.edit"))
+    return sorted(counts.items(), key=lambda it: (-it[1], it[0]))
+
+
+def parts():
+    """All crates with edits, in parts with about as many edits each."""
+    found = [([], 0)] * PARTS
+    for crate, count in edits_by_crate():
+        (crates, edits), *others = sorted(found, key=lambda it: it[1])
+        found = [([*crates, crate], edits + count), *others]
+    return sorted(crates for crates, _ in found)
+
+
+@cache
+def part_now():
+    """The crates whose edits are tried although they have not changed."""
+    return parts()[int(digest_of_all(), 16) % PARTS]
 
 
 def part_of(crate, edits, below):
-    """The edits of a crate that the gate tries, and what it says of the choice, or an empty text where it tries all."""
+    """The edits of a crate that the gate tries, and what it says of the choice, or an empty text where the crate has changed."""
     if read_seen().get(crate) != digest_of(crate, below):
         return edits, ""
-    chosen = [it for it in edits if is_in_part(f"{crate}/{it.name}")] or edits[:1]
-    return chosen, f"edits: {crate}: unchanged since all its {len(edits)} edits were refused; {len(chosen)} are tried"
+    unchanged = f"edits: {crate}: unchanged since all its {len(edits)} edits were refused"
+    return (edits, f"{unchanged}; they are tried again") if crate in part_now() else ([], f"{unchanged}; none is tried")
