@@ -4,13 +4,14 @@ import sys
 from fnmatch import fnmatchcase
 from pathlib import Path
 
-from docs.crates import check_readmes
+from docs.crates import check_citations, check_readmes
 from docs.names import check_words_page
 from docs.pages import check_change, check_code, check_links, check_sizes, check_spec, check_theorems
 from docs.words import check_words
 from lib.counts import print_counts
 
-CHECKS = (check_links, check_readmes, check_spec, check_code, check_change, check_theorems, check_words_page, check_sizes, check_words)
+CHECKS = (check_links, check_readmes, check_citations, check_spec, check_code, check_change, check_theorems, check_words_page, check_sizes,
+          check_words)
 
 
 def matches(parts, pattern):

@@ -9,6 +9,9 @@ USED = re.compile(r"^pub use ([\w:]+)::(?:\{([^}]*)\}|(\w+));", re.S | re.M)
 # The line after a sample.
 FROM = re.compile(r"\s*From \[[^]]*\]\(([^)]+)\)")
 
+# What a proof takes from the proofs of a library, or a tactic in a source.
+CITED = re.compile(r"^use Rattle\.(\w+)\.proofs\b|\b(\w+)::proofs::", re.M)
+
 
 def exported_names(root):
     """The names that a library's root exports, without constants, each with the first part of its path."""
@@ -60,6 +63,15 @@ def check_samples(tree, page_path, page, text):
         source = page_path.parent / link[1]
         found = source.is_file() and stands_in(block, text_of(source))
         tree.check(found, f"{page}: {link[1]} doesn't have the lines of the sample that begins with {first}")
+
+
+def check_citations(tree):
+    """A proof cites no lemma of another crate of the tree: what several crates need is a law."""
+    for file in tree.files("crates/*/proofs/**/*.antt", "crates/*/src/**/*.rt"):
+        name = tree.name_of(file)
+        cited = {one or other for one, other in CITED.findall(text_of(file))}
+        others = {it for it in cited if it != name.split("/")[1] and (tree.top / "crates" / it).is_dir()}
+        tree.check(not others, f"{name}: it cites lemmas of {', '.join(sorted(others))}")
 
 
 def check_readmes(tree):

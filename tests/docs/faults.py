@@ -26,6 +26,7 @@ FILES = {
                                     "pub data Stays : Type 0\n",
     "crates/lower/README.md": "# lower\n\n```rust\nfn sample() {\nact()\n```\n\nFrom [example](../example/src/main.rt).\n\n"
                               "It has `act()`. Trusted: Acts, More.\n",
+    "crates/lower/proofs/Lists.antt": "-- lists\nuse Rattle.bytes.proofs.Both.{both}\nuse Rattle.lower.proofs.Acts.{acted}\n",
     "crates/example/src/main.rt": "fn sample() {\n    act()\n}\n",
     "crates/example/src/c.c": "/* A comment. */\nint front;\n",
     "crates/out/page.md": "This was built, [so](nothing.md) nobody reads it: behind.\n",
@@ -76,6 +77,9 @@ FAULTS = [
      "docs/WORDS.md, line 3: `Meets`: crates/lower/specs/Acts.antt doesn't define it"),
     ("crates/lower/specs/Lib.antt", "pub Takes", "pub Meets", "docs/WORDS.md, line 3: `Meets`: crates/lower/specs/Lib.antt defines it too"),
     ("crates/lower/specs/More.antt", "Stays", "Reads", "docs/WORDS.md: `Reads` has 2 meanings and no row"),
+    ("crates/lower/proofs/Lists.antt", "lower.proofs", "example.proofs", "crates/lower/proofs/Lists.antt: it cites lemmas of example"),
+    ("crates/example/src/main.rt", "fn sample", "#[tactic(auto, using(lower::proofs::Acts::acted))]\nfn sample",
+     "crates/example/src/main.rt: it cites lemmas of lower"),
     ("docs/WORDS.md", "# Words", "# Words\n\n`Leaves` stays.", "docs/WORDS.md, line 3: no file of specs/ defines `Leaves`"),
     ("crates/example/src/c.c", "A comment", "It has to", "crates/example/src/c.c, line 1: 'has to': say must"),
     ("man/it.1", "Prose", "In vain", "man/it.1, line 1: 'In vain': say without effect"),

@@ -49,6 +49,14 @@ void show_answer(const char *answer, size_t size, int error) {
   (void)answer, (void)size, (void)error;
 }
 
+void pay_in_time(int device) {
+  (void)device;
+}
+
+void pay_for_answer(const char *answer) {
+  (void)answer;
+}
+
 enum { MOST = 1 << 18 };
 
 static const uint8_t *input;
