@@ -6,7 +6,7 @@ ghost use Rattle.fuse_keeper.specs.KeeperState.{AnswersNoMore, Called, Looked, P
 ghost use Rattle.fuse_keeper.specs.KeeperState.{ActsOn, KeepsOthers, KeepsLots, LeavesGroup, LeavesActed};
 ghost use Rattle.fuse_keeper.specs.KeeperState.{BeginsMount, DropsLots, LeavesMount};
 ghost use Rattle.fuse_keeper.specs.Stands.{Records, CountsRecords};
-ghost use Rattle.fuse_keeper.specs.Group.{entries_of, HasId, IsKept, ids_of};
+ghost use Rattle.fuse_keeper.specs.Group.{entries_of, HasId, IsPerformed, OnlySees, ids_of};
 ghost use Rattle.counting_keeper.specs.Counting.{inner_of, tally_of, log_of, nothing};
 ghost use Rattle.counting_keeper.specs.Logging.{calls_of};
 ghost use Rattle.counting_keeper.specs.Counting.{with_group, with_mount, with_fault, with_opening};
@@ -89,6 +89,10 @@ impl<K: Keeper> Keeper for CountingKeeper<K> {
         K::serves(opcode)
     }
 
+    fn sees(opcode: u32) -> bool {
+        K::sees(opcode)
+    }
+
     fn perform(
         &mut self,
         group: &[(Request<'_>, Moment)],
@@ -97,12 +101,14 @@ impl<K: Keeper> Keeper for CountingKeeper<K> {
         requires short { length group.now ≤ max_group }
         requires few { length settled.now ≤ max_settled }
         requires named { All HasId (entries_of group.now) }
-        requires kept { All (IsKept K.model) (entries_of group.now) }
+        requires performed { All (IsPerformed K.model) (entries_of group.now) }
         ensures count { IfOk result (λ dones. length dones.items ≡ length group.now) }
         ensures called { Called (K.told (inner_of self.old)) (K.told (inner_of self.new)) result }
         ensures may { AnswersNoMore (K.told (inner_of self.old)) (K.told (inner_of self.new)) }
         ensures ok { IfOk result (λ dones. Performs (K.told (inner_of self.old))
             (K.told (inner_of self.new)) (ids_of settled.now) (entries_of group.now) dones.items) }
+        ensures looked { OnlySees K.model.service (entries_of group.now) (ids_of settled.now)
+            → Looked (K.told (inner_of self.old)) (K.told (inner_of self.new)) result }
         ensures acts { IfOk result (λ dones. ActsOn (K.told (inner_of self.old))
             (K.told (inner_of self.new)) (ids_of settled.now) (entries_of group.now) dones.items) }
         ensures others { OnOk result (KeepsOthers (K.told (inner_of self.old))
@@ -114,6 +120,8 @@ impl<K: Keeper> Keeper for CountingKeeper<K> {
         ensures crash_acts { LeavesActed (K.told (inner_of self.old)) (K.told (inner_of self.new))
             (ids_of settled.now) (entries_of group.now) }
         ensures firm { OnOk result ((K.told (inner_of self.new)).is_honest
+            → IsFirm (K.told (inner_of self.old))
+            ⊎ ¬ (OnlySees K.model.service (entries_of group.now) (ids_of settled.now))
             → IsFirm (K.told (inner_of self.new))) }
         ensures same { Became K.became self.old self.new 0 }
         ensures asked { Asked K.performed self.old self.new

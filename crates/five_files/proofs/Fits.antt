@@ -1,5 +1,5 @@
 -- The answers fit.
-use Rattle.std.proofs.Common.{◌≡◌, ◌≤◌, ◌==◌, ℕ, Bool, true, false, not, if◌then◌else◌, nat_lt, List, [], length, drop, Option, Some, None, refl, arith}
+use Rattle.std.proofs.Common.{◌≡◌, ◌≤◌, ◌==◌, ◌&&◌, ℕ, Bool, true, false, not, if◌then◌else◌, nat_lt, List, [], length, drop, Option, Some, None, refl, arith}
 use Rattle.std.proofs.lemmas.Bool.{ltb-false}
 use Rattle.std.proofs.lemmas.List.{length-take}
 use Rattle.fuse_wire.specs.declared.access_mode.AccessMode.{AccessMode}
@@ -10,7 +10,8 @@ use Rattle.fuse_wire.specs.Flags.{access_of}
 use Rattle.fuse_wire.specs.Opcodes.{fuse_readlink, fuse_statfs}
 use Rattle.fuse_request.specs.declared.request.InitIn.{InitIn}
 use Rattle.fuse_request.specs.declared.request.ReadIn.{ReadIn}
-use Rattle.fuse_request.specs.Act.{Act, Asked}
+use Rattle.fuse_request.specs.Act.{Act, Asked, opcode_of}
+use Rattle.fuse_request.specs.Opcodes.{is_performed_for}
 use Rattle.fuse_request.specs.Act as acts
 use Rattle.fuse_answer.specs.Entries.{DirectoryEntry}
 use Rattle.fuse_answer.specs.FurtherAnswers.{statfs_bytes}
@@ -27,10 +28,11 @@ use Rattle.five_files.specs.declared.node.Node.TheVariants.{Directory, Readme, L
 use Rattle.five_files.specs.Nodes.{number_of, node_at, is_dir, is_link, content_of}
 use Rattle.five_files.specs.Answers.{refuse, give, refuse_for, entry_out, attr_out, open_out, statfs_out, give_entry, give_attr, give_open}
 use Rattle.five_files.specs.Asking.{name_fault, file_named, found, lookup, open_for, open_file, release, release_dir, read, read_link, stat_fs, further, said_at}
-use Rattle.five_files.specs.Asking.{said_for, names_node, said_init, offer_of, said_offered, said}
+use Rattle.five_files.specs.Asking.{only_looks, said_for, names_node, said_init, offer_of, said_offered, said}
 use Rattle.five_files.specs.Listing.{entries_following, fitting, first_fits, list, read_dir}
 use Rattle.five_files.specs.TheFiles.{the_files}
 use Rattle.five_files.proofs.Prefixes.{fitting_fits}
+use Rattle.five_files.proofs.Looking.{looks_stay}
 
 refused : (errno : Errno) → FitsAnswer (refuse errno)
 refused errno = record { refusal = λ _. refl; short = omega arith }
@@ -160,11 +162,19 @@ said_fits : RecordSizes → (agreed : Option Settings) (asked : Asked) → FitsA
 unfolding said
 said_fits sizes agreed asked = offered_fits sizes agreed asked (offer_of asked.act)
 
+also : (performed sees : Bool) → (performed && sees) ≡ true → sees ≡ true
+also true sees is = is
+also false sees is = absurd (cc is)
+
 -- what the file system owes; each state is good
 pub files_are_sound : RecordSizes → IsSoundModel the_files
 files_are_sound sizes = record {
   fits = λ s asked now. said_fits sizes s asked;
   starts = λ now. tt;
   goes_on = λ s asked now kept good. tt;
+  stays = λ s asked now seen.
+      looks_stay s asked (also (is_performed_for the_files.service (opcode_of asked.act)) (only_looks (opcode_of asked.act)) seen);
+  keeps_init = refl;
+  keeps_destroy = refl;
   clears = λ s good. tt;
 }

@@ -9,7 +9,7 @@ use Rattle.fuse_wire.specs.declared.access_mode.AccessMode.TheVariants.{ReadOnly
 use Rattle.fuse_wire.specs.declared.errno.Errno.{Errno}
 use Rattle.fuse_wire.specs.Errnos.{enoent, ebadf, enotdir, eisdir, einval, enametoolong, enosys, eproto, estale}
 use Rattle.fuse_wire.specs.Flags.{access_of}
-use Rattle.fuse_wire.specs.Opcodes.{fuse_readlink, fuse_statfs}
+use Rattle.fuse_wire.specs.Opcodes.{fuse_lookup, fuse_getattr, fuse_readlink, fuse_read, fuse_statfs, fuse_readdir}
 use Rattle.fuse_request.specs.declared.request.InitIn.{InitIn}
 use Rattle.fuse_request.specs.declared.request.ReadIn.{ReadIn}
 use Rattle.fuse_request.specs.Act.{Act, Asked}
@@ -104,6 +104,12 @@ read asked n =
 -- the opcodes that are served beside those of the profile
 abbrev pub serves_further : OpcodeSet
 serves_further opcode = (opcode == fuse_readlink) || (opcode == fuse_statfs)
+
+-- the opcodes whose requests are seen: they change nothing. READLINK changes nothing either, and is kept, so that there is an opcode
+-- beside the profile of each class
+abbrev pub only_looks : OpcodeSet
+only_looks opcode =
+    opcode == fuse_lookup || (opcode == fuse_getattr || (opcode == fuse_read || (opcode == fuse_statfs || opcode == fuse_readdir)))
 
 -- neither has a body; and only a symbolic link has a target
 abbrev pub read_link : List ℕ → Node → Said

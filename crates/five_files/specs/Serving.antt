@@ -11,7 +11,6 @@ use Rattle.fuse_session.specs.Passage.{Passage}
 use Rattle.fuse_session.specs.Processed.{kept_in}
 use Rattle.fuse_session.specs.Exchange.{Exchange, IfNoneComesAgain}
 use Rattle.fuse_session.specs.Serving.{Run, nothing_waits, exchange}
-use Rattle.five_files.specs.Asking.{serves_further}
 use Rattle.five_files.specs.TheFiles.{the_files}
 use Rattle.five_files.specs.declared.files.FiveFiles.{FiveFiles}
 
@@ -28,7 +27,7 @@ pub record AnswersAs (k : KeeperState the_files) (s : Option Settings) : Type 0 
 
 -- the state after the first n messages
 abbrev pub after_first : ℕ → Standing the_files → Exchange → Option Settings
-after_first n at x = after the_files at.state (grown at.history (kept_in serves_further (take n x.timed)))
+after_first n at x = after the_files at.state (grown at.history (kept_in the_files.service (take n x.timed)))
 
 -- where INIT is agreed on, before these messages or by one of the first n of them, all of which were answered: each request is
 -- answered in the end as it was after those n

@@ -2,7 +2,7 @@
 ghost use Rattle.std.specs.Prelude.{◌≡◌, IfOk, OnOk};
 ghost use Rattle.fuse_request.specs.Act.{asked, act};
 ghost use Rattle.five_files.specs.Asking as asking;
-ghost use Rattle.five_files.specs.Asking.{name_fault, file_named};
+ghost use Rattle.five_files.specs.Asking.{only_looks, name_fault, file_named};
 ghost use Rattle.five_files.specs.Asking.{said, said_agreed, said_at, agreed_after};
 
 use crate::attributes::{attr_answer, entry_answer};
@@ -14,9 +14,17 @@ use crate::node::Node;
 use crate::opening::{done_nothing, open_dir, open_file, read, release, release_dir};
 use fuse_answer::{Answer, MAX_NAME};
 use fuse_init::Settings;
+use fuse_request::opcode::{GETATTR, LOOKUP, READ, READDIR, STATFS};
 use fuse_request::{Op, Request};
 use fuse_wire::{Errno, Memory};
 use std::alloc::Global;
+
+// Whether requests of this opcode are seen: they change nothing.
+pub(crate) fn only_looks(opcode: u32) -> bool
+    ensures { result ≡ only_looks opcode }
+{
+    opcode == LOOKUP || opcode == GETATTR || opcode == READ || opcode == STATFS || opcode == READDIR
+}
 
 // The fault of a name: it is too long, empty, or leads elsewhere.
 fn fault_of_name(name: &[u8]) -> Option<Errno>

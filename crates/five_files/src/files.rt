@@ -1,6 +1,6 @@
 ghost use Rattle.five_files.specs.TheFiles.{the_files};
 
-use crate::asking::answer;
+use crate::asking::{answer, only_looks};
 use crate::further::is_further;
 use fuse_answer::{Answer, record_sizes};
 use fuse_init::Settings;
@@ -26,17 +26,23 @@ impl FileSystem for FiveFiles {
         is_further(opcode)
     }
 
+    fn sees(opcode: u32) -> bool {
+        only_looks(opcode)
+    }
+
     fn start(_alloc: Global, _now: Moment) -> Result<FiveFiles, Memory> {
         Ok(FiveFiles { agreed: None })
     }
 
+    #[tactic(auto, using(crate::proofs::Looking::looks_stay))]
     fn act(
         &mut self,
         alloc: Global,
         request: &Request<'_>,
         _now: Moment,
     ) -> Result<Answer, StoreFault> {
-        Ok(answer(alloc, &mut self.agreed, request)?)
+        let answer = answer(alloc, &mut self.agreed, request)?;
+        Ok(answer)
     }
 
     fn to_copy(&self) -> Result<FiveFiles, Memory> {

@@ -12,12 +12,5 @@ notice_bytes code = form (out_head_parts out_header_size code 0)
 abbrev pub notify_resend : ℕ
 notify_resend = 7
 
--- FUSE_NOTIFY_INC_EPOCH: names that were looked up before are looked up again (from version 7.44 on)
-abbrev pub notify_inc_epoch : ℕ
-notify_inc_epoch = 8
-
 unfoldable pub resend_bytes : List ℕ
 resend_bytes = notice_bytes notify_resend
-
-unfoldable pub epoch_bytes : List ℕ
-epoch_bytes = notice_bytes notify_inc_epoch

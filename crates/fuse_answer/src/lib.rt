@@ -21,7 +21,7 @@ pub use dirent::{Dirent, MAX_NAME};
 pub use further::{CreateOut, LseekOut, StatfsOut, XattrOut};
 pub use init_out::InitOut;
 pub use laws::{answer_numbers, len_stands_first, read_back, record_sizes};
-pub use notice::{NOTIFY_INC_EPOCH, NOTIFY_RESEND, epoch_notice, resend_notice};
+pub use notice::{NOTIFY_RESEND, resend_notice};
 pub use packing::{PackFault, Packed, pack};
 pub use plus::{PlusDirent, pack_plus};
 pub use records::{Attr, AttrOut, EntryOut, OpenOut, OutHeader, WriteOut};

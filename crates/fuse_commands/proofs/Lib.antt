@@ -6,7 +6,6 @@ pub mod Dumps
 pub mod Faults
 pub mod Firmness
 pub mod Known
-pub mod Notices
 pub mod Lines
 pub mod Printed
 pub mod Rests

@@ -9,7 +9,7 @@ use Rattle.std.proofs.lemmas.List.{append-nil, map-append, length-map, take_more
 use Rattle.std.proofs.lemmas.List.Concat.{flat_map-append}
 use Rattle.std.proofs.lemmas.List.Elements.{All-from_recursion, recursion_from_All}
 use Rattle.fuse_request.specs.Classes.{is_zero}
-use Rattle.fuse_request.specs.Opcodes.{OpcodeSet}
+use Rattle.fuse_request.specs.Opcodes.{Service}
 use Rattle.fuse_keeper.specs.declared.fault.StoreFault.{StoreFault}
 use Rattle.fuse_keeper.specs.declared.keeper.StoreCounts.{StoreCounts}
 use Rattle.fuse_keeper.specs.Model.{Model, IsOfGoodState}
@@ -21,7 +21,7 @@ use Rattle.fuse_sim.specs.declared.event.Event.{Event}
 use Rattle.fuse_sim.specs.declared.event.Outcome.{Outcome}
 use Rattle.fuse_sim.specs.declared.event.DriveFault.{DriveFault}
 use Rattle.fuse_sim.specs.declared.event.DriveFault.TheVariants.{NotAMessage, ZeroUnique, Store, Memory}
-use Rattle.fuse_sim.specs.Driving.{IsFit, CausedBy, Names, StandsIn, OfRestart, AnsweredBy, is_store, settles, committed, outcome_of, settled_by, bytes_given}
+use Rattle.fuse_sim.specs.Driving.{IsFit, CausedBy, Names, StandsIn, OfRestart, AnsweredBy, is_store, settles, committed, outcomes_of, settled_by, bytes_given}
 use Rattle.fuse_sim.specs.Driving.{NoneReused, told_in, became_in, performed_in, Opened, deaths, before, event_of, LeftBy}
 use Rattle.fuse_sim.specs.AfterEvents.{DeletesHanded}
 use Rattle.fuse_sim.specs.HandedOn.{performances, AsksUpTo, AskedSome}
@@ -113,7 +113,7 @@ looked_firm old new rows records sound keeps whole crash held firm x r holds =
 -- drive ran them, and then the counts were looked up
 pub went : {M : Model} {K : Type 0} (told : K → KeeperState M) (old left : Option K) (k k' : K) (s : M.State) (events : List Event)
     (simulation : Simulation) → left ≡ Some k → Looked (told k) (told k') (Ok simulation.counts) → IsSound (told k') → (told k').is_honest
-    → ((told_in told left).is_honest → map bytes_given simulation.outcomes.items ≡ map (outcome_of M s (committed M.serves [] events)) events)
+    → ((told_in told left).is_honest → map bytes_given simulation.outcomes.items ≡ outcomes_of M s [] events)
     → ((told_in told left).is_honest → StandsFromStart told left s events)
     → ((told_in told left).is_honest → IsFirm (told_in told old) → IsFirm (told_in told left))
     → Reports (told k) (told k') (λ rows records. simulation.counts.nodes ≡ M.nodes rows)
@@ -121,25 +121,25 @@ pub went : {M : Model} {K : Type 0} (told : K → KeeperState M) (old left : Opt
     → Went told old (Some k') s events simulation
 went {M} told old left k k' s events simulation is looked sound last answers stands firm nodes handles =
     let good : (told_in told left).is_honest = subst (λ o. (told_in told o).is_honest) (sym is) (looked.called.honest last) in
-    let so : StandsFor (told k) s (committed M.serves [] events) (settled_by M.serves [] events) = subst (λ o. StandsFromStart told o s events) is (stands good) in
+    let so : StandsFor (told k) s (committed M.service [] events) (settled_by M.service [] events) = subst (λ o. StandsFromStart told o s events) is (stands good) in
     record {
       outcomes = answers good;
-      nodes = counted (told k) M.nodes s (committed M.serves [] events) (settled_by M.serves [] events) simulation.counts.nodes so (nodes last);
-      handles = counted (told k) M.handles s (committed M.serves [] events) (settled_by M.serves [] events) simulation.counts.handles so (handles last);
-      stands = stands_kept (told k) (told k') s (committed M.serves [] events) (settled_by M.serves [] events) (looked.same last) so;
+      nodes = counted (told k) M.nodes s (committed M.service [] events) (settled_by M.service [] events) simulation.counts.nodes so (nodes last);
+      handles = counted (told k) M.handles s (committed M.service [] events) (settled_by M.service [] events) simulation.counts.handles so (handles last);
+      stands = stands_kept (told k) (told k') s (committed M.service [] events) (settled_by M.service [] events) (looked.same last) so;
       firm = λ was. looked_firm (told k) (told k') so.rows so.records sound (looked.same last) looked.whole looked.crash so.held
           (subst (λ o. IsFirm (told_in told o)) is (firm good was));
     }
 
 -- the counts are those of what is held then
 pub counts_are : {M : Model} {K : Type 0} (told : K → KeeperState M) (old left : Option K) (k k' : K) (events : List Event) (counts : StoreCounts)
-    → left ≡ Some k → Looked (told k) (told k') (Ok counts) → DeletesHanded told old left (performances M.serves events) events
+    → left ≡ Some k → Looked (told k) (told k') (Ok counts) → DeletesHanded told old left (performances M.service events) events
     → Reports (told k) (told k') (λ rows records. counts.nodes ≡ M.nodes rows)
     → Reports (told k) (told k') (λ rows records. counts.handles ≡ M.handles rows)
     → CountsAre told old (Some k') counts.nodes counts.handles
 counts_are {M} told old left k k' events counts is looked records nodes handles = λ last rows before held rowed.
     let good = looked.called.honest last in
-    let there = subst (λ o. DeletesHanded told old o (performances M.serves events) events) is records good rows before held rowed in
+    let there = subst (λ o. DeletesHanded told old o (performances M.service events) events) is records good rows before held rowed in
     record {
       rows = there.rows;
       records = there.records;
@@ -196,7 +196,7 @@ left_by : {M : Model} (k : KeeperState M) (by_store : Bool) (P : Type 0) → Lef
 left_by k true P so clean honest = so clean
 left_by k false P so clean honest = so honest
 
-asks_first : {K : Type 0} (V : OpcodeSet) (performed : K → K → List Performance → Type 0) (old new : Option K) (events : List Event) (fault : DriveFault)
+asks_first : {K : Type 0} (V : Service) (performed : K → K → List Performance → Type 0) (old new : Option K) (events : List Event) (fault : DriveFault)
     → AskedSome performed old new (AsksUpTo V events fault) → AskedSome performed old new (AreOfFirst V events)
 asks_first V performed old new events fault a = (
   a.0,
@@ -212,11 +212,11 @@ asks_first V performed old new events fault a = (
 -- at a fault of drive: the events before the one that it names
 pub fault_left : {M : Model} {K : Type 0} (k : Seen M K) (old new : Option K) (events : List Event) (fault : DriveFault)
     → ((x : K) → IsSound (k.told x))
-    → ((s : M.State) (h : History) (t : List ℕ) → StandsIn k.told old s h t → NoneReused M.serves t (before fault events)
-    → LeftBy (told_in k.told new) (is_store fault) (StandsIn k.told new s (committed M.serves h (before fault events))
-    (settled_by M.serves t (before fault events))))
-    → LeftBy (told_in k.told new) (is_store fault) (DeletesHanded k.told old new (performances M.serves (before fault events)) (before fault events))
-    → (¬ (new ≡ None) → AskedSome k.performed old new (AsksUpTo M.serves events fault))
+    → ((s : M.State) (h : History) (t : List ℕ) → StandsIn k.told old s h t → NoneReused M.service t (before fault events)
+    → LeftBy (told_in k.told new) (is_store fault) (StandsIn k.told new s (committed M.service h (before fault events))
+    (settled_by M.service t (before fault events))))
+    → LeftBy (told_in k.told new) (is_store fault) (DeletesHanded k.told old new (performances M.service (before fault events)) (before fault events))
+    → (¬ (new ≡ None) → AskedSome k.performed old new (AsksUpTo M.service events fault))
     → LeftBySome k old new events
 fault_left {M} k old new events fault sound stands records asked = record {
   first = before fault events;
@@ -224,20 +224,20 @@ fault_left {M} k old new events fault sound stands records asked = record {
   parts = sym (take-append-drop (event_of fault) events);
   stands = λ clean s so none.
       left_by (told_in k.told new) (is_store fault)
-      (StandsIn k.told new s (committed M.serves [] (before fault events)) (settled_by M.serves [] (before fault events)))
+      (StandsIn k.told new s (committed M.service [] (before fault events)) (settled_by M.service [] (before fault events)))
       (stands s [] [] so none) clean (clean_in k.told sound new clean);
   records = λ clean.
       left_by (told_in k.told new) (is_store fault)
-      (DeletesHanded k.told old new (performances M.serves (before fault events)) (before fault events)) records clean (clean_in k.told sound new clean);
-  asked = λ some. asks_first M.serves k.performed old new events fault (asked some);
+      (DeletesHanded k.told old new (performances M.service (before fault events)) (before fault events)) records clean (clean_in k.told sound new clean);
+  asked = λ some. asks_first M.service k.performed old new events fault (asked some);
 }
 
 -- after drive, whatever the counts returned: all events
 pub all_left : {M : Model} {K : Type 0} (k : Seen M K) (old left : Option K) (x x' : K) (events : List Event)
     → left ≡ Some x → IsSound (k.told x') → ((k.told x').is_honest → (k.told x).is_honest) → ((k.told x').is_clean → KeepsHeld (k.told x) (k.told x'))
-    → ((told_in k.told left).is_honest → (s : M.State) (h : History) (t : List ℕ) → StandsIn k.told old s h t → NoneReused M.serves t events
-    → StandsIn k.told left s (committed M.serves h events) (settled_by M.serves t events))
-    → DeletesHanded k.told old left (performances M.serves events) events → performed_in k.performed old (Some x') (performances M.serves events)
+    → ((told_in k.told left).is_honest → (s : M.State) (h : History) (t : List ℕ) → StandsIn k.told old s h t → NoneReused M.service t events
+    → StandsIn k.told left s (committed M.service h events) (settled_by M.service t events))
+    → DeletesHanded k.told old left (performances M.service events) events → performed_in k.performed old (Some x') (performances M.service events)
     → LeftBySome k old (Some x') events
 all_left {M} k old left x x' events is sound honest keeps stands records asked = record {
   first = events;
@@ -245,10 +245,10 @@ all_left {M} k old left x x' events is sound honest keeps stands records asked =
   parts = sym (append-nil events);
   stands = λ clean s so none.
       let good : (told_in k.told left).is_honest = subst (λ o. (told_in k.told o).is_honest) (sym is) (honest (sound.clean_is_honest clean)) in
-      stands_kept (k.told x) (k.told x') s (committed M.serves [] events) (settled_by M.serves [] events) (keeps clean)
+      stands_kept (k.told x) (k.told x') s (committed M.service [] events) (settled_by M.service [] events) (keeps clean)
       (subst (λ o. StandsFromStart k.told o s events) is (stands good s [] [] so none));
   records = λ clean good rows before held rowed.
-      let there = subst (λ o. DeletesHanded k.told old o (performances M.serves events) events) is records (honest good) rows before held rowed in
+      let there = subst (λ o. DeletesHanded k.told old o (performances M.service events) events) is records (honest good) rows before held rowed in
       record {
         rows = there.rows;
         records = there.records;
@@ -257,7 +257,7 @@ all_left {M} k old left x x' events is sound honest keeps stands records asked =
         left = there.left;
       };
   asked = λ some. (
-    performances M.serves events,
+    performances M.service events,
     record { first = events; rest = []; parts = sym (append-nil events); asked_are = refl },
     asked,
   );
@@ -283,11 +283,11 @@ script_left k old new known script slice items events all same described is left
 -- the events of a script were run
 pub ran : {M : Model} {K : Type 0} (k : Seen M K) (old new : Option K) (r : Result Simulation Ending) (known : Option (List ℕ))
     (script slice : List ℕ) (items events : List Event)
-    → IfOk r (λ simulation. (told_in k.told new).is_honest → (s : M.State) → StandsIn k.told old s [] [] → NoneReused M.serves [] events
+    → IfOk r (λ simulation. (told_in k.told new).is_honest → (s : M.State) → StandsIn k.told old s [] [] → NoneReused M.service [] events
     → Went k.told old new s events simulation)
     → IfOk r (λ simulation. length simulation.outcomes.items ≡ length events)
     → IfOk r (λ simulation. BeginSo k.told old new events (map bytes_given simulation.outcomes.items))
-    → OnOk r (performed_in k.performed old new (performances M.serves events)) → OnOk r (Opened k.told k.became old new events)
+    → OnOk r (performed_in k.performed old new (performances M.service events)) → OnOk r (Opened k.told k.became old new events)
     → IfOk r (λ simulation. CountsAre k.told old new simulation.counts.nodes simulation.counts.handles)
     → IfSome known (λ xs. script ≡ xs) → slice ≡ script → WritesAll (lines_of slice) items → events ≡ items
     → IfOk r (λ simulation. IfSome known (λ xs. RanScript k old new xs simulation))
@@ -308,7 +308,7 @@ ran k old new (Ok simulation) (Some xs) script slice items events went count beg
 -- a fault of the store ended them
 pub stopped : {M : Model} {K : Type 0} (k : Seen M K) (old new : Option K) (r : Result Simulation Ending) (known : Option (List ℕ))
     (script slice : List ℕ) (items events : List Event)
-    → IfErr r (λ ending. status_of ending ≡ 3 → (s : M.State) → StandsIn k.told old s [] [] → NoneReused M.serves [] events
+    → IfErr r (λ ending. status_of ending ≡ 3 → (s : M.State) → StandsIn k.told old s [] [] → NoneReused M.service [] events
     → StoreEnded k old new events ending)
     → LeftBySome k old new events
     → IfSome known (λ xs. script ≡ xs) → slice ≡ script → WritesAll (lines_of slice) items → events ≡ items
@@ -326,7 +326,7 @@ stopped k old new (Err ending) (Some xs) script slice items events ended left al
 -- ---- faults of the store
 
 -- the events before one
-pub reused_prefix : (V : OpcodeSet) (t : List ℕ) (n : ℕ) (events : List Event) → NoneReused V t events → NoneReused V t (take n events)
+pub reused_prefix : (V : Service) (t : List ℕ) (n : ℕ) (events : List Event) → NoneReused V t events → NoneReused V t (take n events)
 reused_prefix V t zero events none = tt
 reused_prefix V t (suc n) [] none = tt
 reused_prefix V t (suc n) (e ∷ events) none = (none.0, reused_prefix V (t ++ settles V e) n events none.1)

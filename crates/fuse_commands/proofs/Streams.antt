@@ -70,25 +70,25 @@ each_prefix P (x ∷ xs) ys all = (all.0, each_prefix P xs ys all.1)
 record Settled {M : Model} (k' : KeeperState M) (at : Standing M) (timed : List Timed) (going : Bool) (sent : List ℕ) (counts : SessionCounts) : Type 0 where
   pub goes : going ≡ true → GoesOn M at.state at.history timed
   pub last : going ≡ false → EndsLast M at.state at.history timed
-  pub processed : Processed at timed (HoldsAt k') (λ answers. SendsAnswers sent counts answers (counted M.serves at.history timed))
+  pub processed : Processed at timed (HoldsAt k') (λ answers. SendsAnswers sent counts answers (counted M.service at.history timed))
 
 settled : {M : Model} (k k' : KeeperState M) (did : Deeds → Type 0) (input sent : List ℕ) (port : PortState) (pending' : List ℕ)
     (prefix : List (List ℕ)) (going : Bool) (counts : SessionCounts) → PortEnds port sent
     → (turned : TookTurn (over k k' did input port) [] pending' prefix going counts) → k'.is_honest
-    → (s : M.State) (h : History) (t : List ℕ) → StandsFor k s h t → AllByRecursion (MayCome M.serves t) (bytes_of turned.work.timed)
+    → (s : M.State) (h : History) (t : List ℕ) → StandsFor k s h t → AllByRecursion (MayCome M.service t) (bytes_of turned.work.timed)
     → Settled k' (at_standing s h t) turned.work.timed going sent counts
 settled {M} k k' did input sent port pending' prefix going counts port_ends turned honest s h t so may =
     let r = turned.replied in
     let timed = turned.work.timed in
     let marks = turned.work.marks in
     let taken = all_taken (Some []) marks r.places (sym r.gone ∙ port_ends.gone) r.placed in
-    let a = turned.all honest s h t so (λ i there. absurd (cc there)) (none_again M.serves t (bytes_of timed) marks taken may) in
+    let a = turned.all honest s h t so (λ i there. absurd (cc there)) (none_again M.service t (bytes_of timed) marks taken may) in
     record {
       goes = a.goes;
       last = a.last;
       processed = record {
         works = a.works;
-        stood = subst (StandsFor k' s (grown h (kept_in M.serves timed))) (nothing_settled M.serves t (bytes_of timed) marks taken) a.stands;
+        stood = subst (StandsFor k' s (grown h (kept_in M.service timed))) (nothing_settled M.service t (bytes_of timed) marks taken) a.stands;
         gave = (
           sent_is port.sent sent (joined (replies marks) ++ []) port_ends.sent_is r.sent ∙ append-nil (joined (replies marks)) ∙ ap joined a.sent,
           a.counts_are,
@@ -260,23 +260,23 @@ faulted joins {M} k k' fault moment did input sent port fixed port_ends clean_ho
             ∙ append_assoc (bytes_of timed) b.others more;
         rest = refl;
         moments =
-            each_prefix (λ t. t ≡ moment) (moments_in M.serves timed) b.moments.0
+            each_prefix (λ t. t ≡ moment) (moments_in M.service timed) b.moments.0
             (subst (AllByRecursion (λ t. t ≡ moment)) b.moments.1 (fixed b.work.deeds b.work.done.0));
       };
       processed = λ clean s h t so may.
-          let l = exactly.exact (clean_honest clean) s h t so (λ i there. absurd (cc there)) (none_again M.serves t (bytes_of timed) marks taken may) in
+          let l = exactly.exact (clean_honest clean) s h t so (λ i there. absurd (cc there)) (none_again M.service t (bytes_of timed) marks taken may) in
           record {
             prefix = l.worked;
             unprocessed = l.unprocessed;
             parts = l.parts;
             processed = record {
               works = l.works;
-              stood = subst (StandsFor k' s (grown h (kept_in M.serves l.worked))) (nothing_settled M.serves t (bytes_of l.worked) marks taken) (l.stands refl clean).0;
+              stood = subst (StandsFor k' s (grown h (kept_in M.service l.worked))) (nothing_settled M.service t (bytes_of l.worked) marks taken) (l.stands refl clean).0;
               gave = sent_so ∙ ap joined l.sent;
             };
           };
       may = λ clean s h t so may.
-          let l = exactly.exact (clean_honest clean) s h t so (λ i there. absurd (cc there)) (none_again M.serves t (bytes_of timed) marks taken may) in
+          let l = exactly.exact (clean_honest clean) s h t so (λ i there. absurd (cc there)) (none_again M.service t (bytes_of timed) marks taken may) in
           (l.stands refl clean).1;
     }
 
@@ -327,30 +327,30 @@ kept joins {M} k k' e moment did performed input port fixed asks gone clean_hone
             ∙ append_assoc (bytes_of timed) b.others more;
         rest = refl;
         moments =
-            each_prefix (λ t. t ≡ moment) (moments_in M.serves timed) b.moments.0
+            each_prefix (λ t. t ≡ moment) (moments_in M.service timed) b.moments.0
             (subst (AllByRecursion (λ t. t ≡ moment)) b.moments.1 (fixed b.work.deeds b.work.done.0));
       };
       asked = b.work.deeds.asked;
       was_asked = asks b.work.deeds b.work.done.0;
       asks =
-          subst (λ (x : List Timed). AsksForGroups M.serves x b.work.deeds.asked) (sym b.work.are.messages)
-          (subst (λ (a : List Performance). AsksForGroups M.serves (timed_in b.work.batches) a) (sym b.work.asked)
-          (asks_for M.serves b.work.batches (subst (AllByRecursion IsTaken) b.work.are.answers taken)));
+          subst (λ (x : List Timed). AsksForGroups M.service x b.work.deeds.asked) (sym b.work.are.messages)
+          (subst (λ (a : List Performance). AsksForGroups M.service (timed_in b.work.batches) a) (sym b.work.asked)
+          (asks_for M.service b.work.batches (subst (AllByRecursion IsTaken) b.work.are.answers taken)));
       stands = λ clean s h t so may.
           let intact : IsIntact k' e = record { honest = clean_honest clean; clean = λ _. clean } in
-          let l = b.life intact s h t so (λ i there. absurd (cc there)) (none_again M.serves t (bytes_of timed) marks taken may) in
+          let l = b.life intact s h t so (λ i there. absurd (cc there)) (none_again M.service t (bytes_of timed) marks taken may) in
           record {
             prefix = l.worked;
             unprocessed = l.unprocessed;
             parts = l.parts;
             processed = record {
               works = l.works;
-              stood = subst (StandsFor k' s (grown h (kept_in M.serves l.worked))) (nothing_settled M.serves t (bytes_of l.worked) marks taken) l.stands;
+              stood = subst (StandsFor k' s (grown h (kept_in M.service l.worked))) (nothing_settled M.service t (bytes_of l.worked) marks taken) l.stands;
               gave = tt;
             };
           };
       crash = λ honest firm s h t so may.
-          let left = b.crash honest firm s h t so (λ i there. absurd (cc there)) (none_again M.serves t (bytes_of timed) marks taken may) in (
+          let left = b.crash honest firm s h t so (λ i there. absurd (cc there)) (none_again M.service t (bytes_of timed) marks taken may) in (
             left.0,
             λ x r may_leave.
                 let l = left.1 x r may_leave in
@@ -360,7 +360,7 @@ kept joins {M} k k' e moment did performed input port fixed asks gone clean_hone
                   parts = l.parts;
                   processed = record {
                     works = l.works;
-                    stood = subst (Stands M x r s (grown h (kept_in M.serves l.worked))) (nothing_settled M.serves t (bytes_of l.worked) marks taken) l.stands;
+                    stood = subst (Stands M x r s (grown h (kept_in M.service l.worked))) (nothing_settled M.service t (bytes_of l.worked) marks taken) l.stands;
                     gave = tt;
                   };
                 },

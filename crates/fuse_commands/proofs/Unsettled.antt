@@ -3,12 +3,13 @@ use Rattle.std.proofs.Common.{◌≡◌, ℕ, Bool, true, false, List, [], ◌�
 use Rattle.std.specs.List.{AllByRecursion, flat_map}
 use Rattle.std.proofs.lemmas.List.Concat.{flat_map-append}
 use Rattle.std.specs.Io.KnownBytes.{append_known}
-use Rattle.fuse_request.specs.Opcodes.{OpcodeSet}
-use Rattle.fuse_keeper.specs.Group.{left_pending}
+use Rattle.fuse_request.specs.Classes.{class_for}
+use Rattle.fuse_request.specs.Opcodes.{Service}
+use Rattle.fuse_keeper.specs.Group.{handed_to, left_pending}
 use Rattle.fuse_keeper.specs.History.{Entry}
 use Rattle.fuse_keeper.specs.Performance.{Performance, performances_of}
 use Rattle.fuse_session.specs.Batches.{Batch, timed_in, marks_in, handed_over, pending_after}
-use Rattle.fuse_session.specs.Processed.{Timed, bytes_of, entries_at, kept_in}
+use Rattle.fuse_session.specs.Processed.{Timed, bytes_of, timed_entry, performed_if, kept_in, performed_of}
 use Rattle.fuse_session.specs.Settling.{Mark, settles_by_mark, settled_in, NoneComesAgain, MayCome, Places, PlaceFirst}
 use Rattle.fuse_commands.specs.Replaying.{AsksForGroups}
 
@@ -26,18 +27,18 @@ all_taken sent (m ∷ marks) places none p =
     let one = first_taken m.gone (append_known sent m.reply) (Places (append_known sent m.reply) marks) places none p in
     (one.0, all_taken _ marks places none one.1)
 
-settles_nothing : (V : OpcodeSet) (m : List ℕ) (mark : Mark) → mark.gone ≡ false → settles_by_mark V false m mark ≡ []
+settles_nothing : (V : Service) (m : List ℕ) (mark : Mark) → mark.gone ≡ false → settles_by_mark V false m mark ≡ []
 settles_nothing V m mark is = rw is refl
 
-settled_nothing : (V : OpcodeSet) (ms : List (List ℕ)) (marks : List Mark) → AllByRecursion IsTaken marks → settled_in V false ms marks ≡ []
+settled_nothing : (V : Service) (ms : List (List ℕ)) (marks : List Mark) → AllByRecursion IsTaken marks → settled_in V false ms marks ≡ []
 settled_nothing V [] marks each = refl
 settled_nothing V (m ∷ ms) [] each = refl
 settled_nothing V (m ∷ ms) (mark ∷ marks) each = rw (settles_nothing V m mark each.0, settled_nothing V ms marks each.1) refl
 
-pub nothing_settled : (V : OpcodeSet) (t : List ℕ) (ms : List (List ℕ)) (marks : List Mark) → AllByRecursion IsTaken marks → t ++ settled_in V false ms marks ≡ t
+pub nothing_settled : (V : Service) (t : List ℕ) (ms : List (List ℕ)) (marks : List Mark) → AllByRecursion IsTaken marks → t ++ settled_in V false ms marks ≡ t
 nothing_settled V t ms marks each = ap (λ (x : List ℕ). t ++ x) (settled_nothing V ms marks each) ∙ append-nil t
 
-pub none_again : (V : OpcodeSet) (t : List ℕ) (ms : List (List ℕ)) (marks : List Mark) → AllByRecursion IsTaken marks → AllByRecursion (MayCome V t) ms
+pub none_again : (V : Service) (t : List ℕ) (ms : List (List ℕ)) (marks : List Mark) → AllByRecursion IsTaken marks → AllByRecursion (MayCome V t) ms
     → NoneComesAgain V false t ms marks
 none_again V t [] marks each may = tt
 none_again V t (m ∷ ms) [] each may = (may.0, none_again V t ms [] tt may.1)
@@ -47,8 +48,8 @@ none_again V t (m ∷ ms) (mark ∷ marks) each may =
 
 -- ---- what the keeper was asked to perform
 
-kept_both : (V : OpcodeSet) (xs ys : List Timed) → kept_in V (xs ++ ys) ≡ kept_in V xs ++ kept_in V ys
-kept_both V xs ys = flat_map-append (entries_at V) xs ys
+performed_both : (V : Service) (xs ys : List Timed) → performed_of V (xs ++ ys) ≡ performed_of V xs ++ performed_of V ys
+performed_both V xs ys = flat_map-append (λ t. performed_if (class_for V t.bytes) (timed_entry t)) xs ys
 
 groups_of : (es : List Entry) (more : List Performance) → flat_map (λ p. p.group) (performances_of es [] ++ more) ≡ es ++ flat_map (λ p. p.group) more
 groups_of [] more = refl
@@ -59,6 +60,10 @@ unsettled_of : (es : List Entry) (more : List Performance) → AllByRecursion (�
 unsettled_of [] more each = each
 unsettled_of (e ∷ es) more each = (refl, each)
 
+none_handed : (es : List Entry) → handed_to es [] ≡ []
+none_handed [] = refl
+none_handed (e ∷ es) = refl
+
 none_pending : (es : List Entry) → left_pending es [] ≡ []
 none_pending [] = refl
 none_pending (e ∷ es) = refl
@@ -68,7 +73,7 @@ taken_both [] ys each = (tt, each)
 taken_both (x ∷ xs) ys each = let both = taken_both xs ys each.1 in ((each.0, both.0), both.1)
 
 -- what was asked for, batch by batch, where nothing is settled
-pub asks_for : (V : OpcodeSet) (batches : List Batch) → AllByRecursion IsTaken (marks_in batches)
+pub asks_for : (V : Service) (batches : List Batch) → AllByRecursion IsTaken (marks_in batches)
     → AsksForGroups V (timed_in batches) (handed_over V false [] batches)
 asks_for V [] taken = record { groups = refl; unsettled = tt }
 asks_for V (b ∷ bs) taken =
@@ -76,10 +81,13 @@ asks_for V (b ∷ bs) taken =
     let none : pending_after V false [] b ≡ [] =
     ap (λ (x : List ℕ). x ++ settled_in V false (bytes_of b.timed) b.marks) (none_pending (kept_in V b.timed))
     ∙ settled_nothing V (bytes_of b.timed) b.marks both.0 in
-    let later : AsksForGroups V (timed_in bs) (handed_over V false (pending_after V false [] b) bs) =
+    let rest = handed_over V false (pending_after V false [] b) bs in
+    let later : AsksForGroups V (timed_in bs) rest =
     subst (λ (p : List ℕ). AsksForGroups V (timed_in bs) (handed_over V false p bs)) (sym none) (asks_for V bs both.1) in
+    let group = performed_of V b.timed in
+    let asks : AsksForGroups V (timed_in (b ∷ bs)) (performances_of group [] ++ rest) =
     record {
-      groups = groups_of (kept_in V b.timed) (handed_over V false (pending_after V false [] b) bs)
-          ∙ ap (λ (x : List Entry). kept_in V b.timed ++ x) later.groups ∙ sym (kept_both V b.timed (timed_in bs));
-      unsettled = unsettled_of (kept_in V b.timed) (handed_over V false (pending_after V false [] b) bs) later.unsettled;
-    }
+      groups = groups_of group rest ∙ ap (λ (x : List Entry). group ++ x) later.groups ∙ sym (performed_both V b.timed (timed_in bs));
+      unsettled = unsettled_of group rest later.unsettled;
+    } in
+    subst (λ (ids : List ℕ). AsksForGroups V (timed_in (b ∷ bs)) (performances_of group ids ++ rest)) (sym (none_handed (kept_in V b.timed))) asks

@@ -1,7 +1,9 @@
 -- The lines of the output (defined by this project).
-use Rattle.std.specs.Prelude.{◌/◌, ℕ, List, [], ◌∷◌, ◌++◌, Option, Some, None, codes, decimal}
+use Rattle.std.specs.Prelude.{◌/◌, ℕ, Bool, true, false, List, [], ◌∷◌, ◌++◌, Option, Some, None, codes, decimal}
 use Rattle.std.specs.List.{flat_map}
 use Rattle.hex.specs.Hex.{encode_lower}
+use Rattle.fuse_init.specs.declared.profile.Profile.{Profile}
+use Rattle.fuse_init.specs.declared.profile.Profile.TheVariants.{Plain, Everyday}
 use Rattle.fuse_session.specs.declared.counts.SessionCounts.{SessionCounts}
 
 -- a line feed ends each line
@@ -16,13 +18,23 @@ hex_line (x ∷ xs) = line (encode_lower (x ∷ xs))
 abbrev pub answer_lines : List (List ℕ) → List ℕ
 answer_lines answers = flat_map hex_line answers
 
--- the counts of a session, without the line feed
-abbrev pub count_line : SessionCounts → List ℕ
-count_line c =
+-- whether the counts of a store of this profile show the number of seen messages: a plain one has none
+abbrev pub shows_seen : Profile → Bool
+shows_seen Plain = false
+shows_seen Everyday = true
+
+-- the number of seen messages before what follows, where it is shown
+abbrev pub seen_before : Bool → ℕ → List ℕ → List ℕ
+seen_before true n more = codes " seen=" ++ (decimal n ++ more)
+seen_before false n more = more
+
+-- the counts of a session, without the line feed, with the number of seen messages or without it
+abbrev pub count_line : Bool → SessionCounts → List ℕ
+count_line shows c =
     codes "served messages=" ++ (decimal c.messages
     ++ (codes " kept=" ++ (decimal c.kept
     ++ (codes " repeated=" ++ (decimal c.repeated
-    ++ (codes " bare=" ++ (decimal c.bare
+    ++ seen_before shows c.seen (codes " bare=" ++ (decimal c.bare
     ++ (codes " silent=" ++ (decimal c.silent
     ++ (codes " interrupts=" ++ decimal c.interrupts))))))))))
 

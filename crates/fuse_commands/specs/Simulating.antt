@@ -1,8 +1,8 @@
 -- The outcomes of the events of a script, and the output (defined by this project).
-use Rattle.std.specs.Prelude.{◌≡◌, ℕ, codes, List, [], ◌++◌, map, length, take, Option, Some, None}
+use Rattle.std.specs.Prelude.{◌≡◌, ℕ, codes, List, [], ◌++◌, length, take, Option, Some, None}
 use Rattle.std.specs.List.{flat_map}
 use Rattle.hex.specs.Hex.{encode_lower}
-use Rattle.fuse_request.specs.Opcodes.{OpcodeSet}
+use Rattle.fuse_request.specs.Opcodes.{Service}
 use Rattle.fuse_keeper.specs.declared.fault.StoreFault.{StoreFault}
 use Rattle.fuse_keeper.specs.Model.{Model}
 use Rattle.fuse_keeper.specs.History.{after}
@@ -11,7 +11,7 @@ use Rattle.fuse_keeper.specs.Stands.{Records}
 use Rattle.fuse_keeper.specs.KeeperState.{KeeperState, IsFirm, Reports}
 use Rattle.fuse_sim.specs.declared.event.Event.{Event}
 use Rattle.fuse_sim.specs.declared.event.DriveFault.TheVariants.{Store}
-use Rattle.fuse_sim.specs.Driving.{committed, settled_by, outcome_of, NoneReused, told_in, became_in, performed_in, StandsIn, OutcomesBegin}
+use Rattle.fuse_sim.specs.Driving.{committed, settled_by, outcomes_of, NoneReused, told_in, became_in, performed_in, StandsIn, OutcomesBegin}
 use Rattle.fuse_sim.specs.Driving.{MayRefuse, OfRestart, Opened}
 use Rattle.fuse_sim.specs.AfterEvents.{DeletesHanded}
 use Rattle.fuse_sim.specs.HandedOn.{performances, AskedSome}
@@ -35,27 +35,24 @@ abbrev pub driven : {M : Model} {K R : Type 0} → (K → KeeperState M) → (K 
     → (K → StoreFault → R → Type 0) → Seen M K
 driven told became performed refuses = record { told = told; became = became; performed = performed; may_refuse = MayRefuse refuses }
 
--- the state after events from a start, and the outcome of each
+-- the state after events from a start
 abbrev pub state_after : (M : Model) → M.State → List Event → M.State
-state_after M s events = after M s (committed M.serves [] events)
-
-abbrev pub outcomes_of : (M : Model) → M.State → List Event → List (Option (List ℕ))
-outcomes_of M s events = map (outcome_of M s (committed M.serves [] events)) events
+state_after M s events = after M s (committed M.service [] events)
 
 -- the keeper stands for the requests that events from a start committed
 abbrev pub StandsFromStart : {M : Model} {K : Type 0} → (K → KeeperState M) → Option K → M.State → List Event → Type 0
-StandsFromStart {M} told keeper s events = StandsIn told keeper s (committed M.serves [] events) (settled_by M.serves [] events)
+StandsFromStart {M} told keeper s events = StandsIn told keeper s (committed M.service [] events) (settled_by M.service [] events)
 
 -- the outcomes of the first events from a start are those that these lead to, up to a message that comes again though its answer was
 -- taken
 abbrev pub BeginSo : {M : Model} {K : Type 0} → (K → KeeperState M) → Option K → Option K → List Event → List (Option (List ℕ)) → Type 0
 BeginSo {M} told old new events outcomes = (told_in told new).is_honest → (earlier later : List Event) → events ≡ earlier ++ later
-    → (s : M.State) → StandsIn told old s [] [] → NoneReused M.serves [] earlier → OutcomesBegin M s [] earlier outcomes
+    → (s : M.State) → StandsIn told old s [] [] → NoneReused M.service [] earlier → OutcomesBegin M s [] earlier outcomes
 
 -- a line for each event, then the counts of the store
 abbrev pub simulation_text : (M : Model) → M.State → List Event → List ℕ
 simulation_text M s events =
-    outcome_lines (outcomes_of M s events)
+    outcome_lines (outcomes_of M s [] events)
     ++ line (store_line (M.nodes (M.held_for (state_after M s events))) (M.handles (M.held_for (state_after M s events))))
 
 -- a keeper that the first one became returned a fault, and is left
@@ -88,7 +85,7 @@ StoreEnded k old None events ending = RefusedAgain k old events ending
 StoreEnded k old (Some left) events ending = (k.told left).is_clean → AnsweredFault k old (Some left) ending
 
 -- what the first of these events ask for
-pub record AreOfFirst (V : OpcodeSet) (events : List Event) (asked : List Performance) : Type 0 where
+pub record AreOfFirst (V : Service) (events : List Event) (asked : List Performance) : Type 0 where
   pub first : List Event
   pub rest : List Event
   pub parts : events ≡ first ++ rest
@@ -99,8 +96,8 @@ pub record AreOfFirst (V : OpcodeSet) (events : List Event) (asked : List Perfor
 pub record StoppedIn {M : Model} {K : Type 0} (k : Seen M K) (old new : Option K) (script : List ℕ) (ending : Ending) : Type 0 where
   pub events : List Event
   pub described : WritesAll (lines_of script) events
-  pub asked : ¬ (new ≡ None) → AskedSome k.performed old new (AreOfFirst M.serves events)
-  pub ended : (s : M.State) → StandsIn k.told old s [] [] → NoneReused M.serves [] events → StoreEnded k old new events ending
+  pub asked : ¬ (new ≡ None) → AskedSome k.performed old new (AreOfFirst M.service events)
+  pub ended : (s : M.State) → StandsIn k.told old s [] [] → NoneReused M.service [] events → StoreEnded k old new events ending
 
 -- some of the first events were committed, and a keeper that is left and whose store is clean stands for these and has the records that
 -- they leave. It was asked to perform just what first ones ask for: up to one group more, which its store refused
@@ -108,9 +105,9 @@ pub record LeftBySome {M : Model} {K : Type 0} (k : Seen M K) (old new : Option 
   pub first : List Event
   pub rest : List Event
   pub parts : events ≡ first ++ rest
-  pub stands : (told_in k.told new).is_clean → (s : M.State) → StandsIn k.told old s [] [] → NoneReused M.serves [] first → StandsFromStart k.told new s first
-  pub records : (told_in k.told new).is_clean → DeletesHanded k.told old new (performances M.serves first) first
-  pub asked : ¬ (new ≡ None) → AskedSome k.performed old new (AreOfFirst M.serves events)
+  pub stands : (told_in k.told new).is_clean → (s : M.State) → StandsIn k.told old s [] [] → NoneReused M.service [] first → StandsFromStart k.told new s first
+  pub records : (told_in k.told new).is_clean → DeletesHanded k.told old new (performances M.service first) first
+  pub asked : ¬ (new ≡ None) → AskedSome k.performed old new (AreOfFirst M.service events)
 
 -- so it is of the events of a script, however it ended
 pub record LeftByScript {M : Model} {K : Type 0} (k : Seen M K) (old new : Option K) (script : List ℕ) : Type 0 where
@@ -148,9 +145,9 @@ CountsAre told old new nodes handles = Reports (told_in told old) (told_in told 
 pub record SimulatedAll {M : Model} {K : Type 0} (k : Seen M K) (old new : Option K) (prints : List ℕ → Type 0) (script : List ℕ) : Type 0 where
   pub events : List Event
   pub described : WritesAll (lines_of script) events
-  pub shown : (told_in k.told new).is_honest → (s : M.State) → StandsIn k.told old s [] [] → NoneReused M.serves [] events
+  pub shown : (told_in k.told new).is_honest → (s : M.State) → StandsIn k.told old s [] [] → NoneReused M.service [] events
       → Shown k.told old new prints s events
-  pub asked : performed_in k.performed old new (performances M.serves events)
+  pub asked : performed_in k.performed old new (performances M.service events)
   pub opened : Opened k.told k.became old new events
   pub outcomes : List (Option (List ℕ))
   pub nodes : ℕ
@@ -168,5 +165,5 @@ Simulated k old new prints script ending = NotRun script ending × (new ≡ old)
 -- the output of a script from a start, whatever keeper it was run over
 abbrev pub SimulatedFrom : (M : Model) → M.State → (List ℕ → Type 0) → List ℕ → Ending → Type 0
 SimulatedFrom M s prints script Done =
-    (events : List Event) × WritesAll (lines_of script) events × (NoneReused M.serves [] events → prints (simulation_text M s events))
+    (events : List Event) × WritesAll (lines_of script) events × (NoneReused M.service [] events → prints (simulation_text M s events))
 SimulatedFrom M s prints script ending = NotRun script ending

@@ -24,7 +24,7 @@ pub use arguments::{Run, STANDARD_INPUT, Work, impossible_store, parse, unreadab
 pub use asked_store::{AskedOwner, AskedStore};
 pub use cause::Cause;
 pub use check::run_check;
-pub use count_line::CountLine;
+pub use count_line::{CountLine, shows_seen};
 pub use decode::run_decode;
 pub use dump::run_dump;
 pub use ending::{Ending, FaultLine};

@@ -11,7 +11,6 @@ ghost use Rattle.fuse_commands.specs.Output.{store_line};
 use crate::count_line::{CountLine, StoreLine};
 use crate::ending::Ending;
 use fuse_keeper::StoreCounts;
-use fuse_session::SessionCounts;
 use fuse_wire::{Fields, one_number};
 use std::alloc::Global;
 use std::io::Write;
@@ -67,12 +66,12 @@ pub(crate) fn write_answers<W: Write>(
 }
 
 /// Writes the line of counts.
-pub(crate) fn write_counts<W: Write>(writer: &mut W, counts: SessionCounts) -> Result<(), Ending>
+pub(crate) fn write_counts<W: Write>(writer: &mut W, counts: CountLine) -> Result<(), Ending>
     ensures ok { OnOk result (Appends (W.contents writer.old) (W.contents writer.new)
-        (line (count_line counts))) }
+        (line (count_line counts.shows_seen counts.counts))) }
     ensures err { IfErr result (λ ending. ending ≡ Ending.PortFailed) }
 {
-    writeln!(writer, "{}", CountLine(counts))?;
+    writeln!(writer, "{counts}")?;
     Ok(())
 }
 

@@ -8,6 +8,7 @@ ghost use Rattle.fuse_commands.specs.Replaying.{Replayed, Faulted, StandsForPref
 ghost use Rattle.fuse_commands.specs.Replaying.{PrintsAnswers};
 ghost use Rattle.fuse_commands.specs.inner.Sending.{IsAnswer, SendsAnswers};
 
+use crate::count_line::CountLine;
 use crate::ending::Ending;
 use crate::input::MAX_READS;
 use crate::output::{write_answers, write_counts};
@@ -75,37 +76,49 @@ fn serve_stream<K: Keeper, R: Read>(
 }
 
 // Prints the answers, and the counts if the stream was served to its end or its first fault.
-fn print_session<W: Write>(alloc: Global, writer: &mut W, session: &Session) -> Result<(), Ending>
+fn print_session<W: Write>(
+    alloc: Global,
+    writer: &mut W,
+    session: &Session,
+    shows_seen: bool,
+) -> Result<(), Ending>
     ensures fault { (IsOfStream session.now.ending → ⊥) → OnOk result ((answers : List (List ℕ))
         → AllByRecursion IsAnswer answers → session.now.sent.items ≡ joined answers
         → PrintsAnswers (W.contents writer.old) (W.contents writer.new) answers) }
     ensures ok { IsOfStream session.now.ending → OnOk result ((answers : List (List ℕ))
         → AllByRecursion IsAnswer answers → session.now.sent.items ≡ joined answers
-        → Prints (W.contents writer.old) (W.contents writer.new) answers session.now.counts) }
+        → Prints shows_seen (W.contents writer.old) (W.contents writer.new) answers
+        session.now.counts) }
     ensures err { IfErr result (λ ending. (ending ≡ Ending.PortFailed) ⊎ (ending ≡ Ending.Memory)) }
 {
     write_answers(alloc, writer, session.sent.as_slice())?;
     if session.ending.is_of_stream() {
-        write_counts(writer, session.counts)?;
+        let counts = CountLine {
+            counts: session.counts,
+            shows_seen,
+        };
+        write_counts(writer, counts)?;
     }
     writer.flush()?;
     Ok(())
 }
 
 /// Serves the stream of a reader, with one moment for all requests. Then prints the answers and, if
-/// the stream was served to its end or its first fault, the counts.
+/// the stream was served to its end or its first fault, the counts, with the number of seen messages
+/// where `shows_seen` is set.
 pub fn run_replay<K: Keeper, R: Read + Drop, W: Write>(
     alloc: Global,
     keeper: &mut K,
     mut reader: R,
     writer: &mut W,
     moment: Moment,
+    shows_seen: bool,
 ) -> Ending
     requires going { (K.told keeper.old).has_failed ≡ false }
     // Status 0 or 1: the processed messages of the input, the output, and the state of the keeper.
     ensures replayed { IsOfStream result → (input : List ℕ) → R.remaining reader ≡ Some input
         → Replayed (K.told keeper.old) (K.told keeper.new) moment input result
-        (Prints (W.contents writer.old) (W.contents writer.new)) }
+        (Prints shows_seen (W.contents writer.old) (W.contents writer.new)) }
 
     // Status 3: the keeper may return this fault. The answers before it are printed, and no counts.
     ensures faulted { status_of result ≡ 3 → (input : List ℕ) → R.remaining reader ≡ Some input
@@ -127,7 +140,7 @@ pub fn run_replay<K: Keeper, R: Read + Drop, W: Write>(
     len_stands_first();
     said_fits::<K>();
     let session = serve_stream(alloc, keeper, &mut reader, moment);
-    match print_session(alloc, writer, &session) {
+    match print_session(alloc, writer, &session, shows_seen) {
         Ok(()) => session.ending,
         Err(ending) => ending,
     }

@@ -47,7 +47,7 @@ fn run_events<K: Restart>(
     requires fit { All IsFit events.now }
     ensures ok { IfOk result (λ simulation. (told_in K.told keeper.new).is_honest
         → (s : K.model.State) → StandsIn K.told keeper.old s [] []
-        → NoneReused K.model.serves [] events.now
+        → NoneReused K.model.service [] events.now
         → Went K.told keeper.old keeper.new s events.now simulation) }
     ensures count { IfOk result
         (λ simulation. length simulation.outcomes.items ≡ length events.now) }
@@ -56,7 +56,7 @@ fn run_events<K: Restart>(
     ensures counts { IfOk result (λ simulation. CountsAre K.told keeper.old keeper.new
         simulation.counts.nodes simulation.counts.handles) }
     ensures asked { OnOk result (performed_in K.performed keeper.old keeper.new
-        (performances K.model.serves events.now)) }
+        (performances K.model.service events.now)) }
     ensures opened { OnOk result (Opened K.told K.became keeper.old keeper.new events.now) }
     ensures medium { KeepsMedium K.told keeper.old keeper.new }
     ensures left { OnOk result (IsSomeAnd keeper.new (λ k. (K.told k).has_failed ≡ false)) }
@@ -66,7 +66,7 @@ fn run_events<K: Restart>(
     ensures err { IfErr result (λ ending. 3 ≤ status_of ending) }
     ensures store { IfErr result (λ ending. status_of ending ≡ 3
         → (s : K.model.State) → StandsIn K.told keeper.old s [] []
-        → NoneReused K.model.serves [] events.now
+        → NoneReused K.model.service [] events.now
         → StoreEnded (driven K.told K.became K.performed K.refuses) keeper.old keeper.new
         events.now ending) }
     ensures kept { LeftBySome (driven K.told K.became K.performed K.refuses)

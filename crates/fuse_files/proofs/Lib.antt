@@ -6,6 +6,7 @@ mod Opened
 mod Refused
 mod Scripted
 mod Served
+mod Shown
 mod Summed
 mod Sunk
 mod Usage

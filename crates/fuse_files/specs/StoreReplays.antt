@@ -27,6 +27,7 @@ use Rattle.fuse_store_files.specs.Files.{FilesHold}
 use Rattle.fuse_store_files.specs.Left.{Closes, LeavesAsFound, LeavesOpening}
 use Rattle.fuse_commands.specs.declared.ending.Ending.{Ending}
 use Rattle.fuse_commands.specs.Endings.{status_of, store_ending, IsOfStream}
+use Rattle.fuse_commands.specs.Output.{shows_seen}
 use Rattle.fuse_commands.specs.Replaying.{Replayed, Faulted, StandsForPrefix, Prints, PrintsAnswers}
 use Rattle.fuse_files.specs.StoreOpened.{OpenedFrom}
 use Rattle.fuse_files.specs.StoreRuns.{left_closed}
@@ -54,10 +55,10 @@ pub record Streams : Type 0 where
 abbrev pub streams : Option (List ℕ) → Option (List ℕ) → Option (List ℕ) → Streams
 streams input written written' = record { input = input; written = written; written' = written' }
 
--- the stream was replayed over this keeper: the clauses of `run_replay`
+-- the stream was replayed over this keeper: the clauses of `run_replay`, with the line of counts of this profile
 pub record ReplaysOver (p : Profile) (k k' : KeeperState (tree_of p)) (moment : Moment) (streams : Streams) (ending : Ending) : Type 0 where
   pub replayed : IsOfStream ending → (input : List ℕ) → streams.input ≡ Some input
-      → Replayed k k' moment input ending (Prints streams.written streams.written')
+      → Replayed k k' moment input ending (Prints (shows_seen p) streams.written streams.written')
   pub faulted : status_of ending ≡ 3 → (input : List ℕ) → streams.input ≡ Some input
       → Faulted k k' moment input ending (PrintsAnswers streams.written streams.written')
   pub kept : (input : List ℕ) → streams.input ≡ Some input → StandsForPrefix k k' (λ _. Unit {0}) moment input

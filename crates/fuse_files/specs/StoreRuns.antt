@@ -69,12 +69,13 @@ abbrev pub left_closed : {D : Type 0} {g : Ghosts D} → Result (Files D) (FileS
 left_closed (Ok files) = leftover.Files files
 left_closed (Err it) = leftover.Store it
 
--- the port was served over the keeper, and nothing else was done at it; and then the keeper was closed
+-- the port was served over the keeper of this profile, and nothing else was done at it; and then the keeper was closed
 pub record KeeperServed {P D O C : Type 0} {g : Ghosts D} (p : Profile) (keeper : TableKeeper P (FileStore D g) over_files) (v : AroundViews O C)
     (x : Around O C) (begin : Begin) (run : StoreRun D g) : Type 0 where
   pub keeper' : TableKeeper P (FileStore D g) over_files
   pub served : ServesPort (views (keeper_told p over_files) (λ a b list. Unit {0}) v.port v.became) (v.gave x.clock x.clock')
       (between keeper keeper' x.port x.port') begin run.ending run.counts
+  pub profile_is : run.profile ≡ Some p
   pub left : Result (Files D) (FileStore D g)
   pub closed : Closes p keeper' left
   pub left_is : run.left ≡ Some (left_closed left)
@@ -101,6 +102,7 @@ pub record StoreRefused {D O C : Type 0} {g : Ghosts D} (v : AroundViews O C) (x
   pub still : x.port' ≡ x.port
   pub fault : StoreFault
   pub ending_is : run.ending ≡ store_ending fault
+  pub unprofiled : run.profile ≡ None
   pub uncounted : run.counts ≡ None
   pub crash : IfSome run.left (LeavesOpening how task.first)
   pub untouched : IsRefusal fault → IfSome run.left (LeavesAsFound task.first)

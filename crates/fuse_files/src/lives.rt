@@ -65,18 +65,19 @@ pub fn lots_outlive_files<P: Profiled, D: Disk + Drop>()
 
 /// Over every list of runs of one mount, each over files that a crash may have left of the one
 /// before, where no kept message comes again whose answer was settled: they are lives of one mount.
-/// The last history has each request once, and each run sent a prefix of the answers by it.
+/// The last history has each kept request once. Each run sent a prefix of its answers: to a kept
+/// message by the last history, to a seen one by the history before that message.
 pub fn files_live<P: Profiled>()
     ensures whole { (s : (tree_of P.PROFILE).State) (first : FileRun Image)
         (later : List (FileRun Image))
         → IsMount (FilesStand P.PROFILE) s first later
-        → AllHaveNew (tree_of P.PROFILE).serves [] (first ∷ later)
+        → AllHaveNew (tree_of P.PROFILE).service [] (first ∷ later)
         → FilesLived (FilesStand P.PROFILE) s first later }
     // So it is of the runs before the one in which such a message comes again.
     ensures before { (s : (tree_of P.PROFILE).State) (first : FileRun Image)
         (later : List (FileRun Image)) (n : ℕ)
         → IsMount (FilesStand P.PROFILE) s first later
-        → AllHaveNew (tree_of P.PROFILE).serves [] (first ∷ take n later)
+        → AllHaveNew (tree_of P.PROFILE).service [] (first ∷ take n later)
         → FilesLived (FilesStand P.PROFILE) s first (take n later) }
 {
     lives::<PlainKeeper<PlainTree<P>>>();

@@ -13,7 +13,7 @@ ghost use Rattle.fuse_files.specs.ListReplays.{NotReplayedAnew};
 ghost use Rattle.fuse_files.specs.StoreSimulations.{new_state};
 
 use crate::serving::{ending_of, left_of};
-use fuse_commands::{Ending, START, run_replay};
+use fuse_commands::{Ending, START, run_replay, shows_seen};
 use fuse_init::{EverydayProfile, PlainProfile, Profile, Profiled};
 use fuse_plan::new_store_is_tree;
 use fuse_rows::Origin;
@@ -26,7 +26,7 @@ use std::alloc::Global;
 use std::io::{Read, Write};
 
 // Serves the stream of a reader over a keeper, with one moment for all requests, and prints the
-// answers. Then closes its files.
+// answers and the line of counts that its profile has. Then closes its files.
 fn replay_keeper<P: Profiled, D: Disk + Drop, R: Read + Drop, W: Write>(
     alloc: Global,
     mut keeper: TableKeeper<P, FileStore<D>>,
@@ -39,7 +39,8 @@ fn replay_keeper<P: Profiled, D: Disk + Drop, R: Read + Drop, W: Write>(
         (streams (R.remaining reader) (W.contents writer.old) (W.contents writer.new)) result }
     ensures usage { status_of result.0 ≢ 2 }
 {
-    let ending = run_replay(alloc, &mut keeper, reader, writer, moment);
+    let shown = shows_seen(P::PROFILE);
+    let ending = run_replay(alloc, &mut keeper, reader, writer, moment, shown);
     (ending, Some(left_of(close_store(keeper))))
 }
 
@@ -104,7 +105,10 @@ fn replay_lists<P: Profiled, R: Read + Drop, W: Write>(
     ensures usage { status_of result ≢ 2 }
 {
     match new_lists::<P>(alloc, kind) {
-        Ok(mut keeper) => run_replay(alloc, &mut keeper, reader, writer, moment),
+        Ok(mut keeper) => {
+            let shown = shows_seen(P::PROFILE);
+            run_replay(alloc, &mut keeper, reader, writer, moment, shown)
+        }
         Err(_) => Ending::Memory,
     }
 }

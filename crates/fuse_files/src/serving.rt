@@ -9,7 +9,7 @@ ghost use Rattle.fuse_files.specs.StoreRuns.{around, around_views, OpensBy, left
 ghost use Rattle.fuse_files.specs.StoreRuns.{KeeperServed, IsServed, StoreRefused};
 
 use fuse_commands::{Begin, Ending, run_serve};
-use fuse_init::Profiled;
+use fuse_init::{Profile, Profiled};
 use fuse_keeper::StoreFault;
 use fuse_session::{Clock, Port, SessionCounts};
 use fuse_store::{StoreKeeper, StoreKind, TableKeeper};
@@ -22,6 +22,8 @@ use std::alloc::Global;
 pub struct StoreRun<D: Disk> {
     /// The ending of the command.
     pub ending: Ending,
+    /// The profile of the store, if one was opened.
+    pub profile: Option<Profile>,
     /// The counts, as the session has them.
     pub counts: Option<SessionCounts>,
     /// What is left of the files, if they were opened.
@@ -74,6 +76,7 @@ fn serve_keeper<P: Profiled, D: Disk + Drop, O: Port, C: Clock>(
     let (ending, counts) = run_serve(alloc, &mut keeper, port, clock, begin);
     StoreRun {
         ending,
+        profile: Some(P::PROFILE),
         counts,
         left: Some(left_of(close_store(keeper))),
     }
@@ -111,6 +114,7 @@ pub fn serve_store<S: Start, O: Port, C: Clock>(
         Ok(StoreKeeper::Everyday(keeper)) => serve_keeper(alloc, keeper, port, clock, begin),
         Err((fault, left)) => StoreRun {
             ending: ending_of(fault),
+            profile: None,
             counts: None,
             left,
         },

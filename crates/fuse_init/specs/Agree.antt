@@ -61,7 +61,7 @@ agree p i =
     if is_older i then Refused eproto
     else if nat_lt kernel_version i.major then Again again
     else Agreed (agreed_out i.max_readahead (agreed p i)) (record {
-      minor = min i.minor (terms p).newest_minor;
+      minor = min i.minor kernel_minor_version;
       max_readahead = i.max_readahead;
       flags = record { 0 = agreed p i };
     })

@@ -104,7 +104,7 @@ pub fn negotiate(profile: Profile, init: &InitIn) -> Negotiated
     Negotiated::Agreed {
         out: agreed_out(init.max_readahead, flags),
         settings: Settings {
-            minor: init.minor.min(profile.newest_minor()),
+            minor: init.minor.min(MINOR),
             max_readahead: init.max_readahead,
             flags,
         },

@@ -3,7 +3,6 @@ ghost use Rattle.fuse_init.specs.Profile as profiles;
 ghost use Rattle.fuse_init.specs.Profile.{terms};
 ghost use Rattle.fuse_init.specs.declared.profile.Profile.{Profile};
 
-use crate::settings::Settings;
 use bitflags::Flags;
 use fuse_wire::InitFlags;
 
@@ -12,7 +11,7 @@ use fuse_wire::InitFlags;
 pub enum Profile {
     /// The kernel asks for all that it wants to know.
     Plain,
-    /// The kernel keeps what it knows, if it is new enough.
+    /// The kernel keeps what it knows for a day, but of directories and absent names.
     Everyday,
 }
 
@@ -35,34 +34,13 @@ impl Profile {
         }
     }
 
-    // The settings keep the kernel's minor version up to this one.
-    pub(crate) fn newest_minor(self) -> u32
-        ensures { result ≡ (terms self).newest_minor }
-    {
-        match self {
-            Profile::Plain => 40,
-            Profile::Everyday => 44,
-        }
-    }
-
-    // Whether a kernel of the newest minor may keep names.
-    fn keeps(self) -> bool
+    /// Whether the kernel keeps the names that it has looked up, and knows which are absent.
+    pub fn keeps(self) -> bool
         ensures { result ≡ (terms self).keeps }
     {
         match self {
             Profile::Plain => false,
             Profile::Everyday => true,
-        }
-    }
-
-    /// Whether a kernel of these settings keeps the names that it has looked up, and knows which
-    /// are absent.
-    pub fn keeps_for(self, settings: Option<Settings>) -> bool
-        ensures { result ≡ profiles.keeps_for self settings }
-    {
-        match settings {
-            Some(agreed) => self.keeps() && agreed.minor == self.newest_minor(),
-            None => false,
         }
     }
 }

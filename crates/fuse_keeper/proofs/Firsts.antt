@@ -2,7 +2,7 @@
 use Rattle.std.proofs.Common.{◌≡◌, ℕ, List, [], ◌∷◌, ◌++◌, All, refl, ap, subst}
 use Rattle.fuse_keeper.specs.declared.keeper.Done.{Done}
 use Rattle.fuse_keeper.specs.Model.{Model}
-use Rattle.fuse_keeper.specs.History.{Entry, grown, IsUnsettled}
+use Rattle.fuse_keeper.specs.History.{Entry, kept_of, IsUnsettled}
 use Rattle.fuse_keeper.specs.Stands.{KeeperContent, Standing, StandsAt, without}
 use Rattle.fuse_keeper.specs.Taking.{Took, TakesAll, FirstSaid}
 use Rattle.fuse_keeper.proofs.InARow.{taken_is_performed}
@@ -37,7 +37,7 @@ taken_first M before (e ∷ first) later after (done ∷ dones) taken =
 pub first_said : (M : Model) → (before : KeeperContent M) (settled : List ℕ) (es first later : List Entry) (after : KeeperContent M) (dones : List Done)
     (at : Standing M)
     → TakesAll M (record before { records = without settled before.records }) es after dones → es ≡ first ++ later → StandsAt M before at
-    → All (IsUnsettled (at.settled ++ settled)) first → FirstSaid M at.state (grown at.history first) first dones
+    → All (IsUnsettled (at.settled ++ settled)) (kept_of M.service first) → FirstSaid M at.state at.history first dones
 first_said M before settled es first later after dones at all parts so fresh =
     let begun : KeeperContent M = record before { records = without settled before.records } in
     let some = taken_first M begun first later after dones (subst (λ (g : List Entry). TakesAll M begun g after dones) parts all) in

@@ -3,7 +3,7 @@ use Rattle.std.proofs.Common.{◌≡◌, ℕ, Bool, true, false, ◌==◌, ◌||
 use Rattle.std.proofs.Common.{arith}
 use Rattle.fuse_answer.specs.Said.{Said, FitsAnswer}
 use Rattle.fuse_keeper.specs.Model.{Model, IsSoundModel}
-use Rattle.fuse_keeper.specs.History.{Entry, entry_id, History, next_state, answer_to, has, after, said, Distinct, add, grown, repeats}
+use Rattle.fuse_keeper.specs.History.{Entry, entry_id, History, next_state, answer_to, has, after, said, Distinct, add, grown}
 
 -- a test passes or not
 pub tested : (b : Bool) → (b ≡ true) ⊎ (b ≡ false)
@@ -122,10 +122,6 @@ isnt_there M s [] i none = refl
 isnt_there M s (x ∷ h) i none =
     elim (entry_id x == i) as (λ b. (if b then Some (answer_to M s x) else said M (next_state M s x) h i) ≡ None → (if b then true else has h i) ≡ false)
     [ true ↦ λ isnt. absurd (cc isnt) | false ↦ isnt_there M (next_state M s x) h i ] none
-
-pub repeats-append : (h : History) (es : List Entry) (e : Entry) → repeats h (es ++ e ∷ []) ≡ repeats h es ++ has (grown h es) (entry_id e) ∷ []
-repeats-append h [] e = refl
-repeats-append h (x ∷ es) e = ap (λ r. has h (entry_id x) ∷ r) (repeats-append (add h x) es e)
 
 pub map-append : {A B : Type 0} (f : A → B) (xs ys : List A) → map f (xs ++ ys) ≡ map f xs ++ map f ys
 map-append f [] ys = refl

@@ -1,6 +1,7 @@
 -- Entries that are taken one after the other.
-use Rattle.std.proofs.Common.{◌≡◌, ℕ, ◌+◌, ◌<◌, zero, suc, ◌==◌, if◌then◌else◌, List, [], ◌∷◌, ◌++◌, length, take, get_or, All, Option, Some, None, refl}
-use Rattle.std.proofs.Common.{sym, ap, subst, ◌∙◌, arith}
+use Rattle.std.proofs.Common.{◌≡◌, ℕ, ◌+◌, ◌<◌, Bool, true, false, ◌==◌, if◌then◌else◌, List, [], ◌∷◌, ◌++◌, length, take, get_or, All}
+use Rattle.std.proofs.Common.{Option, Some, None, refl}
+use Rattle.std.proofs.Common.{sym, ap, subst, ◌∙◌}
 use Rattle.std.proofs.lemmas.List.{append_assoc, append-nil, take_more}
 use Rattle.fuse_wire.specs.declared.moment.Moment.{Moment}
 use Rattle.fuse_request.specs.declared.request.Request.{Request}
@@ -8,13 +9,14 @@ use Rattle.fuse_answer.specs.Said.{Said}
 use Rattle.fuse_keeper.specs.Model.{Model}
 use Rattle.fuse_keeper.specs.declared.keeper.Done.{Done}
 use Rattle.fuse_keeper.specs.declared.group.Record.{Record}
-use Rattle.fuse_keeper.specs.History.{Entry, entry_id, IsUnsettled}
+use Rattle.fuse_keeper.specs.History.{Entry, entry_id, is_seen, unless_seen, kept_of, IsUnsettled}
 use Rattle.fuse_keeper.specs.Stands.{Records, KeeperContent, Standing, without, StandsAt, AreThese, PerformedBy}
 use Rattle.fuse_keeper.specs.Group.{entry_of, entries_of}
-use Rattle.fuse_keeper.specs.Taking.{TookBy, Took, TakesAll}
+use Rattle.fuse_keeper.specs.Taking.{TookBy, TookIf, Took, TakesAll}
 use Rattle.fuse_keeper.specs.inner.Overlay.{over}
 use Rattle.fuse_keeper.proofs.Histories.{map-append}
 use Rattle.fuse_keeper.proofs.Performing.{PerformedBy-same, none_yet, one_more}
+use Rattle.fuse_keeper.proofs.Seeing.{kept_first, kept_rest}
 use Rattle.fuse_keeper.proofs.Overlays.{over-same, without-same}
 
 took_same_by : (M : Model) → (o : Option Said) (old new : KeeperContent M) (e : Entry) (after : KeeperContent M) (done : Done)
@@ -26,11 +28,17 @@ took_same_by M None old new e after done same took = (
   took.2,
 )
 
+took_same_if : (M : Model) → (seen : Bool) (old new : KeeperContent M) (e : Entry) (after : KeeperContent M) (done : Done)
+    → AreThese M old.rows old.records new.rows new.records → TookIf M seen old e after done → TookIf M seen new e after done
+took_same_if M true old new e after done same took =
+    ((took.0.0 ∙ sym same.0, λ i. took.0.1 i ∙ sym (same.1 i)), λ s good is. took.1 s good (sym same.0 ∙ is), took.2)
+took_same_if M false old new e after done same took =
+    subst (λ o. TookBy M o new e after done) (sym (same.1 (entry_id e))) (took_same_by M (old.records (entry_id e)) old new e after done same took)
+
 -- an entry is taken over the same rows and records
 pub took_same : (M : Model) → (old new : KeeperContent M) (e : Entry) (after : KeeperContent M) (done : Done)
     → AreThese M old.rows old.records new.rows new.records → Took M old e after done → Took M new e after done
-took_same M old new e after done same took =
-    subst (λ o. TookBy M o new e after done) (sym (same.1 (entry_id e))) (took_same_by M (old.records (entry_id e)) old new e after done same took)
+took_same M old new e after done same took = took_same_if M (is_seen M.service e) old new e after done same took
 
 pub none_taken : (M : Model) → (held : KeeperContent M) → TakesAll M held [] held []
 none_taken M held = (refl, λ i. refl)
@@ -62,24 +70,41 @@ one_more_taken M before (o ∷ es) mid (d ∷ dones) e after done (next, first, 
 -- more entries are taken where a group was performed
 taken_after : (M : Model) → (held : KeeperContent M) (es : List Entry) (after : KeeperContent M) (dones : List Done) (at : Standing M) (before : List Entry)
     (done_before : List Done)
-    → PerformedBy M (AreThese M held.rows held.records) at before done_before → All (IsUnsettled at.settled) es → TakesAll M held es after dones
+    → PerformedBy M (AreThese M held.rows held.records) at before done_before → All (IsUnsettled at.settled) (kept_of M.service es) → TakesAll M held es after dones
     → PerformedBy M (AreThese M after.rows after.records) at (before ++ es) (done_before ++ dones)
 taken_after M held [] after [] at before done_before so fresh all =
     rw (append-nil before, append-nil done_before) (PerformedBy-same M held after at before done_before all so)
 taken_after M held [] after (d ∷ dones) at before done_before so fresh all = absurd all
 taken_after M held (e ∷ es) after [] at before done_before so fresh all = absurd all
 taken_after M held (e ∷ es) after (d ∷ dones) at before done_before so fresh (mid, took, rest) =
-    let one = one_more M held e mid d at before done_before (fresh zero e (omega arith)) took so in
+    let one = one_more M held e mid d at before done_before (kept_first M.service (IsUnsettled at.settled) e es fresh) took so in
     let whole = taken_after M mid es after dones at (before ++ e ∷ []) (done_before ++ d ∷ []) one
-    (λ k z below. fresh (suc k) z (omega (arith, below))) rest in
+    (kept_rest M.service (IsUnsettled at.settled) e es fresh) rest in
     subst (λ ds. PerformedBy M (AreThese M after.rows after.records) at (before ++ e ∷ es) ds) (append_assoc done_before (d ∷ []) dones)
     (subst (λ xs. PerformedBy M (AreThese M after.rows after.records) at xs ((done_before ++ d ∷ []) ++ dones)) (append_assoc before (e ∷ []) es) whole)
 
 -- entries that are taken over rows and records that stand were performed
 pub taken_is_performed : (M : Model) → (before : KeeperContent M) (es : List Entry) (after : KeeperContent M) (dones : List Done) (at : Standing M)
-    → StandsAt M before at → All (IsUnsettled at.settled) es → TakesAll M before es after dones
+    → StandsAt M before at → All (IsUnsettled at.settled) (kept_of M.service es) → TakesAll M before es after dones
     → PerformedBy M (AreThese M after.rows after.records) at es dones
 taken_is_performed M before es after dones at so fresh all = taken_after M before es after dones at [] [] (none_yet M before at so) fresh all
+
+seen_step : (M : Model) → (seen : Bool) (before : KeeperContent M) (e : Entry) (after : KeeperContent M) (done : Done) (rest : List Entry)
+    → unless_seen seen e ++ rest ≡ [] → TookIf M seen before e after done
+    → AreThese M before.rows before.records after.rows after.records × (rest ≡ [])
+seen_step M true before e after done rest none took = (took.0, none)
+seen_step M false before e after done rest none took = absurd (cc none)
+
+-- seen ones leave all as it was
+pub seen_taken : (M : Model) → (before : KeeperContent M) (es : List Entry) (after : KeeperContent M) (dones : List Done)
+    → kept_of M.service es ≡ [] → TakesAll M before es after dones → AreThese M before.rows before.records after.rows after.records
+seen_taken M before [] after [] none all = all
+seen_taken M before [] after (d ∷ dones) none all = absurd all
+seen_taken M before (e ∷ es) after [] none all = absurd all
+seen_taken M before (e ∷ es) after (d ∷ dones) none (mid, took, rest) =
+    let step = seen_step M (is_seen M.service e) before e mid d (kept_of M.service es) none took in
+    let later = seen_taken M mid es after dones step.1 rest in
+    (later.0 ∙ step.0.0, λ i. later.1 i ∙ step.0.1 i)
 
 -- ---- steps of a loop
 

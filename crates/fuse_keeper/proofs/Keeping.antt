@@ -60,6 +60,10 @@ pub or-true : (b : Bool) → (b || true) ≡ true
 or-true true = refl
 or-true false = refl
 
+pub or-false : (b : Bool) → b ≡ (b || false)
+or-false true = refl
+or-false false = refl
+
 -- ---- lots: there are none
 
 pub lots_stay : SameLots no_lots no_lots

@@ -1,4 +1,5 @@
 mod Histories
+mod Seeing
 mod Standing
 mod Settled
 mod Firsts

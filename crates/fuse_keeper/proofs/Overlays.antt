@@ -3,16 +3,17 @@ use Rattle.std.proofs.Common.{◌≡◌, ◌||◌, ℕ, Bool, true, false, ◌==
 use Rattle.std.proofs.Common.{nat_eq, cond, arith, get_or}
 use Rattle.fuse_wire.specs.declared.moment.Moment.{Moment}
 use Rattle.fuse_request.specs.declared.request.Request.{Request}
+use Rattle.fuse_request.specs.Opcodes.{Service}
 use Rattle.fuse_answer.specs.Said.{Said}
 use Rattle.fuse_keeper.specs.Model.{Model, IsOfGoodState}
 use Rattle.fuse_keeper.specs.declared.group.Record.{Record}
 use Rattle.fuse_keeper.specs.declared.keeper.Done.{Done}
-use Rattle.fuse_keeper.specs.History.{Entry, entry_id, next_state, is_in, ids_in, Includes}
+use Rattle.fuse_keeper.specs.History.{Entry, entry_id, is_seen, kept_one, next_state, is_in, ids_in, Includes}
 use Rattle.fuse_keeper.specs.Stands.{Records, KeeperContent, Standing, StandsAt, StandsBy, AreThese, PerformedBy, OthersStay, without}
 use Rattle.fuse_keeper.specs.Group.{entry_of}
-use Rattle.fuse_keeper.specs.Taking.{Acts, Took, TookBy}
+use Rattle.fuse_keeper.specs.Taking.{Acts, Took, TookBy, TookIf}
 use Rattle.fuse_keeper.specs.inner.Overlay.{listed, first_of, over, record_ids}
-use Rattle.fuse_keeper.proofs.Histories.{tested, map-append}
+use Rattle.fuse_keeper.proofs.Histories.{tested, same_id, map-append}
 use Rattle.fuse_keeper.proofs.Standing.{same_number, unsettled_too, Stands-without}
 use Rattle.fuse_keeper.proofs.Settled.{is_in-append}
 use Rattle.fuse_keeper.proofs.Performing.{these_stand, none_yet, PerformedBy-same}
@@ -68,19 +69,27 @@ without-same settled records others i is = ap (λ (o : Option Said). if is_in se
 
 -- ---- an id that is known, and one that isn't
 
-pub took_known : (M : Model) → (rows : M.Rows) (records : Records) (e : Entry) (known : Said) (done : Done) → records (entry_id e) ≡ Some known
+pub took_known : (M : Model) → (rows : M.Rows) (records : Records) (e : Entry) (known : Said) (done : Done) → is_seen M.service e ≡ false
+    → records (entry_id e) ≡ Some known
     → done.answer ≡ known → done.repeated ≡ true
     → Took M (record { rows = rows; records = records }) e (record { rows = rows; records = records }) done
-took_known M rows records e known done is answer repeated =
-    rw is (refl, λ i. refl, answer, repeated)
+took_known M rows records e known done kept is answer repeated =
+    rw (kept, is) (refl, λ i. refl, answer, repeated)
 
 pub took_new : (M : Model) → (rows : M.Rows) (base : Records) (added : List Record) (e : Entry) (rows' : M.Rows) (r : Record) (added' : List Record)
     (done : Done)
-    → over added base (entry_id e) ≡ None → Acts M rows e rows' done.answer → added' ≡ added ++ r ∷ [] → r.id ≡ entry_id e → r.answer ≡ done.answer
+    → is_seen M.service e ≡ false → over added base (entry_id e) ≡ None → Acts M rows e rows' done.answer → added' ≡ added ++ r ∷ [] → r.id ≡ entry_id e → r.answer ≡ done.answer
     → done.repeated ≡ false
     → Took M (record { rows = rows; records = over added base }) e (record { rows = rows'; records = over added' base }) done
-took_new M rows base added e rows' r added' done none acts is id answer repeated =
-    rw none (acts, λ i. ap (λ l. over l base i) is ∙ one_more_over added r base i (ap (over added base) id ∙ none) ∙ rw (id, answer), repeated)
+took_new M rows base added e rows' r added' done kept none acts is id answer repeated =
+    rw (kept, none) (acts, λ i. ap (λ l. over l base i) is ∙ one_more_over added r base i (ap (over added base) id ∙ none) ∙ rw (id, answer), repeated)
+
+-- a seen one
+pub took_seen : (M : Model) → (rows : M.Rows) (records : Records) (e : Entry) (rows' : M.Rows) (done : Done) → is_seen M.service e ≡ true
+    → Acts M rows e rows' done.answer → rows' ≡ rows → done.repeated ≡ false
+    → Took M (record { rows = rows; records = records }) e (record { rows = rows'; records = records }) done
+took_seen M rows records e rows' done seen acts same repeated =
+    rw seen ((same, λ i. refl), λ s good is. (acts s good is).answer_is, repeated)
 
 took_rowed_by : (M : Model) → (o : Option Said) (before : KeeperContent M) (e : Entry) (after : KeeperContent M) (done : Done)
     → TookBy M o before e after done → IsOfGoodState M before.rows → IsOfGoodState M after.rows
@@ -90,10 +99,16 @@ took_rowed_by M None before e after done took (s, tree, is) =
     let acted = took.0 s tree is in
     (next_state M s e, acted.tree, acted.rows_are)
 
+took_rowed_if : (M : Model) → (seen : Bool) (before : KeeperContent M) (e : Entry) (after : KeeperContent M) (done : Done)
+    → TookIf M seen before e after done → IsOfGoodState M before.rows → IsOfGoodState M after.rows
+unfolding IsOfGoodState
+took_rowed_if M true before e after done took (s, tree, is) = (s, tree, took.0.0 ∙ is)
+took_rowed_if M false before e after done took so = took_rowed_by M (before.records (entry_id e)) before e after done took so
+
 -- the rows stay those of a tree
 pub took_rowed : (M : Model) → (before : KeeperContent M) (e : Entry) (after : KeeperContent M) (done : Done)
     → Took M before e after done → IsOfGoodState M before.rows → IsOfGoodState M after.rows
-took_rowed M before e after done took so = took_rowed_by M (before.records (entry_id e)) before e after done took so
+took_rowed M before e after done took so = took_rowed_if M (is_seen M.service e) before e after done took so
 
 -- of an entry of a group
 pub took_rowed_at : (M : Model) → (group : List (Request × Moment)) (i : ℕ) (d : Request × Moment) (before after : KeeperContent M) (done : Done)
@@ -173,6 +188,12 @@ ids_pushed added new r k i same is there = elim (tested (is_in (record_ids added
       let whole = ap (λ l. is_in l i) (ap record_ids is ∙ map-append (λ (x : Record). x.id) added (r ∷ [])) in
       rw absent at (sym parts ∙ sym whole ∙ there)) ∙ same)
 ]
+
+-- the id of a kept entry is that of the kept ones
+pub id_of_kept : (V : Service) (e : Entry) (i : ℕ) {P : Type 0} → is_seen V e ≡ false → P ⊎ (i ≡ entry_id e)
+    → P ⊎ (is_in (ids_in (kept_one V e)) i ≡ true)
+id_of_kept V e i kept (inl before) = inl before
+id_of_kept V e i kept (inr is) = inr (rw (kept, is) (ap (λ b. b || false) (same_id (entry_id e))))
 
 -- ---- a group over the records that aren't settled
 

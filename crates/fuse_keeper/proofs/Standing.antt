@@ -1,14 +1,14 @@
 -- What stands for a history, and how one entry more is taken.
-use Rattle.std.proofs.Common.{◌≡◌, ℕ, Bool, true, false, ◌==◌, inl, inr, if◌then◌else◌, List, [], ◌∷◌, ◌++◌, Option, Some, None, refl, sym, ap, subst, ◌∙◌}
+use Rattle.std.proofs.Common.{◌≡◌, ℕ, zero, Bool, true, false, ◌==◌, ◌&&◌, not, All, inl, inr, if◌then◌else◌, List, [], ◌∷◌, ◌++◌, Option, Some, None, refl, sym, ap, subst, ◌∙◌}
 use Rattle.std.proofs.Common.{arith}
 use Rattle.std.proofs.lemmas.Bool.{false_from_ne_true, both_ways}
 use Rattle.fuse_answer.specs.Said.{Said}
 use Rattle.fuse_keeper.specs.Model.{Model, IsOfGoodState}
 use Rattle.fuse_keeper.specs.declared.keeper.Done.{Done}
-use Rattle.fuse_keeper.specs.History.{Entry, entry_id, History, answer_to, has, after, said, add, is_in, Includes, IsUnsettled}
+use Rattle.fuse_keeper.specs.History.{Entry, entry_id, History, is_seen, answer_to, has, after, said, grown, unless_seen, kept_one, answer_if, is_in, Includes, IsUnsettled}
 use Rattle.fuse_keeper.specs.History as history
 use Rattle.fuse_keeper.specs.Stands.{Records, KeeperContent, Standing, Stands, StandsAt, AreThese}
-use Rattle.fuse_keeper.specs.Taking.{ActedOn, TookBy, Took}
+use Rattle.fuse_keeper.specs.Taking.{ActedOn, TookBy, TookIf, Took}
 use Rattle.fuse_keeper.proofs.Histories.{tested, after-append, said_none, said-append_old, said-append_new, Distinct-append, add_old, add_new, same_id, found}
 use Rattle.fuse_keeper.proofs.Histories.{isnt_there, no_history, nothing_said, Distinct-none}
 
@@ -126,14 +126,14 @@ Stands-settled M rows records s h t more within so = record {
 
 -- ---- one entry taken
 
--- what one entry leads to
-pub record Advanced (M : Model) (after : KeeperContent M) (at : Standing M) (e : Entry) (done : Done) : Type 0 where
-  pub stands : Stands M after.rows after.records at.state (add at.history e) at.settled
-  pub answer : said M at.state (add at.history e) (entry_id e) ≡ Some done.answer
-  pub repeated : done.repeated ≡ has at.history (entry_id e)
+-- what one entry leads to, if it is seen and if it is kept
+pub record AdvancedIf (M : Model) (seen : Bool) (after : KeeperContent M) (at : Standing M) (e : Entry) (done : Done) : Type 0 where
+  pub stands : Stands M after.rows after.records at.state (grown at.history (unless_seen seen e)) at.settled
+  pub answer : answer_if M seen at.state at.history e ≡ Some done.answer
+  pub repeated : done.repeated ≡ (not seen && has at.history (entry_id e))
 
 advanced_by : (M : Model) → (o : Option Said) (before : KeeperContent M) (e : Entry) (after : KeeperContent M) (done : Done) (at : Standing M)
-    → IsUnsettled at.settled e → before.records (entry_id e) ≡ o → TookBy M o before e after done → StandsAt M before at → Advanced M after at e done
+    → IsUnsettled at.settled e → before.records (entry_id e) ≡ o → TookBy M o before e after done → StandsAt M before at → AdvancedIf M false after at e done
 advanced_by M (Some known) before e after done at fresh is took so =
     let says = sym (so.kept (entry_id e) fresh) ∙ is in
     let there = found M at.state at.history (entry_id e) known says in
@@ -159,6 +159,17 @@ advanced_by M None before e after done at fresh is took so =
       repeated = took.2 ∙ sym none;
     }
 
+advanced_if : (M : Model) → (seen : Bool) (before : KeeperContent M) (e : Entry) (after : KeeperContent M) (done : Done) (at : Standing M)
+    → All (IsUnsettled at.settled) (unless_seen seen e) → TookIf M seen before e after done → StandsAt M before at → AdvancedIf M seen after at e done
+advanced_if M true before e after done at fresh took so = record {
+  stands = Stands-same M before.rows before.records after.rows after.records at.state at.history at.settled took.0 so;
+  answer = ap Some (sym (took.1 (history.after M at.state at.history) so.tree so.rows_are));
+  repeated = took.2;
+}
+advanced_if M false before e after done at fresh took so =
+    advanced_by M (before.records (entry_id e)) before e after done at (fresh zero e (omega arith)) refl took so
+
 pub advanced : (M : Model) → (before : KeeperContent M) (e : Entry) (after : KeeperContent M) (done : Done) (at : Standing M)
-    → IsUnsettled at.settled e → Took M before e after done → StandsAt M before at → Advanced M after at e done
-advanced M before e after done at fresh took so = advanced_by M (before.records (entry_id e)) before e after done at fresh refl took so
+    → All (IsUnsettled at.settled) (kept_one M.service e) → Took M before e after done → StandsAt M before at
+    → AdvancedIf M (is_seen M.service e) after at e done
+advanced M before e after done at fresh took so = advanced_if M (is_seen M.service e) before e after done at fresh took so

@@ -1,9 +1,10 @@
--- Histories: the requests that were performed, each once (defined by this project).
-use Rattle.std.specs.Prelude.{◌≡◌, ℕ, Bool, true, false, ◌==◌, if◌then◌else◌, List, [], ◌∷◌, ◌++◌, map, Option, Some, None}
-use Rattle.std.specs.List.{fold, list_any}
+-- Histories: the kept requests that were performed, each once (defined by this project).
+use Rattle.std.specs.Prelude.{◌≡◌, ℕ, Bool, true, false, ◌==◌, ◌&&◌, not, if◌then◌else◌, List, [], ◌∷◌, ◌++◌, map, Option, Some, None}
+use Rattle.std.specs.List.{fold, flat_map, list_any}
 use Rattle.fuse_wire.specs.Ids.{id_of}
 use Rattle.fuse_wire.specs.declared.moment.Moment.{Moment}
-use Rattle.fuse_request.specs.Act.{Asked}
+use Rattle.fuse_request.specs.Act.{Asked, opcode_of}
+use Rattle.fuse_request.specs.Opcodes.{Service}
 use Rattle.fuse_answer.specs.Said.{Said, FitsAnswer}
 use Rattle.fuse_keeper.specs.Model.{Model}
 
@@ -15,7 +16,11 @@ pub record Entry : Type 0 where
 abbrev pub entry_id : Entry → ℕ
 entry_id e = id_of e.asked.header.unique
 
--- the requests that were performed, in order
+-- it changes nothing and leaves no record
+abbrev pub is_seen : Service → Entry → Bool
+is_seen V e = V.sees (opcode_of e.asked.act)
+
+-- the kept requests that were performed, in order
 abbrev pub History : Type 0
 History = List Entry
 
@@ -50,22 +55,43 @@ Distinct (e ∷ h) = (has h (entry_id e) ≡ false) × Distinct h
 unfoldable pub add : History → Entry → History
 add h e = if has h (entry_id e) then h else h ++ e ∷ []
 
--- a group is added in order
+-- kept entries are added in order
 abbrev pub grown : History → List Entry → History
 grown h es = fold add h es
 
--- what each entry of a group is answered, right after it
-abbrev pub said_after_each : (M : Model) → M.State → History → List Entry → List (Option Said)
-said_after_each M s h [] = []
-said_after_each M s h (e ∷ es) = said M s (add h e) (entry_id e) ∷ said_after_each M s (add h e) es
+-- the entry, if it isn't seen
+abbrev pub unless_seen : Bool → Entry → List Entry
+unless_seen true e = []
+unless_seen false e = e ∷ []
 
--- an entry that is added is there, and when the history grows the answer to an id that is there stays, and no id stands twice. So what
--- the history says of each entry of a group is what it said right after that entry
+abbrev pub kept_one : Service → Entry → List Entry
+kept_one V e = unless_seen (is_seen V e) e
+
+-- the kept ones of a group
+abbrev pub kept_of : Service → List Entry → List Entry
+kept_of V es = flat_map (kept_one V) es
+
+-- the answer to an entry that comes after this history: to a seen one that of the state, to a kept one the one said of its id
+abbrev pub answer_if : (M : Model) → Bool → M.State → History → Entry → Option Said
+answer_if M true s h e = Some (answer_to M (after M s h) e)
+answer_if M false s h e = said M s (add h e) (entry_id e)
+
+abbrev pub answer_after : (M : Model) → M.State → History → Entry → Option Said
+answer_after M s h e = answer_if M (is_seen M.service e) s h e
+
+-- the answers to a group, each after the kept entries before it
+abbrev pub answers_over : (M : Model) → M.State → History → List Entry → List (Option Said)
+answers_over M s h [] = []
+answers_over M s h (e ∷ es) = answer_after M s h e ∷ answers_over M s (grown h (kept_one M.service e)) es
+
+-- an entry that is added is there, and when the history grows the answer to an id that is there stays, and no id stands twice. One entry
+-- more of a group is answered after the kept ones before it
 pub record HistoriesGrow (M : Model) : Type 0 where
   pub added : (h : History) (e : Entry) → has (add h e) (entry_id e) ≡ true
   pub stays : (s : M.State) (h : History) (more : List Entry) (i : ℕ) → has h i ≡ true → said M s (grown h more) i ≡ said M s h i
   pub distinct : (h : History) (more : List Entry) → Distinct h → Distinct (grown h more)
-  pub each : (s : M.State) (h : History) (es : List Entry) → map (λ e. said M s (grown h es) (entry_id e)) es ≡ said_after_each M s h es
+  pub one_more : (s : M.State) (h : History) (es : List Entry) (e : Entry)
+      → answers_over M s h (es ++ e ∷ []) ≡ answers_over M s h es ++ answer_after M s (grown h (kept_of M.service es)) e ∷ []
 
 -- whether an id is one of these
 abbrev pub is_in : List ℕ → ℕ → Bool
@@ -83,10 +109,14 @@ IsUnsettled settled e = is_in settled (entry_id e) ≡ false
 abbrev pub ids_in : List Entry → List ℕ
 ids_in group = map entry_id group
 
+-- a kept entry repeats an id that is there
+abbrev pub repeats_one : Service → History → Entry → Bool
+repeats_one V h e = not (is_seen V e) && has h (entry_id e)
+
 -- which entries of a group repeat an id that was there before
-abbrev pub repeats : History → List Entry → List Bool
-repeats h [] = []
-repeats h (e ∷ es) = has h (entry_id e) ∷ repeats (add h e) es
+abbrev pub repeats : Service → History → List Entry → List Bool
+repeats V h [] = []
+repeats V h (e ∷ es) = repeats_one V h e ∷ repeats V (grown h (kept_one V e)) es
 
 -- the answer to an id has no body beside an error, and none that is too long
 abbrev pub SaidFits : (M : Model) → Type 0

@@ -3,7 +3,7 @@ use Rattle.std.specs.Prelude.{◌≡◌, ◌||◌, ◌⊎◌, ℕ, ◌+◌, Bool
 use Rattle.fuse_keeper.specs.declared.fault.StoreFault.{StoreFault}
 use Rattle.fuse_keeper.specs.declared.keeper.Done.{Done}
 use Rattle.fuse_keeper.specs.Model.{Model, IsOfGoodState}
-use Rattle.fuse_keeper.specs.History.{Entry, History, after, grown, Includes, IsUnsettled}
+use Rattle.fuse_keeper.specs.History.{Entry, History, after, grown, kept_of, Includes, IsUnsettled}
 use Rattle.fuse_keeper.specs.Lots.{Lots, SameLots, RecordsUnder, AreGone, AreReopened}
 use Rattle.fuse_keeper.specs.Taking.{TakesAll}
 use Rattle.fuse_keeper.specs.Stands.{Records, KeeperContent, AreThese, without, StandsBy, PerformedBy, LeavesBy, IsFirmBy, KeepsHeldBy, StandsForEither, OthersStay}
@@ -32,7 +32,7 @@ pub record KeeperState (M : Model) : Type 1 where
 abbrev pub StandsFor : {M : Model} → KeeperState M → M.State → History → List ℕ → Type 0
 StandsFor {M} k s h t = StandsBy M k.holds s h t
 
--- a group was performed: the history grew by it, and each answer is the one said in it
+-- a group was performed: the history grew by its kept entries, and each answer is the one at its place
 abbrev pub Performed : {M : Model} → KeeperState M → M.State → History → List ℕ → List Entry → List Done → Type 0
 Performed {M} k s h t group dones = PerformedBy M k.holds (record { state = s; history = h; settled = t }) group dones
 
@@ -91,7 +91,7 @@ Reports old new P = new.is_honest → OfHeld old P
 -- a group is performed, whichever history it stands for, where `t` are ids settled before and in this call
 abbrev pub Performs : {M : Model} → KeeperState M → KeeperState M → List ℕ → List Entry → List Done → Type 0
 Performs {M} old new settled group dones = new.is_honest → (s : M.State) (h : History) (t : List ℕ) → StandsFor old s h t
-    → Includes t settled → All (IsUnsettled t) group → Performed new s h t group dones
+    → Includes t settled → All (IsUnsettled t) (kept_of M.service group) → Performed new s h t group dones
 
 -- it holds rows and records to which the group leads over these, entry after entry
 pub record HoldsTaken {M : Model} (k : KeeperState M) (before : M.Rows) (others : Records) (group : List Entry) (dones : List Done) : Type 0 where
@@ -110,20 +110,20 @@ pub record HoldsOthers {M : Model} (k : KeeperState M) (before : Records) (settl
   pub records : Records
   pub held : k.holds rows records
   pub rowed : IsOfGoodState M rows
-  pub others : OthersStay before settled group records
+  pub others : OthersStay before settled (kept_of M.service group) records
 
 abbrev pub KeepsOthers : {M : Model} → KeeperState M → KeeperState M → List ℕ → List Entry → Type 0
 KeepsOthers old new settled group = Reports old new (λ rows records. HoldsOthers new records settled group)
 
--- which lot the records of a group go under
+-- which lot the records of a group's kept entries go under
 abbrev pub KeepsLots : {M : Model} → KeeperState M → KeeperState M → List ℕ → List Entry → Type 0
-KeepsLots old new settled group = Reports old new (λ rows records. RecordsUnder old.lots new.lots records settled group)
+KeepsLots {M} old new settled group = Reports old new (λ rows records. RecordsUnder old.lots new.lots records settled (kept_of M.service group))
 
 -- a crash leaves the group out or in
 abbrev pub LeavesGroup : {M : Model} → KeeperState M → KeeperState M → List ℕ → List Entry → Type 0
 LeavesGroup {M} old new settled group = (s : M.State) (h : History) (t : List ℕ) → StandsFor old s h t
-    → Includes t settled → All (IsUnsettled t) group → IsFirm old
-    → Leaves new (StandsForEither M (record { state = s; history = h; settled = t }) (record { state = s; history = grown h group; settled = t }))
+    → Includes t settled → All (IsUnsettled t) (kept_of M.service group) → IsFirm old
+    → Leaves new (StandsForEither M (record { state = s; history = h; settled = t }) (record { state = s; history = grown h (kept_of M.service group); settled = t }))
 
 -- these are what was held, or what the group leads to from there without the settled records
 abbrev pub AreHeldOrTaken : (M : Model) → KeeperContent M → List ℕ → List Entry → M.Rows → Records → Type 0

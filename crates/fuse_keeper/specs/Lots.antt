@@ -32,7 +32,7 @@ pub record TakesLot (old new : Lots) : Type 0 where
 abbrev pub IsFree : (ℕ → Option Said) → List ℕ → ℕ → Type 0
 IsFree records settled i = (records i ≡ None) ⊎ (is_in settled i ≡ true)
 
--- a group was performed: at most one lot was taken, where there was none, and under it alone records were added
+-- kept entries were performed: at most one lot was taken, where there was none, and under it alone records were added
 pub record RecordsUnder (old new : Lots) (records : ℕ → Option Said) (settled : List ℕ) (group : List Entry) : Type 0 where
   pub kept : (lot : ℕ) → old.current ≡ Some lot → (new.current ≡ Some lot) × (new.numbers ≡ old.numbers)
   pub taken : old.current ≡ None → TakesLot old new ⊎ ((new.current ≡ None) × (new.numbers ≡ old.numbers))

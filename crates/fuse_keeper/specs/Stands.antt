@@ -4,7 +4,7 @@ use Rattle.std.specs.List.{IsDistinct}
 use Rattle.fuse_answer.specs.Said.{Said}
 use Rattle.fuse_keeper.specs.Model.{Model}
 use Rattle.fuse_keeper.specs.declared.keeper.Done.{Done}
-use Rattle.fuse_keeper.specs.History.{Entry, entry_id, History, after, said, Distinct, grown, is_in, Includes, ids_in, repeats}
+use Rattle.fuse_keeper.specs.History.{Entry, History, after, said, Distinct, grown, kept_of, answers_over, is_in, Includes, ids_in, repeats}
 
 -- the record of each id
 abbrev pub Records : Type 0
@@ -15,7 +15,7 @@ pub record KeeperContent (M : Model) : Type 0 where
   pub rows : M.Rows
   pub records : Records
 
--- a start, the requests that were performed since, and the settled ids
+-- a start, the kept requests that were performed since, and the settled ids
 pub record Standing (M : Model) : Type 0 where
   pub state : M.State
   pub history : History
@@ -44,11 +44,11 @@ pub record StandsBy (M : Model) (holds : M.Rows → Records → Type 0) (s : M.S
   pub held : holds rows records
   pub stands : Stands M rows records s h settled
 
--- a group was performed: the history grew by it, and each answer is the one said in it
+-- a group was performed: the history grew by its kept entries, and each answer is the one at its place
 pub record PerformedBy (M : Model) (holds : M.Rows → Records → Type 0) (at : Standing M) (group : List Entry) (dones : List Done) : Type 0 where
-  pub stands : StandsBy M holds at.state (grown at.history group) at.settled
-  pub answers : map (λ d. Some d.answer) dones ≡ map (λ e. said M at.state (grown at.history group) (entry_id e)) group
-  pub repeated : map (λ d. d.repeated) dones ≡ repeats at.history group
+  pub stands : StandsBy M holds at.state (grown at.history (kept_of M.service group)) at.settled
+  pub answers : map (λ d. Some d.answer) dones ≡ answers_over M at.state at.history group
+  pub repeated : map (λ d. d.repeated) dones ≡ repeats M.service at.history group
 
 -- these rows, and under each id this record
 abbrev pub AreThese : (M : Model) → M.Rows → Records → M.Rows → Records → Type 0
@@ -77,7 +77,7 @@ pub record StillStands (M : Model) : Type 0 where
 abbrev pub StandsForEither : (M : Model) → Standing M → Standing M → M.Rows → Records → Type 0
 StandsForEither M first second x r = StandsAt M (record { rows = x; records = r }) first ⊎ StandsAt M (record { rows = x; records = r }) second
 
--- after a group: the records of other ids are those of before, without the settled ones
+-- after kept entries: the records of other ids are those of before, without the settled ones
 abbrev pub OthersStay : Records → List ℕ → List Entry → Records → Type 0
 OthersStay records settled group records' = (i : ℕ) → is_in (ids_in group) i ≡ false → records' i ≡ (if is_in settled i then None else records i)
 

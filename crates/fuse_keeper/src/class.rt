@@ -8,11 +8,13 @@ use crate::keeper::Keeper;
 use fuse_request::{Class, classify_for};
 use fuse_wire::u32_at;
 
-/// The class of a whole message: one whose opcode the file system serves is kept. Takes no memory.
+/// The class of a whole message: one whose opcode the file system serves is kept, or seen where it
+/// sees such requests. Takes no memory.
 pub fn classify<K: Keeper>(message: &[u8]) -> Class
     requires header { min_message_len ≤ length message.now }
     requires len { number_of 4 message.now ≡ length message.now }
-    ensures { result ≡ class_for K.model.serves message.now }
+    ensures { result ≡ class_for K.model.service message.now }
 {
-    classify_for(message, K::serves(u32_at(message, 4)))
+    let opcode = u32_at(message, 4);
+    classify_for(message, K::serves(opcode), K::sees(opcode))
 }

@@ -1,7 +1,8 @@
 // A file system in memory.
-ghost use Rattle.std.specs.Prelude.{◌≡◌, IfOk, IfErr, OnOk};
+ghost use Rattle.std.specs.Prelude.{◌≡◌, true, IfOk, IfErr, OnOk};
 ghost use Rattle.fuse_keeper.specs.Model.{Model, IsOfGoodState, IsSoundModel};
-ghost use Rattle.fuse_keeper.specs.Group.{entry_of, IsKept};
+ghost use Rattle.fuse_keeper.specs.Group.{entry_of, IsPerformed};
+ghost use Rattle.fuse_keeper.specs.History.{is_seen};
 ghost use Rattle.fuse_keeper.specs.Taking.{Acts, Clears};
 
 use crate::fault::StoreFault;
@@ -25,7 +26,12 @@ pub trait FileSystem: Drop {
     /// Whether it serves an opcode that isn't of the profile. It gets such a request as
     /// `Op::Further`, with the body as bytes.
     fn serves(opcode: u32) -> bool
-        ensures { result ≡ model.serves opcode };
+        ensures { result ≡ model.service.serves opcode };
+
+    /// Whether it sees the requests of an opcode that it serves or that is of the profile: they
+    /// change nothing.
+    fn sees(opcode: u32) -> bool
+        ensures { result ≡ model.service.sees opcode };
 
     /// A new one, made at this moment.
     fn start(alloc: Global, now: Moment) -> Result<Self, Memory>
@@ -39,9 +45,12 @@ pub trait FileSystem: Drop {
         now: Moment,
     ) -> Result<Answer, StoreFault>
         requires ready { is_ready self.old }
-        requires kept { IsKept model (entry_of (request.now, now)) }
+        requires performed { IsPerformed model (entry_of (request.now, now)) }
         ensures acts { IfOk result (λ answer. Acts model (held self.old)
             (entry_of (request.now, now)) (held self.new) answer) }
+        // A seen request changes nothing, whatever the rows are.
+        ensures same { OnOk result (is_seen model.service (entry_of (request.now, now)) ≡ true
+            → held self.new ≡ held self.old) }
         ensures ready { OnOk result (is_ready self.new) }
         // Over a good state the only fault is out of memory.
         ensures fault { IfErr result

@@ -5,10 +5,10 @@ ghost use Rattle.std.specs.Prelude.{◌≤◌, vec_len};
 ghost use Rattle.std.specs.HashMap.{spare};
 ghost use Rattle.std.specs.Option.{option_copied};
 ghost use Rattle.fuse_keeper.specs.History.{History, entry_id, is_in, ids_in, Includes};
-ghost use Rattle.fuse_keeper.specs.History.{IsUnsettled};
+ghost use Rattle.fuse_keeper.specs.History.{IsUnsettled, kept_one, kept_of};
 ghost use Rattle.fuse_keeper.specs.Model.{IsOfGoodState};
 ghost use Rattle.fuse_keeper.specs.Stands.{AreThese, Stands, PerformedBy, without};
-ghost use Rattle.fuse_keeper.specs.Group.{entry_of, entries_of, IsKept, ids_of};
+ghost use Rattle.fuse_keeper.specs.Group.{entry_of, entries_of, IsPerformed, ids_of};
 ghost use Rattle.fuse_keeper.specs.Taking.{Took, TakesAll};
 ghost use Rattle.fuse_keeper.specs.Plain.{mapped};
 ghost use Rattle.fuse_keeper.specs.inner.Overlay.{listed, over, record_ids};
@@ -89,7 +89,7 @@ fn take_one<F: FileSystem>(
     now: Moment,
 ) -> Result<Done, StoreFault>
     requires ready { F.is_ready draft.old.rows }
-    requires kept { IsKept F.model (entry_of (request.now, now)) }
+    requires performed { IsPerformed F.model (entry_of (request.now, now)) }
     ensures took { IfOk result (λ done. Took F.model
         (record {
           rows = F.held draft.old.rows;
@@ -105,10 +105,16 @@ fn take_one<F: FileSystem>(
     ensures ready { OnOk result (F.is_ready draft.new.rows) }
     ensures ids { OnOk result ((i : ℕ) → is_in (record_ids draft.new.added.items) i ≡ true
         → (is_in (record_ids draft.old.added.items) i ≡ true)
-        ⊎ (i ≡ entry_id (entry_of (request.now, now)))) }
+        ⊎ (is_in (ids_in (kept_one F.model.service (entry_of (request.now, now)))) i ≡ true)) }
     ensures fault { IfErr result (λ f. IsOfGoodState F.model (F.held draft.old.rows)
         → f ≡ StoreFault.Memory) }
 {
+    if F::sees(request.op.opcode()) {
+        return Ok(Done {
+            answer: draft.rows.act(alloc, request, now)?,
+            repeated: false,
+        });
+    }
     let id = Id::of(request.header.unique).0;
     if let Some(answer) = known(records, settled, draft.added.as_slice(), id) {
         return Ok(Done {
@@ -140,10 +146,10 @@ pub(crate) fn take_all<F: FileSystem>(
     settled: &[Id],
     group: &[(Request<'_>, Moment)],
 ) -> Result<Taken<F>, StoreFault>
-    requires { All (IsKept F.model) (entries_of group.now) }
+    requires { All (IsPerformed F.model) (entries_of group.now) }
     ensures performed { IfOk result (λ taken. (s : F.model.State) (h : History) (t : List ℕ)
         → Stands F.model (F.held rows.now) (without (ids_of settled.now) (mapped records.now)) s h t
-        → All (IsUnsettled t) (entries_of group.now)
+        → All (IsUnsettled t) (kept_of F.model.service (entries_of group.now))
         → PerformedBy F.model (AreThese F.model (F.held taken.draft.rows)
         (over taken.draft.added.items (without (ids_of settled.now) (mapped records.now))))
         (record { state = s; history = h; settled = t })
@@ -161,7 +167,8 @@ pub(crate) fn take_all<F: FileSystem>(
         }) taken.dones.items) }
     ensures count { IfOk result (λ taken. length taken.dones.items ≡ length group.now) }
     ensures ready { IfOk result (λ taken. F.is_ready taken.draft.rows) }
-    ensures ids { IfOk result (λ taken. Includes (ids_in (entries_of group.now))
+    ensures ids { IfOk result (λ taken. Includes
+        (ids_in (kept_of F.model.service (entries_of group.now)))
         (record_ids taken.draft.added.items)) }
     ensures rowed { IfOk result (λ taken. IsOfGoodState F.model (F.held rows.now)
         → IsOfGoodState F.model (F.held taken.draft.rows)) }

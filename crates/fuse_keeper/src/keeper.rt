@@ -6,7 +6,7 @@ ghost use Rattle.fuse_keeper.specs.KeeperState.{KeeperState, IsSound, IsFirm, Is
 ghost use Rattle.fuse_keeper.specs.KeeperState.{AnswersNoMore, Called, Looked, Performs};
 ghost use Rattle.fuse_keeper.specs.KeeperState.{ActsOn, KeepsOthers, KeepsLots, LeavesGroup, LeavesActed};
 ghost use Rattle.fuse_keeper.specs.KeeperState.{BeginsMount, DropsLots, LeavesMount};
-ghost use Rattle.fuse_keeper.specs.Group.{entries_of, HasId, IsKept, ids_of};
+ghost use Rattle.fuse_keeper.specs.Group.{entries_of, HasId, IsPerformed, OnlySees, ids_of};
 ghost use Rattle.fuse_keeper.specs.Performance.{Performance, IsPerformanceLog};
 
 use crate::fault::StoreFault;
@@ -39,7 +39,7 @@ pub struct StoreCounts {
 
 /// A store of a file system and of the recorded answers.
 ///
-/// A history is the requests that were performed since a start, each id once. Nothing stores it: a
+/// A history is the kept requests performed since a start, each id once. Nothing stores it: a
 /// keeper stands for a history where its rows and records are those that the history leads to.
 /// A start is a state whose mount begins, and the settled ids are those whose records may be gone.
 pub trait Keeper: Drop {
@@ -59,10 +59,16 @@ pub trait Keeper: Drop {
 
     /// Whether its file system serves an opcode that isn't of the profile.
     fn serves(opcode: u32) -> bool
-        ensures { result ≡ model.serves opcode };
+        ensures { result ≡ model.service.serves opcode };
 
-    /// Removes the records of settled ids, then performs a group, all in one transaction. A request
-    /// whose id is recorded, in the group too, is a repeat.
+    /// Whether it sees the requests of an opcode that it serves or that is of the profile: they
+    /// change nothing and leave no record.
+    fn sees(opcode: u32) -> bool
+        ensures { result ≡ model.service.sees opcode };
+
+    /// Removes the records of settled ids, then performs a group, all in one transaction. A kept
+    /// request whose id is recorded, in the group too, is a repeat. A seen one is answered anew, in
+    /// the state after the kept ones before it.
     fn perform(
         &mut self,
         group: &[(Request<'_>, Moment)],
@@ -71,12 +77,15 @@ pub trait Keeper: Drop {
         requires short { length group.now ≤ MAX_GROUP }
         requires few { length settled.now ≤ MAX_SETTLED }
         requires named { All HasId (entries_of group.now) }
-        requires kept { All (IsKept model) (entries_of group.now) }
+        requires performed { All (IsPerformed model) (entries_of group.now) }
         ensures count { IfOk result (λ dones. length dones.items ≡ length group.now) }
         ensures called { Called (told self.old) (told self.new) result }
         ensures may { AnswersNoMore (told self.old) (told self.new) }
         ensures ok { IfOk result (λ dones. Performs (told self.old) (told self.new)
             (ids_of settled.now) (entries_of group.now) dones.items) }
+        // Where nothing is to be kept it only looks: there is no transaction that changes anything.
+        ensures looked { OnlySees model.service (entries_of group.now) (ids_of settled.now)
+            → Looked (told self.old) (told self.new) result }
         // The settled records go first: an id that is settled and in the group acts anew.
         ensures acts { IfOk result (λ dones. ActsOn (told self.old) (told self.new)
             (ids_of settled.now) (entries_of group.now) dones.items) }
@@ -89,7 +98,9 @@ pub trait Keeper: Drop {
             (ids_of settled.now) (entries_of group.now) }
         ensures crash_acts { LeavesActed (told self.old) (told self.new)
             (ids_of settled.now) (entries_of group.now) }
-        ensures firm { OnOk result ((told self.new).is_honest → IsFirm (told self.new)) }
+        ensures firm { OnOk result ((told self.new).is_honest → IsFirm (told self.old)
+            ⊎ ¬ (OnlySees model.service (entries_of group.now) (ids_of settled.now))
+            → IsFirm (told self.new)) }
         ensures same { became self.old self.new 0 }
         // A fault too: it was asked once.
         ensures asked { performed self.old self.new

@@ -19,6 +19,6 @@ pub use keeper::{Done, Keeper, MAX_GROUP, MAX_SETTLED, StoreCounts};
 pub use laws::{
     group_bounds, groups_grow, histories_grow, kept_groups_grow, said_fits, still_stands,
 };
-pub use pending::perform_group;
+pub use pending::{has_kept, perform_group};
 pub use plain::PlainKeeper;
 pub use restart::Restart;

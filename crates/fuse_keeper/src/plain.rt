@@ -1,12 +1,12 @@
 // A keeper in memory.
 ghost use Rattle.std.specs.Prelude.{◌≡◌, ℕ, List, false, [], length, All, IfOk, OnOk, OnErr};
 ghost use Rattle.std.specs.Prelude.{IfErr, IsOk, Ok, None};
-ghost use Rattle.fuse_keeper.specs.History.{History, Includes, IsUnsettled};
+ghost use Rattle.fuse_keeper.specs.History.{History, Includes, IsUnsettled, kept_of};
 ghost use Rattle.fuse_keeper.specs.Model.{IsOfGoodState};
 ghost use Rattle.fuse_keeper.specs.Stands.{StandsBy, PerformedBy, KeepsHeldBy, OthersStay};
 ghost use Rattle.fuse_keeper.specs.Stands.{without};
 ghost use Rattle.fuse_keeper.specs.Taking.{TakesAll};
-ghost use Rattle.fuse_keeper.specs.Group.{entries_of, ids_of, IsKept};
+ghost use Rattle.fuse_keeper.specs.Group.{entries_of, ids_of, IsPerformed};
 ghost use Rattle.fuse_keeper.specs.Plain.{mapped};
 
 use crate::fault::StoreFault;
@@ -96,11 +96,12 @@ impl<F: FileSystem> PlainKeeper<F> {
         group: &[(Request<'_>, Moment)],
         settled: &[Id],
     ) -> Result<Vec<Done>, StoreFault>
-        requires { All (IsKept F.model) (entries_of group.now) }
+        requires { All (IsPerformed F.model) (entries_of group.now) }
         ensures count { IfOk result (λ dones. length dones.items ≡ length group.now) }
         ensures ok { IfOk result (λ dones. (s : F.model.State) (h : History) (t : List ℕ)
             → StandsBy F.model (plain_holds F.model F.held self.old) s h t
-            → Includes t (ids_of settled.now) → All (IsUnsettled t) (entries_of group.now)
+            → Includes t (ids_of settled.now)
+            → All (IsUnsettled t) (kept_of F.model.service (entries_of group.now))
             → PerformedBy F.model (plain_holds F.model F.held self.new)
             (record { state = s; history = h; settled = t }) (entries_of group.now) dones.items) }
         ensures acts { IfOk result (λ dones. TakesAll F.model
@@ -114,7 +115,7 @@ impl<F: FileSystem> PlainKeeper<F> {
         ensures rowed { OnOk result (IsOfGoodState F.model (F.held self.old.rows)
             → IsOfGoodState F.model (F.held self.new.rows)) }
         ensures others { OnOk result (OthersStay (mapped self.old.records) (ids_of settled.now)
-            (entries_of group.now) (mapped self.new.records)) }
+            (kept_of F.model.service (entries_of group.now)) (mapped self.new.records)) }
         ensures err { OnErr result (KeepsHeldBy F.model (plain_holds F.model F.held self.old)
             (plain_holds F.model F.held self.new)) }
         ensures fault { IfErr result (λ f. IsOfGoodState F.model (F.held self.old.rows)
@@ -147,6 +148,10 @@ impl<F: FileSystem> Keeper for PlainKeeper<F> {
 
     fn serves(opcode: u32) -> bool {
         F::serves(opcode)
+    }
+
+    fn sees(opcode: u32) -> bool {
+        F::sees(opcode)
     }
 
     fn perform(

@@ -11,10 +11,10 @@ use crate::plain::PlainRows;
 use fuse_answer::Answer;
 use fuse_init::{Profiled, Settings};
 use fuse_keeper::{FileSystem, StoreFault};
-use fuse_plan::{PlanFault, answers_fit, clearing, new_store_is_tree, plan, tree_kept};
+use fuse_plan::{PlanFault, answers_fit, clearing, looks_stay, new_store_is_tree, plan, tree_kept};
 use fuse_request::Request;
 use fuse_rows::{DEFAULT_CAPACITY, Origin};
-use fuse_tree::serves_further;
+use fuse_tree::{sees_requests, serves_further};
 use fuse_wire::{Memory, Moment};
 use std::alloc::Global;
 use std::marker::PhantomData;
@@ -62,6 +62,10 @@ impl<P: Profiled> FileSystem for PlainTree<P> {
         serves_further(P::PROFILE, opcode)
     }
 
+    fn sees(opcode: u32) -> bool {
+        sees_requests(P::PROFILE, opcode)
+    }
+
     fn start(alloc: Global, now: Moment) -> Result<PlainTree<P>, Memory> {
         PlainTree::sized(alloc, Origin::at(now), DEFAULT_CAPACITY)
     }
@@ -73,10 +77,14 @@ impl<P: Profiled> FileSystem for PlainTree<P> {
         now: Moment,
     ) -> Result<Answer, StoreFault> {
         tree_kept();
+        looks_stay();
         let planned = match plan(alloc, &mut self.rows, request, now) {
             Ok(planned) => planned,
             Err(fault) => return Err(fault_of_plan(fault)),
         };
+        if sees_requests(P::PROFILE, request.op.opcode()) {
+            return Ok(planned.answer);
+        }
         self.rows.apply_all(planned.changes)?;
         Ok(planned.answer)
     }
@@ -107,6 +115,7 @@ impl<P: Profiled> FileSystem for PlainTree<P> {
         answers_fit();
         new_store_is_tree();
         tree_kept();
+        looks_stay();
         clearing();
     }
 }

@@ -41,7 +41,7 @@ use Rattle.fuse_tree.specs.Opening.{open_fault, open_checks, with_open_node, ope
 use Rattle.fuse_tree.specs.Removing.{marked, mark, without_entry, entry_gone, remove_child, remove_entry, remove, unlink_checks, rmdir_checks}
 use Rattle.fuse_tree.specs.Renaming.{Renaming, asking, is_exchange, is_no_replace, holds, is_same, asked_fault, place_fault, placed, replaced, both_touched, renamed, exchanged, rename_with_room, rename_entry, exchange_entry, rename_by, rename_from, rename_between, rename}
 use Rattle.fuse_tree.specs.Keeping.{agreement_of, keeps}
-use Rattle.fuse_request.specs.FurtherBodies.{FurtherContent, Readlink, Statfs, Symlink, Create, ReadDirPlus, further_fault, further_content_at}
+use Rattle.fuse_request.specs.FurtherBodies.{FurtherContent, Readlink, Statfs, Fsync, FsyncDir, Symlink, Create, ReadDirPlus, further_fault, further_content_at}
 use Rattle.fuse_tree.specs.Further.{do_further, further}
 use Rattle.fuse_tree.specs.Symlinking.{link_mode, with_target, with_link, symlink_checks, symlink}
 use Rattle.fuse_tree.specs.Creating.{created, create_for, create}
@@ -313,6 +313,8 @@ module _ (s : State) (h : HoldsBytes s) where
   content_keeps : (from : Origin) (o : Option FurtherContent) (n : Node) → BringsNames o → Keeps (do_further s from o n)
   content_keeps from (Some Readlink) n new = chosen (not (is_link n.mode)) _ _ (stays s _ h) (leads s _ h)
   content_keeps from (Some Statfs) n new = leads s _ h
+  content_keeps from (Some (Fsync fh fsync_flags)) n new = chosen (not (is_open s.handles fh n.number)) _ _ (stays s _ h) (leads s _ h)
+  content_keeps from (Some (FsyncDir fh fsync_flags)) n new = chosen (not (is_open s.handles fh n.number)) _ _ (stays s _ h) (leads s _ h)
   content_keeps from (Some (Symlink name target)) n new =
       symlink_keeps from target name n new.0 (all_more (λ b. (1 ≤ b) × (b < 256)) (λ b. b < 256) target (λ b is. is.1) new.1)
   content_keeps from (Some (Create flags mode umask open_flags name)) n new = create_keeps (asked_node from mode 0) flags name n new

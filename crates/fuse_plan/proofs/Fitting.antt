@@ -14,7 +14,7 @@ use Rattle.fuse_rows.specs.declared.rows.EntryRow.{EntryRow}
 use Rattle.fuse_tree.specs.State.{State, profile_of, Node, Shape, node_at}
 use Rattle.fuse_rows.specs.Rows.{entry_at}
 use Rattle.fuse_tree.specs.Done.{attr_of, entry_out_of, attr_out_of, Done, name_checks, answer}
-use Rattle.fuse_tree.specs.Keeping.{agreement_of, keeps, valid_of, attr_valid_of, absent_entry}
+use Rattle.fuse_tree.specs.Keeping.{agreement_of, keeps, valid_of, absent_entry}
 use Rattle.fuse_tree.specs.Do.{lookup_absent, lookup_child, lookup_entry, lookup, getattr, do_act, do_at, names_node, done, do_agreed, do_offered, offer_of}
 use Rattle.fuse_tree.specs.Making.{asker, asked_node}
 use Rattle.fuse_tree.specs.Renaming.{asking}
@@ -63,10 +63,10 @@ lookup_reads back s name n = checked_reads s (name_checks s name n) _ refl (look
 -- ---- GETATTR
 
 getattr_fits : RecordSizes → (s : State) (n : Node) → Fits (getattr s n)
-getattr_fits sizes s n = answered s _ (omega (arith, sizes.1 (attr_out_of (attr_valid_of (agreement_of s) n.number) (attr_of s n))))
+getattr_fits sizes s n = answered s _ (omega (arith, sizes.1 (attr_out_of (valid_of (agreement_of s)) (attr_of s n))))
 
 getattr_reads : ReadBack → (s : State) (n : Node) → Reads Attributes (getattr s n)
-getattr_reads back s n = answered_reads s _ (back.attributes (attr_out_of (attr_valid_of (agreement_of s) n.number) (attr_of s n)))
+getattr_reads back s n = answered_reads s _ (back.attributes (attr_out_of (valid_of (agreement_of s)) (attr_of s n)))
 
 -- ---- all requests: what is answered fits
 

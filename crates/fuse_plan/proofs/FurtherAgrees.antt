@@ -1,10 +1,10 @@
 -- The plans of the further opcodes agree with what is done.
 use Rattle.std.proofs.Common.{◌≡◌, ℕ, true, not, List, Option, Some, is_some, length, refl, ap}
 use Rattle.std.specs.Option.{unwrap_or}
-use Rattle.fuse_wire.specs.Errnos.{enosys, einval}
+use Rattle.fuse_wire.specs.Errnos.{ebadf, enosys, einval}
 use Rattle.fuse_init.specs.declared.profile.Profile.{Profile}
 use Rattle.fuse_init.specs.Profile.{terms}
-use Rattle.fuse_request.specs.FurtherBodies.{FurtherContent, Readlink, Statfs, Symlink, Create, ReadDirPlus, further_fault, further_content_at}
+use Rattle.fuse_request.specs.FurtherBodies.{FurtherContent, Readlink, Statfs, Fsync, FsyncDir, Symlink, Create, ReadDirPlus, further_fault, further_content_at}
 use Rattle.fuse_answer.specs.FurtherAnswers.{statfs_bytes}
 use Rattle.fuse_rows.specs.Bounds.{target_limit}
 use Rattle.fuse_rows.specs.declared.origin.Origin.{Origin}
@@ -12,12 +12,15 @@ use Rattle.fuse_tree.specs.State.{State, Node, Shape, used_of, terms_of, profile
 use Rattle.fuse_tree.specs.Space.{room_of}
 use Rattle.fuse_tree.specs.Rowed.{row_of, rows_of_state}
 use Rattle.fuse_tree.specs.Keeping.{agreement_of}
+use Rattle.fuse_tree.specs.Handles.{is_open}
 use Rattle.fuse_tree.specs.Statfs.{statfs_of, statfs, no_room}
+use Rattle.fuse_tree.specs.Syncing.{fsync}
 use Rattle.fuse_tree.specs.Linking.{readlink}
 use Rattle.fuse_tree.specs.Making.{asked_node}
 use Rattle.fuse_tree.specs.Further.{do_further, further}
 use Rattle.fuse_plan.specs.inner.Reading.{told}
 use Rattle.fuse_plan.specs.inner.PlanStatfs.{plan_statfs}
+use Rattle.fuse_plan.specs.inner.PlanSyncing.{plan_fsync}
 use Rattle.fuse_plan.specs.inner.PlanLinking.{plan_readlink}
 use Rattle.fuse_plan.specs.inner.PlanFurther.{plan_content, plan_further}
 use Rattle.fuse_plan.proofs.Agrees.{Agrees, refused_agrees, both}
@@ -52,11 +55,23 @@ statfs_agrees s tree = record {
   kept = λ all. all;
 }
 
+fsync_agrees : (s : State) (fh : ℕ) (d : Node) → Shape s → Agrees s (plan_fsync fh (row_of s d) (rows_of_state s)) (fsync s fh d)
+fsync_agrees s fh d tree =
+    both s (not (is_open s.handles fh d.number)) _ _ _ _ (λ _. refused_agrees s tree ebadf) (λ _. record {
+      answer = refl;
+      rows = refl;
+      tree = tree;
+      same = refl;
+      kept = λ all. all;
+    })
+
 content_agrees : (s : State) (from : Origin) (o : Option FurtherContent) (d : Node) → Shape s → node_at s d.number ≡ Some d
     → (terms_of s).links ≡ true → EndsTarget o
     → Agrees s (plan_content (agreement_of s) from o (row_of s d) (rows_of_state s)) (do_further s from o d)
 content_agrees s from (Some Readlink) d tree e links ends = readlink_agrees s d tree e
 content_agrees s from (Some Statfs) d tree e links ends = statfs_agrees s tree
+content_agrees s from (Some (Fsync fh fsync_flags)) d tree e links ends = fsync_agrees s fh d tree
+content_agrees s from (Some (FsyncDir fh fsync_flags)) d tree e links ends = fsync_agrees s fh d tree
 content_agrees s from (Some (Symlink name target)) d tree e links ends = symlink_agrees s from target name d tree e links ends
 content_agrees s from (Some (Create flags mode umask open_flags name)) d tree e links ends = create_agrees s (asked_node from mode 0) flags name d tree e
 content_agrees s from (Some (ReadDirPlus x)) d tree e links ends = read_dir_plus_agrees s x d tree

@@ -6,7 +6,7 @@ use Rattle.fuse_wire.specs.declared.access_mode.AccessMode.{AccessMode}
 use Rattle.fuse_wire.specs.Errnos.{enoent, enametoolong}
 use Rattle.fuse_wire.specs.Flags.{access_of}
 use Rattle.fuse_rows.specs.declared.origin.Origin.{Origin}
-use Rattle.fuse_request.specs.FurtherBodies.{FurtherContent, Readlink, Statfs, Symlink, Create, ReadDirPlus, further_fault, further_content_at}
+use Rattle.fuse_request.specs.FurtherBodies.{FurtherContent, Readlink, Statfs, Fsync, FsyncDir, Symlink, Create, ReadDirPlus, further_fault, further_content_at}
 use Rattle.fuse_init.specs.Profile.{terms}
 use Rattle.fuse_request.specs.declared.request.ReadIn.{ReadIn}
 use Rattle.fuse_answer.specs.PlusEntries.{plus_len}
@@ -20,6 +20,7 @@ use Rattle.fuse_rows.specs.declared.rows.NodeRow.{NodeRow}
 use Rattle.fuse_tree.specs.State.{is_link}
 use Rattle.fuse_rows.specs.Rows.{Rows}
 use Rattle.fuse_tree.specs.Space.{has_room}
+use Rattle.fuse_tree.specs.Handles.{is_open}
 use Rattle.fuse_tree.specs.Keeping.{valid_of}
 use Rattle.fuse_tree.specs.Making.{asked_node}
 use Rattle.fuse_tree.specs.Opening.{open_fault}
@@ -127,6 +128,8 @@ content_fits : (g : Agreement) (from : Origin) (o : Option FurtherContent) (row 
     → Fit (plan_content g from o row rows)
 content_fits g from (Some Readlink) row rows all fits = past (not (is_link row.mode)) _ _ refl (λ _. nothing _ refl)
 content_fits g from (Some Statfs) row rows all fits = nothing _ refl
+content_fits g from (Some (Fsync fh fsync_flags)) row rows all fits = past (not (is_open rows.handles fh row.node)) _ _ refl (λ _. nothing _ refl)
+content_fits g from (Some (FsyncDir fh fsync_flags)) row rows all fits = past (not (is_open rows.handles fh row.node)) _ _ refl (λ _. nothing _ refl)
 content_fits g from (Some (Symlink name target)) row rows all fits = symlink_fits g from target name row rows all fits
 content_fits g from (Some (Create flags mode umask open_flags name)) row rows all fits = create_fits g (asked_node from mode 0) flags name row rows all fits
 content_fits g from (Some (ReadDirPlus x)) row rows all fits = read_dir_plus_fits (valid_of g) x row rows

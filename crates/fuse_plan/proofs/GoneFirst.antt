@@ -44,7 +44,7 @@ use Rattle.fuse_tree.specs.Listing.{first_fits, first_fits_by}
 use Rattle.fuse_plan.specs.inner.PlanPlus.{plus_after, plan_read_dir_plus}
 use Rattle.fuse_tree.specs.Opening.{open_fault, open_checks, not_for_dirs, for_dirs_alone}
 use Rattle.fuse_plan.specs.Plan.{makes_entry, takes_entry, GoneFirst}
-use Rattle.fuse_request.specs.FurtherBodies.{FurtherContent, Readlink, Statfs, Symlink, Create, ReadDirPlus, further_fault, further_content_at}
+use Rattle.fuse_request.specs.FurtherBodies.{FurtherContent, Readlink, Statfs, Fsync, FsyncDir, Symlink, Create, ReadDirPlus, further_fault, further_content_at}
 use Rattle.fuse_rows.specs.declared.origin.Origin.{Origin}
 use Rattle.fuse_plan.specs.inner.PlanSymlinking.{row_symlink_checks, plan_symlink}
 use Rattle.fuse_plan.specs.inner.PlanCreating.{plan_create_for, plan_create}
@@ -289,6 +289,8 @@ content_orders : (g : Agreement) (from : Origin) (o : Option FurtherContent) (ro
     → Orders (plan_content g from o row rows)
 content_orders g from (Some Readlink) row rows = chosen (not (is_link row.mode)) _ _ (by_test _ refl) (by_test _ refl)
 content_orders g from (Some Statfs) row rows = by_test _ refl
+content_orders g from (Some (Fsync fh fsync_flags)) row rows = chosen (not (is_open rows.handles fh row.node)) _ _ (by_test _ refl) (by_test _ refl)
+content_orders g from (Some (FsyncDir fh fsync_flags)) row rows = chosen (not (is_open rows.handles fh row.node)) _ _ (by_test _ refl) (by_test _ refl)
 content_orders g from (Some (Symlink name target)) row rows = symlink_orders g from target name row rows
 content_orders g from (Some (Create flags mode umask open_flags name)) row rows = create_orders g (asked_node from mode 0) flags name row rows
 content_orders g from (Some (ReadDirPlus x)) row rows = read_dir_plus_orders (valid_of g) x row rows

@@ -30,6 +30,7 @@ mod Listing
 mod ListingAgrees
 mod ListingFits
 mod Lists
+mod Looking
 mod Making
 mod MakingAgrees
 mod MakingFits

@@ -13,7 +13,7 @@ use Rattle.fuse_rows.specs.declared.rows.Change.TheVariants as changes
 use Rattle.fuse_init.specs.Profile.{Terms}
 use Rattle.fuse_rows.specs.Rows.{profile_for, Rows, put_node, at_node, sized, apply}
 use Rattle.fuse_tree.specs.State.{State, terms_of, profile_of, used_of, Node, Shape, Carries, IsNode, FitsCapacity, is_file, type_of, node_at}
-use Rattle.fuse_tree.specs.Keeping.{agreement_of, attr_valid_of}
+use Rattle.fuse_tree.specs.Keeping.{agreement_of, valid_of}
 use Rattle.fuse_tree.specs.Space.{room_of, used_after, has_room}
 use Rattle.fuse_tree.specs.Rowed.{full_of, row_of, rows_of_state}
 use Rattle.fuse_tree.specs.Setting.{has_valid_bit, mode_after, size_fault, set_fault, set_attributes, with_set, setattr}
@@ -162,7 +162,7 @@ module _ (s : State) (set : SetattrIn) (now : Moment) (d : Node) (tree : Shape s
       both_for s (set_fault (terms_of s).file_limit set d.mode) _ _ tree (λ none.
       both_seen s _ _ _ _ _ _ (room_seen (has_valid_bit set fattr_size) s.capacity refl) (λ _. refused_agrees s tree enospc) (λ room. record {
         answer =
-            ap (λ (f : Full). record { errno = 0; body = attr_body (attr_valid_of (agreement_of s) d.number) f.row })
+            ap (λ (f : Full). record { errno = 0; body = attr_body (valid_of (agreement_of s)) f.row })
             (sym (full_then s (set_attributes set now) (set_same set now) d tree e (set_attributes set now d) ∙ set_full));
         rows = set_rows;
         tree = set_tree none room;

@@ -10,6 +10,7 @@ pub mod PlanOpening
 pub mod PlanListing
 pub mod PlanRenaming
 pub mod PlanStatfs
+pub mod PlanSyncing
 pub mod PlanLinking
 pub mod PlanSymlinking
 pub mod PlanCreating

@@ -1,7 +1,7 @@
 ghost use Rattle.fuse_tree.specs.Bytes.{BytesKept};
 ghost use Rattle.fuse_tree.specs.Clearing.{Clearing};
 ghost use Rattle.fuse_tree.specs.Laws.{AnswersAreRead, AnswersFit, NewStoreIsTree, RowsTellState};
-ghost use Rattle.fuse_tree.specs.Laws.{TreeKept};
+ghost use Rattle.fuse_tree.specs.Laws.{LooksStay, TreeKept};
 ghost use Rattle.fuse_tree.specs.Listing.{ListingIsLongest};
 ghost use Rattle.fuse_tree.specs.PlusListing.{PlusIsLongest};
 ghost use Rattle.fuse_tree.specs.Renaming.{LiesInIsUnder};
@@ -54,6 +54,11 @@ pub fn answers_are_read()
     read_back();
     record_sizes();
 }
+
+/// Requests that only look leave the state as it was.
+pub fn looks_stay()
+    ensures { LooksStay }
+{}
 
 /// The entries of a directory rise, and READDIR lists the longest prefix that fits.
 pub fn listing_is_longest()

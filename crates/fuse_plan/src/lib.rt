@@ -7,7 +7,8 @@ mod planning;
 
 pub use laws::{
     answers_are_read, answers_fit, bytes_kept, clearing, lies_in_is_under, listing_is_longest,
-    new_store_is_tree, plus_listing_is_longest, rows_of_trees, rows_tell_state, tree_kept,
+    looks_stay, new_store_is_tree, plus_listing_is_longest, rows_of_trees, rows_tell_state,
+    tree_kept,
 };
 pub use planned::Planned;
 pub use planning::{PlanFault, plan};

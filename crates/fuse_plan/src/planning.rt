@@ -15,6 +15,7 @@ mod create;
 mod exchange;
 mod fault;
 mod finding;
+mod fsync;
 mod further;
 mod getattr;
 mod init;

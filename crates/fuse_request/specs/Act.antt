@@ -11,7 +11,7 @@ use Rattle.fuse_request.specs.declared.request.ReadIn.{ReadIn}
 use Rattle.fuse_request.specs.declared.request.ReleaseIn.{ReleaseIn}
 use Rattle.fuse_request.specs.declared.request.Request.{Request}
 use Rattle.fuse_request.specs.declared.request.SetattrIn.{SetattrIn}
-use Rattle.fuse_request.specs.Opcodes.{OpcodeSet, is_served, is_kept_for}
+use Rattle.fuse_request.specs.Opcodes.{Service, is_served, is_performed_for, is_seen_for, is_kept_for}
 
 -- what a request asks for, its names and bodies as lists
 pub data Act : Type 0 where
@@ -94,10 +94,18 @@ pub record Asked : Type 0 where
 abbrev pub asked : Request → Asked
 asked r = record { header = r.header; act = act r.op; ext = r.ext.now }
 
--- its opcode is of the profile or in this set
-abbrev pub IsServedFor : OpcodeSet → Act → Type 0
+-- its opcode is of the profile or served beside it
+abbrev pub IsServedFor : Service → Act → Type 0
 IsServedFor V a = is_served V (opcode_of a) ≡ true
 
--- its message is kept where these others are served
-abbrev pub IsKeptFor : OpcodeSet → Act → Type 0
+-- its message is kept or seen
+abbrev pub IsPerformedFor : Service → Act → Type 0
+IsPerformedFor V a = is_performed_for V (opcode_of a) ≡ true
+
+-- its message is seen
+abbrev pub IsSeenFor : Service → Act → Type 0
+IsSeenFor V a = is_seen_for V (opcode_of a) ≡ true
+
+-- its message is kept
+abbrev pub IsKeptFor : Service → Act → Type 0
 IsKeptFor V a = is_kept_for V (opcode_of a) ≡ true

@@ -60,13 +60,29 @@ OpcodeSet = ℕ → Bool
 abbrev pub no_others : OpcodeSet
 no_others opcode = false
 
--- it is in this set or of the profile
-abbrev pub is_served : OpcodeSet → ℕ → Bool
-is_served V opcode = V opcode || in_profile opcode
+-- the opcodes outside the profile that a file system serves, and the opcodes, of those or of the profile, whose requests it sees:
+-- they change nothing and leave no record. What it sees of others says nothing
+pub record Service : Type 0 where
+  pub serves : OpcodeSet
+  pub sees : OpcodeSet
 
--- well-formed messages of this opcode are kept where these others are served
-abbrev pub is_kept_for : OpcodeSet → ℕ → Bool
-is_kept_for V opcode = not (silent opcode) && is_served V opcode
+-- the profile alone, of which nothing is seen
+abbrev pub profile_alone : Service
+profile_alone = record { serves = no_others; sees = no_others }
+
+-- it is of the profile or served beside it
+abbrev pub is_served : Service → ℕ → Bool
+is_served V opcode = V.serves opcode || in_profile opcode
+
+-- requests of this opcode are performed: well-formed messages of it are kept or seen
+abbrev pub is_performed_for : Service → ℕ → Bool
+is_performed_for V opcode = not (silent opcode) && is_served V opcode
+
+abbrev pub is_seen_for : Service → ℕ → Bool
+is_seen_for V opcode = is_performed_for V opcode && V.sees opcode
+
+abbrev pub is_kept_for : Service → ℕ → Bool
+is_kept_for V opcode = is_performed_for V opcode && not (V.sees opcode)
 
 abbrev pub fault_by : Option Opcode → List ℕ → Option Malformed
 fault_by None b = None

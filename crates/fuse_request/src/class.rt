@@ -3,7 +3,7 @@ ghost use Rattle.fuse_wire.specs.Bounds.{min_message_len};
 ghost use Rattle.fuse_wire.specs.Bytes.{number_of};
 ghost use Rattle.fuse_request.specs.Classes.{class_for, class_of, IsOfClass, is_zero};
 ghost use Rattle.fuse_request.specs.Header.{raw_of};
-ghost use Rattle.fuse_request.specs.Opcodes.{OpcodeSet, in_profile, no_others};
+ghost use Rattle.fuse_request.specs.Opcodes.{Service, in_profile, profile_alone};
 
 use crate::decoding::decode;
 use crate::header::MIN_MESSAGE;
@@ -19,6 +19,8 @@ pub enum Class {
     Bare(Errno),
     /// By what its request does. The answer is recorded.
     Kept,
+    /// By what its request finds. It changes nothing, and the answer isn't recorded.
+    Seen,
 }
 
 // Whether an opcode is of the profile or served beside it.
@@ -28,16 +30,17 @@ fn is_served(opcode: u32, served: bool) -> bool
     served || is_in_profile(opcode)
 }
 
-/// The class of a whole message where further opcodes are served beside the profile; `served` is
-/// whether its opcode is one of them. Takes no memory.
-pub fn classify_for(message: &[u8], served: bool) -> Class
+/// The class of a whole message for a file system that serves further opcodes or sees requests:
+/// `served` is whether its opcode is one of those, `seen` whether its requests change nothing.
+/// Takes no memory.
+pub fn classify_for(message: &[u8], served: bool, seen: bool) -> Class
     requires header { min_message_len ≤ length message.now }
     requires len { number_of 4 message.now ≡ length message.now }
-    ensures class { (V : OpcodeSet) → V (raw_of message.now).opcode ≡ served
-        → result ≡ class_for V message.now }
+    ensures class { (V : Service) → V.serves (raw_of message.now).opcode ≡ served
+        → V.sees (raw_of message.now).opcode ≡ seen → result ≡ class_for V message.now }
     // How the class follows from the request that the message spells.
-    ensures spells { (V : OpcodeSet) → V (raw_of message.now).opcode ≡ served
-        → IsOfClass V result message.now }
+    ensures spells { (V : Service) → V.serves (raw_of message.now).opcode ≡ served
+        → V.sees (raw_of message.now).opcode ≡ seen → IsOfClass V result message.now }
 {
     layouts_stand();
     names_end();
@@ -51,18 +54,22 @@ pub fn classify_for(message: &[u8], served: bool) -> Class
     if !is_served(opcode, served) {
         return Class::Bare(Errno::ENOSYS);
     }
+    if seen {
+        return Class::Seen;
+    }
     Class::Kept
 }
 
-/// The class of a whole message where only the profile is served. Takes no memory.
+/// The class of a whole message where only the profile is served, and nothing is seen. Takes no
+/// memory.
 pub fn classify(message: &[u8]) -> Class
     requires header { min_message_len ≤ length message.now }
     requires len { number_of 4 message.now ≡ length message.now }
     ensures class { result ≡ class_of message.now }
     // How the class follows from the request that the message spells.
-    ensures spells { IsOfClass no_others result message.now }
+    ensures spells { IsOfClass profile_alone result message.now }
 {
-    classify_for(message, false)
+    classify_for(message, false, false)
 }
 
 /// Whether a message must be answered and has the id 0, which an answer can't bear.

@@ -1,11 +1,11 @@
 ghost use Rattle.std.specs.Result.{result_err};
 ghost use Rattle.std.specs.Prelude.{◌≡◌, Some, IsOkAnd, IfOk, IfErr};
-ghost use Rattle.fuse_request.specs.Act.{Asked, asked, act, IsKeptFor};
+ghost use Rattle.fuse_request.specs.Act.{Asked, asked, act, IsKeptFor, IsSeenFor};
 ghost use Rattle.fuse_request.specs.Spelling.{Spells};
 ghost use Rattle.fuse_request.specs.Faults.{first_fault};
 ghost use Rattle.fuse_request.specs.Places.{asked_at};
 ghost use Rattle.fuse_request.specs.Classes.{class_for};
-ghost use Rattle.fuse_request.specs.Opcodes.{OpcodeSet};
+ghost use Rattle.fuse_request.specs.Opcodes.{Service};
 ghost use Rattle.fuse_request.specs.declared.class.Class.{Class};
 
 use crate::bodies::op_of;
@@ -74,9 +74,12 @@ pub fn decode(message: &[u8]) -> Result<Request<'_>, Malformed>
     // Which fault it is. There is none exactly where a request is spelled.
     ensures fault { result_err result ≡ first_fault message.now }
 
-    // What is kept is read as a request that is kept, whichever other opcodes are served.
-    ensures kept { (V : OpcodeSet) → class_for V message.now ≡ Class.Kept
+    // What is kept is read as a request that is kept, and what is seen as one that is seen, whatever
+    // is served and seen.
+    ensures kept { (V : Service) → class_for V message.now ≡ Class.Kept
         → IsOkAnd result (λ r. IsKeptFor V (act r.op)) }
+    ensures seen { (V : Service) → class_for V message.now ≡ Class.Seen
+        → IsOkAnd result (λ r. IsSeenFor V (act r.op)) }
 {
     layouts_stand();
     names_end();

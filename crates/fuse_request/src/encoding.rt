@@ -6,7 +6,6 @@ ghost use Rattle.fuse_wire.specs.Written.{Puts};
 ghost use Rattle.fuse_wire.specs.inner.Growing.{Extends};
 ghost use Rattle.fuse_wire.specs.Bounds.{max_message_len, min_message_len};
 ghost use Rattle.fuse_request.specs.Act.{act, asked};
-ghost use Rattle.fuse_request.specs.Act as acts;
 ghost use Rattle.fuse_request.specs.Canon.{canon, len_of, sayable};
 ghost use Rattle.fuse_request.specs.Encoding.{ReadsAs};
 ghost use Rattle.fuse_request.specs.inner.Writing.{HasNumbers};
@@ -16,10 +15,6 @@ use crate::header::{MAX_MESSAGE, MIN_MESSAGE};
 use crate::lengths::{
     BATCH_FORGET_IN, COMPAT_INIT_IN, FORGET_IN, GETATTR_IN, INIT_IN, INTERRUPT_IN, MKDIR_IN,
     MKNOD_IN, OPEN_IN, READ_IN, RELEASE_IN, RENAME_IN, RENAME2_IN, SETATTR_IN, WRITE_IN,
-};
-use crate::opcode::{
-    BATCH_FORGET, DESTROY, FORGET, GETATTR, INIT, INTERRUPT, LOOKUP, MKDIR, MKNOD, OPEN, OPENDIR,
-    READ, READDIR, RELEASE, RELEASEDIR, RENAME, RENAME2, RMDIR, SETATTR, UNLINK, WRITE,
 };
 use crate::request::{InitIn, Op, Request};
 use crate::writing::put_body;
@@ -81,35 +76,6 @@ fn body_len(op: &Op<'_>) -> u128
     }
 }
 
-fn opcode_of(op: &Op<'_>) -> u32
-    ensures { result ≡ acts.opcode_of (act op.now) }
-{
-    match *op {
-        Op::Lookup { .. } => LOOKUP,
-        Op::Forget { .. } => FORGET,
-        Op::Getattr { .. } => GETATTR,
-        Op::Setattr(_) => SETATTR,
-        Op::Mknod { .. } => MKNOD,
-        Op::Mkdir { .. } => MKDIR,
-        Op::Unlink { .. } => UNLINK,
-        Op::Rmdir { .. } => RMDIR,
-        Op::Rename { .. } => RENAME,
-        Op::OpenFile { .. } => OPEN,
-        Op::Read(_) => READ,
-        Op::Write { .. } => WRITE,
-        Op::Release(_) => RELEASE,
-        Op::Init(_) => INIT,
-        Op::OpenDir { .. } => OPENDIR,
-        Op::ReadDir(_) => READDIR,
-        Op::ReleaseDir(_) => RELEASEDIR,
-        Op::Interrupt { .. } => INTERRUPT,
-        Op::Destroy => DESTROY,
-        Op::BatchForget { .. } => BATCH_FORGET,
-        Op::Rename2 { .. } => RENAME2,
-        Op::Further { opcode, .. } => opcode,
-    }
-}
-
 // How many bytes the message of a request has.
 fn message_len(request: &Request<'_>) -> u128
     ensures len { result ≡ len_of (asked request.now) }
@@ -129,7 +95,7 @@ fn put_header(out: &mut Vec<u8>, request: &Request<'_>, len: u32, units: u16) ->
         out,
         &[
             Field::U32(len),
-            Field::U32(opcode_of(&request.op)),
+            Field::U32(request.op.opcode()),
             Field::U64(header.unique),
             Field::U64(header.nodeid),
             Field::U32(header.uid),

@@ -1,6 +1,7 @@
 ghost use Rattle.std.specs.Prelude.{◌≡◌};
 ghost use Rattle.fuse_wire.specs.Bounds as bounds;
 ghost use Rattle.fuse_request.specs.Canon.{CanonSpells};
+ghost use Rattle.fuse_request.specs.Classes.{SeenByClass};
 ghost use Rattle.fuse_request.specs.Places.{SpelledAt};
 ghost use Rattle.fuse_request.specs.Stream.{IsOneCut, CutJoins, CutSteps};
 
@@ -43,6 +44,12 @@ pub fn spelled_at()
     layouts_stand();
     names_end();
 }
+
+/// The request in a message that is seen is of an opcode that is seen, and in one that is kept it
+/// isn't.
+pub fn seen_by_class()
+    ensures { SeenByClass }
+{}
 
 /// How short and how long messages are, and how much a framer is fed.
 pub fn message_bounds()

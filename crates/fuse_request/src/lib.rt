@@ -24,5 +24,7 @@ pub use encoding::{EncodeFault, encode};
 pub use framer::{FrameFault, Framer, MAX_FED};
 pub use further::{Body, CopyFileRangeIn, decode_body};
 pub use header::{MAX_MESSAGE, MIN_MESSAGE, RawHeader, header_of, is_message, unique_of};
-pub use laws::{canon_spells, cut_joins, cut_steps, message_bounds, one_cut, spelled_at};
+pub use laws::{
+    canon_spells, cut_joins, cut_steps, message_bounds, one_cut, seen_by_class, spelled_at,
+};
 pub use request::{InHeader, InitIn, Op, ReadIn, ReleaseIn, Request, SetattrIn};

@@ -1,3 +1,11 @@
+ghost use Rattle.std.specs.Prelude.{◌≡◌};
+ghost use Rattle.fuse_request.specs.Act.{act, opcode_of};
+
+use crate::opcode::{
+    BATCH_FORGET, DESTROY, FORGET, GETATTR, INIT, INTERRUPT, LOOKUP, MKDIR, MKNOD, OPEN, OPENDIR,
+    READ, READDIR, RELEASE, RELEASEDIR, RENAME, RENAME2, RMDIR, SETATTR, UNLINK, WRITE,
+};
+
 /// The header of a request without its length and its opcode.
 #[derive(Clone, Copy, Debug, PartialEq, Eq)]
 pub struct InHeader {
@@ -132,6 +140,38 @@ pub enum Op<'a> {
         opcode: u32,
         body: &'a [u8],
     },
+}
+
+impl Op<'_> {
+    /// The number of its opcode.
+    pub fn opcode(&self) -> u32
+        ensures { result ≡ opcode_of (act self.now) }
+    {
+        match *self {
+            Op::Lookup { .. } => LOOKUP,
+            Op::Forget { .. } => FORGET,
+            Op::Getattr { .. } => GETATTR,
+            Op::Setattr(_) => SETATTR,
+            Op::Mknod { .. } => MKNOD,
+            Op::Mkdir { .. } => MKDIR,
+            Op::Unlink { .. } => UNLINK,
+            Op::Rmdir { .. } => RMDIR,
+            Op::Rename { .. } => RENAME,
+            Op::OpenFile { .. } => OPEN,
+            Op::Read(_) => READ,
+            Op::Write { .. } => WRITE,
+            Op::Release(_) => RELEASE,
+            Op::Init(_) => INIT,
+            Op::OpenDir { .. } => OPENDIR,
+            Op::ReadDir(_) => READDIR,
+            Op::ReleaseDir(_) => RELEASEDIR,
+            Op::Interrupt { .. } => INTERRUPT,
+            Op::Destroy => DESTROY,
+            Op::BatchForget { .. } => BATCH_FORGET,
+            Op::Rename2 { .. } => RENAME2,
+            Op::Further { opcode, .. } => opcode,
+        }
+    }
 }
 
 /// A request, as it lies in the bytes of a message.

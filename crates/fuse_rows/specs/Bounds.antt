@@ -54,6 +54,10 @@ valid_seconds = 1
 abbrev pub kept_seconds : ℕ
 kept_seconds = 86400
 
+-- for how many seconds such a kernel may take a name for absent
+abbrev pub absent_seconds : ℕ
+absent_seconds = 10
+
 -- the size of the shortest entry of a directory: 24 bytes and a name of one, padded to a multiple of 8
 abbrev pub least_entry : ℕ
 least_entry = 32

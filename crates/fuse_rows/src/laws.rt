@@ -18,5 +18,6 @@ pub fn limit_numbers()
     ensures sector { SECTOR_SIZE ≡ bounds.sector_bytes }
     ensures valid { VALID_SECS ≡ bounds.valid_seconds }
     ensures kept { KEPT_SECS ≡ bounds.kept_seconds }
+    ensures absent { ABSENT_SECS ≡ bounds.absent_seconds }
     ensures entry { LEAST_ENTRY ≡ bounds.least_entry }
 {}

@@ -41,3 +41,6 @@ pub const VALID_SECS: u64 = 1;
 
 /// For how many seconds a kernel that keeps them may do so.
 pub const KEPT_SECS: u64 = 86_400;
+
+/// For how many seconds such a kernel may take a name for absent.
+pub const ABSENT_SECS: u64 = 10;

@@ -1,12 +1,14 @@
 -- What a keeper was asked to perform, and which slices were handed over, one batch after another.
 use Rattle.std.proofs.Common.{◌≡◌, inr, ℕ, Bool, List, [], ◌∷◌, ◌++◌, refl, sym, ap, subst, ◌∙◌, append_assoc}
 use Rattle.std.proofs.lemmas.List.{append-nil}
-use Rattle.fuse_request.specs.Opcodes.{OpcodeSet}
-use Rattle.fuse_keeper.specs.History.{Entry}
-use Rattle.fuse_keeper.specs.Group.{left_pending}
+use Rattle.fuse_request.specs.Opcodes.{Service}
+use Rattle.fuse_request.specs.Classes.{SeenByClass}
+use Rattle.fuse_keeper.specs.History.{Entry, kept_of}
+use Rattle.fuse_keeper.specs.Group.{handed_to, left_pending}
 use Rattle.fuse_keeper.specs.Performance.{Performance, performances_of}
 use Rattle.fuse_session.specs.declared.port.Sent.{Sent}
-use Rattle.fuse_session.specs.Processed.{Timed, bytes_of, kept_in}
+use Rattle.fuse_session.specs.Processed.{Timed, bytes_of, kept_in, performed_of}
+use Rattle.fuse_session.proofs.Outs.{kept_performed}
 use Rattle.fuse_session.specs.Settling.{Mark, settled_in}
 use Rattle.fuse_session.specs.Slices.{RestsOfWhole, RestsOfAll, RestsOfSome}
 use Rattle.fuse_session.specs.Batches.{Batch, timed_in, marks_in, pending_after, handed_over, left_over, AnsweredButLast, AllAnswered, AreBatches}
@@ -41,26 +43,26 @@ answered_all [] one = tt
 answered_all (b ∷ bs) one = (inr one.0, answered_all bs one.1)
 
 -- what is asked for batches, and then for others
-asked-append : (V : OpcodeSet) (c : Bool) (ids : List ℕ) (bs cs : List Batch)
+asked-append : (V : Service) (c : Bool) (ids : List ℕ) (bs cs : List Batch)
     → handed_over V c ids (bs ++ cs) ≡ handed_over V c ids bs ++ handed_over V c (left_over V c ids bs) cs
 asked-append V c ids [] cs = refl
 asked-append V c ids (b ∷ bs) cs =
-    let first = performances_of (kept_in V b.timed) ids in
+    let first = performances_of (performed_of V b.timed) (handed_to (kept_in V b.timed) ids) in
     let then_left = pending_after V c ids b in
     ap (λ (r : List Performance). first ++ r) (asked-append V c then_left bs cs)
     ∙ sym (append_assoc first (handed_over V c then_left bs) (handed_over V c (left_over V c then_left bs) cs))
 
-left-append : (V : OpcodeSet) (c : Bool) (ids : List ℕ) (bs cs : List Batch) → left_over V c ids (bs ++ cs) ≡ left_over V c (left_over V c ids bs) cs
+left-append : (V : Service) (c : Bool) (ids : List ℕ) (bs cs : List Batch) → left_over V c ids (bs ++ cs) ≡ left_over V c (left_over V c ids bs) cs
 left-append V c ids [] cs = refl
 left-append V c ids (b ∷ bs) cs = left-append V c (pending_after V c ids b) bs cs
 
-pub asked_both : (V : OpcodeSet) (c c' : Bool) (ids ids' : List ℕ) (bs cs : List Batch) (xs ys : List Performance) → c' ≡ c → ids' ≡ left_over V c ids bs
+pub asked_both : (V : Service) (c c' : Bool) (ids ids' : List ℕ) (bs cs : List Batch) (xs ys : List Performance) → c' ≡ c → ids' ≡ left_over V c ids bs
     → xs ≡ handed_over V c ids bs → ys ≡ handed_over V c' ids' cs → xs ++ ys ≡ handed_over V c ids (bs ++ cs)
 asked_both V c c' ids ids' bs cs xs ys same left one two =
     ap (λ (r : List Performance). r ++ ys) one ∙ ap (λ (r : List Performance). handed_over V c ids bs ++ r)
     (two ∙ ap (λ b. handed_over V b ids' cs) same ∙ ap (λ l. handed_over V c l cs) left) ∙ sym (asked-append V c ids bs cs)
 
-pub left_both : (V : OpcodeSet) (c c' : Bool) (ids ids' ids'' : List ℕ) (bs cs : List Batch) → c' ≡ c → ids' ≡ left_over V c ids bs
+pub left_both : (V : Service) (c c' : Bool) (ids ids' ids'' : List ℕ) (bs cs : List Batch) → c' ≡ c → ids' ≡ left_over V c ids bs
     → ids'' ≡ left_over V c' ids' cs → ids'' ≡ left_over V c ids (bs ++ cs)
 left_both V c c' ids ids' ids'' bs cs same left two =
     two ∙ ap (λ b. left_over V b ids' cs) same ∙ ap (λ l. left_over V c l cs) left ∙ sym (left-append V c ids bs cs)
@@ -73,16 +75,19 @@ one_batch timed marks = record { timed = timed; marks = marks } ∷ []
 pub are_one : (timed : List Timed) (marks : List Mark) → AreBatches (one_batch timed marks) timed marks
 are_one timed marks = record { messages = sym (append-nil timed); answers = sym (append-nil marks) }
 
-pub asked_one : (V : OpcodeSet) (c : Bool) (ids : List ℕ) (timed : List Timed) (marks : List Mark) (es : List Entry) (xs : List Performance)
-    → es ≡ kept_in V timed → xs ≡ performances_of es ids → xs ≡ handed_over V c ids (one_batch timed marks)
-asked_one V c ids timed marks es xs same is =
-    is ∙ ap (λ l. performances_of l ids) same ∙ sym (append-nil (performances_of (kept_in V timed) ids))
+pub asked_one : SeenByClass → (V : Service) (c : Bool) (ids : List ℕ) (timed : List Timed) (marks : List Mark) (es : List Entry) (xs : List Performance)
+    → es ≡ performed_of V timed → xs ≡ performances_of es (handed_to (kept_of V es) ids) → xs ≡ handed_over V c ids (one_batch timed marks)
+asked_one sees V c ids timed marks es xs same is =
+    is ∙ ap (λ l. performances_of l (handed_to (kept_of V l) ids)) same
+    ∙ ap (λ k. performances_of (performed_of V timed) (handed_to k ids)) (kept_performed sees V timed)
+    ∙ sym (append-nil (performances_of (performed_of V timed) (handed_to (kept_in V timed) ids)))
 
-pub left_one : (V : OpcodeSet) (c : Bool) (ids mid ids' : List ℕ) (timed : List Timed) (marks : List Mark) (es : List Entry) (prefix : List (List ℕ))
-    → es ≡ kept_in V timed → mid ≡ left_pending es ids → prefix ≡ bytes_of timed → ids' ≡ mid ++ settled_in V c prefix marks
+pub left_one : SeenByClass → (V : Service) (c : Bool) (ids mid ids' : List ℕ) (timed : List Timed) (marks : List Mark) (es : List Entry) (prefix : List (List ℕ))
+    → es ≡ performed_of V timed → mid ≡ left_pending (kept_of V es) ids → prefix ≡ bytes_of timed → ids' ≡ mid ++ settled_in V c prefix marks
     → ids' ≡ left_over V c ids (one_batch timed marks)
-left_one V c ids mid ids' timed marks es prefix same left bytes is =
-    is ∙ ap (λ p. mid ++ settled_in V c p marks) bytes ∙ ap (λ (l : List ℕ). l ++ settled_in V c (bytes_of timed) marks) (left ∙ ap (λ e. left_pending e ids) same)
+left_one sees V c ids mid ids' timed marks es prefix same left bytes is =
+    is ∙ ap (λ p. mid ++ settled_in V c p marks) bytes ∙ ap (λ (l : List ℕ). l ++ settled_in V c (bytes_of timed) marks) (left
+    ∙ ap (λ e. left_pending (kept_of V e) ids) same ∙ ap (λ k. left_pending k ids) (kept_performed sees V timed))
 
 -- ---- slices of several answers
 

@@ -3,7 +3,7 @@ use Rattle.std.proofs.Common.{◌≡◌, inl, inr, ℕ, Bool, true, false, List,
 use Rattle.std.proofs.lemmas.List.{append-nil}
 use Rattle.fuse_wire.specs.declared.moment.Moment.{Moment}
 use Rattle.fuse_request.specs.Act.{Asked}
-use Rattle.fuse_request.specs.Opcodes.{OpcodeSet}
+use Rattle.fuse_request.specs.Opcodes.{Service}
 use Rattle.fuse_request.specs.Stream.{cut}
 use Rattle.fuse_keeper.specs.Performance.{Performance, IsPerformanceLog}
 use Rattle.fuse_session.specs.declared.port.Received.{Received as Receipt}
@@ -65,7 +65,7 @@ one_heard result bytes = record { moments = []; asked = []; events = Received re
 
 -- a receive, and the sends after it
 pub turn_of : {P : Type 0} (gave : List Moment → Type 0) (performed : List Performance → Type 0) (became : P → P → List PortEvent → Type 0) → IsTranscript became
-    → (p q r : P) (result : Receipt) (bytes : List ℕ) (b : Deeds) (V : OpcodeSet) (held : List ℕ) (messages : List (List ℕ)) (later : List (List Asked)) (all : Bool)
+    → (p q r : P) (result : Receipt) (bytes : List ℕ) (b : Deeds) (V : Service) (held : List ℕ) (messages : List (List ℕ)) (later : List (List Asked)) (all : Bool)
     → messages ≡ (cut (held ++ bytes)).0 → (all ≡ true → later ≡ []) → became p q (Received result bytes ∷ []) → Gave (Received result bytes)
     → Mute (Did gave (Grouped V messages later performed) (became q r)) b
     → OneTurn V held all (Did gave performed (became p r)) (then_did (one_heard result bytes) b)
@@ -89,7 +89,7 @@ pub heard_by : (result : Receipt) (bytes : List ℕ) → received_in (one_heard 
 heard_by result bytes = append-nil bytes
 
 pub turn_none : {P : Type 0} (gave : List Moment → Type 0) (performed : List Performance → Type 0) (became : P → P → List PortEvent → Type 0)
-    → (p q : P) (result : Receipt) (bytes : List ℕ) (V : OpcodeSet) (held : List ℕ) → gave [] → performed [] → became p q (Received result bytes ∷ [])
+    → (p q : P) (result : Receipt) (bytes : List ℕ) (V : Service) (held : List ℕ) → gave [] → performed [] → became p q (Received result bytes ∷ [])
     → OneTurn V held false (Did gave performed (became p q)) (one_heard result bytes)
 turn_none gave performed became p q result bytes V held none unasked one = record {
   done = record { moments = none; asked = unasked; events = one };
@@ -105,7 +105,7 @@ turn_none gave performed became p q result bytes V held none unasked one = recor
 
 -- a receive and the sends after it, and what came
 pub turn_hears : {P : Type 0} (gave : List Moment → Type 0) (performed : List Performance → Type 0) (became : P → P → List PortEvent → Type 0)
-    → IsTranscript became → (p q r : P) (result : Receipt) (bytes : List ℕ) (b : Deeds) (V : OpcodeSet) (held : List ℕ) (messages : List (List ℕ))
+    → IsTranscript became → (p q r : P) (result : Receipt) (bytes : List ℕ) (b : Deeds) (V : Service) (held : List ℕ) (messages : List (List ℕ))
     (later : List (List Asked)) (all : Bool) → messages ≡ (cut (held ++ bytes)).0 → (all ≡ true → later ≡ []) → became p q (Received result bytes ∷ [])
     → Gave (Received result bytes) → Mute (Did gave (Grouped V messages later performed) (became q r)) b
     → Hears (OneTurn V held all (Did gave performed (became p r))) bytes (then_did (one_heard result bytes) b)

@@ -1,77 +1,74 @@
 -- Which messages end a session.
 use Rattle.std.proofs.Common.{◌≡◌, inl, inr, ℕ, Bool, true, false, ◌==◌, List, [], ◌∷◌, ◌++◌, map, Option, Some, refl, sym, ap, ◌∙◌}
-use Rattle.std.proofs.lemmas.List.{map-append}
 use Rattle.fuse_answer.specs.Said.{Said}
 use Rattle.fuse_request.specs.declared.class.Class.{Class}
-use Rattle.fuse_request.specs.declared.class.Class.TheVariants.{Silent, Bare, Kept}
-use Rattle.fuse_request.specs.Classes.{class_for}
+use Rattle.fuse_request.specs.declared.class.Class.TheVariants.{Silent, Bare, Kept, Seen}
+use Rattle.fuse_request.specs.Classes.{class_for, SeenByClass}
 use Rattle.fuse_request.specs.Header.{raw_of}
 use Rattle.fuse_keeper.specs.Model.{Model}
-use Rattle.fuse_keeper.specs.History.{Entry, entry_id, History, add, said, grown, said_after_each}
-use Rattle.fuse_session.specs.Processed.{Timed, kept_in, entries_at, entry_if, timed_entry, message_id, destroys, destroys_by, says_zero, GoesOn, Works, EndsLast, LastDestroys}
-use Rattle.fuse_session.specs.inner.Group.{NoZero, NoDestroy, DestroyLast, last_zero}
-use Rattle.fuse_session.proofs.Outs.{kept_in-append, grown-append}
+use Rattle.fuse_keeper.specs.History.{entry_id, History, add, said, grown, kept_of, answer_if, answer_after, answers_over, HistoriesGrow}
+use Rattle.fuse_session.specs.Processed.{Timed, kept_in, performed_of, performed_if, entries_at, entry_if, timed_entry, message_id}
+use Rattle.fuse_session.specs.Processed.{destroys, destroys_by, says_zero, GoesOn, Works, EndsLast, LastDestroys}
+use Rattle.fuse_session.specs.inner.Group.{NoZero, NoDestroy, DestroyLast, last_zero, left_by}
+use Rattle.fuse_session.proofs.Outs.{grown_kept, kept_performed, performed_of-append, head_is, answers_kept_first}
 
 two_ways : (b : Bool) → b ≡ true → b ≡ false → ⊥
 two_ways true t f = cc
 two_ways false t f = cc
 
-pub goes_none : (M : Model) → (s : M.State) (h : History) (ts : List Timed) → NoZero ts → NoDestroy M.serves ts → GoesOn M s h ts
+pub goes_none : (M : Model) → (s : M.State) (h : History) (ts : List Timed) → NoZero ts → NoDestroy M.service ts → GoesOn M s h ts
 goes_none M s h [] zero none = tt
-goes_none M s h (t ∷ ts) named none = (named.0, λ ends. two_ways (destroys M.serves t.bytes) ends.0 none.0, goes_none M s (grown h (entries_at M.serves t)) ts named.1 none.1)
+goes_none M s h (t ∷ ts) named none = (named.0, λ ends. two_ways (destroys M.service t.bytes) ends.0 none.0, goes_none M s (grown h (entries_at M.service t)) ts named.1 none.1)
 
-pub works_group : (M : Model) → (s : M.State) (h : History) (ts : List Timed) → NoZero ts → DestroyLast M.serves ts → Works M s h ts
+pub works_group : (M : Model) → (s : M.State) (h : History) (ts : List Timed) → NoZero ts → DestroyLast M.service ts → Works M s h ts
 works_group M s h [] named only = tt
 works_group M s h (t ∷ ts) named only = (
   named.0,
-  elim only.0 [ inl empty ↦ inl empty | inr none ↦ inr (λ ends. two_ways (destroys M.serves t.bytes) ends.0 none) ],
+  elim only.0 [ inl empty ↦ inl empty | inr none ↦ inr (λ ends. two_ways (destroys M.service t.bytes) ends.0 none) ],
   works_group M s
-      (grown h (entries_at M.serves t)) ts named.1 only.1,
+      (grown h (entries_at M.service t)) ts named.1 only.1,
 )
 
 last_tail : (a : Said) (list : List Said) → last_zero (a ∷ list) ≡ false → last_zero list ≡ false
 last_tail a [] h = refl
 last_tail a (b ∷ list) h = h
 
--- the answers to what follows a message
-pub record Following (M : Model) (s : M.State) (g : History) (ts : List Timed) : Type 0 where
-  pub list : List Said
-  pub are : map (λ a. Some a) list ≡ said_after_each M s g (kept_in M.serves ts)
-  pub last : last_zero list ≡ false
+last_left : (class : Class) (list : List Said) → last_zero list ≡ false → last_zero (left_by class list) ≡ false
+last_left Silent list last = last
+last_left (Bare errno) list last = last
+last_left Kept [] last = refl
+last_left Kept (a ∷ list) last = last_tail a list last
+last_left Seen [] last = refl
+last_left Seen (a ∷ list) last = last_tail a list last
 
-following : (M : Model) → (s : M.State) (h : History) (t : Timed) (ts : List Timed) (class : Class) (list : List Said)
-    → map (λ a. Some a) list ≡ said_after_each M s h (entry_if class (timed_entry t) ++ kept_in M.serves ts)
-    → last_zero list ≡ false → Following M s (grown h (entry_if class (timed_entry t))) ts
-following M s h t ts Silent list are last = record { list = list; are = are; last = last }
-following M s h t ts (Bare errno) list are last = record { list = list; are = are; last = last }
-following M s h t ts Kept [] are last = absurd (cc are)
-following M s h t ts Kept (a ∷ list) are last = record { list = list; are = cc are; last = last_tail a list last }
-
-not_ending : (M : Model) → (s : M.State) (h : History) (t : Timed) (class : Class) (list : List Said)
-    → map (λ a. Some a) list ≡ said_after_each M s h (entry_if class (timed_entry t) ++ [])
+not_ending : (M : Model) → SeenByClass → (s : M.State) (h : History) (t : Timed) (class : Class) (list : List Said) → class_for M.service t.bytes ≡ class
+    → map (λ a. Some a) list ≡ answers_over M s h (performed_if class (timed_entry t) ++ [])
     → last_zero list ≡ false → destroys_by class (raw_of t.bytes).opcode ≡ true
     → says_zero (said M s (grown h (entry_if class (timed_entry t))) (message_id t.bytes)) ≡ true → ⊥
-not_ending M s h t Silent list are last d z = cc d
-not_ending M s h t (Bare errno) list are last d z = cc d
-not_ending M s h t Kept [] are last d z = cc are
-not_ending M s h t Kept (a ∷ []) are last d z =
-    let here : said M s (add h (timed_entry t)) (entry_id (timed_entry t)) ≡ Some a = cc are in
-    two_ways (a.errno == 0) (sym (ap says_zero here) ∙ z) last
-not_ending M s h t Kept (a ∷ b ∷ list) are last d z = cc are
+not_ending M sees s h t Silent list is are last d z = cc d
+not_ending M sees s h t (Bare errno) list is are last d z = cc d
+not_ending M sees s h t Kept [] is are last d z = cc are
+not_ending M sees s h t Kept (a ∷ []) is are last d z =
+    let here : Some a ≡ said M s (add h (timed_entry t)) (message_id t.bytes) = cc (are ∙ answers_kept_first M sees s h t [] is) in
+    two_ways (a.errno == 0) (ap says_zero here ∙ z) last
+not_ending M sees s h t Kept (a ∷ b ∷ list) is are last d z = cc are
+not_ending M sees s h t Seen list is are last d z = cc d
 
-pub goes_last : (M : Model) → (s : M.State) (h : History) (ts : List Timed) (list : List Said) → NoZero ts → DestroyLast M.serves ts
-    → map (λ a. Some a) list ≡ said_after_each M s h (kept_in M.serves ts) → last_zero list ≡ false → GoesOn M s h ts
-goes_last M s h [] list named only are last = tt
-goes_last M s h (t ∷ ts) list named only are last =
-    let f = following M s h t ts (class_for M.serves t.bytes) list are last in
-    let rest = goes_last M s (grown h (entries_at M.serves t)) ts f.list named.1 only.1 f.are f.last in (
+pub goes_last : (M : Model) → SeenByClass → (s : M.State) (h : History) (ts : List Timed) (list : List Said) → NoZero ts → DestroyLast M.service ts
+    → map (λ a. Some a) list ≡ answers_over M s h (performed_of M.service ts) → last_zero list ≡ false → GoesOn M s h ts
+goes_last M sees s h [] list named only are last = tt
+goes_last M sees s h (t ∷ ts) list named only are last =
+    let V = M.service in
+    let class = class_for V t.bytes in
+    let left = (head_is M sees s h t (performed_of V ts) class list refl are).1 in (
       named.0,
       elim only.0 [
-        | inl empty ↦ λ ends. not_ending M s h t (class_for M.serves t.bytes) list (are ∙ ap (λ (r : List Timed). said_after_each M s h (entries_at M.serves t ++ kept_in M.serves r)) empty) last
-            ends.0 ends.1
-        | inr none ↦ λ ends. two_ways (destroys M.serves t.bytes) ends.0 none
+        | inl empty ↦ λ ends. not_ending M sees s h t class list refl
+            (are ∙ ap (λ (r : List Timed). answers_over M s h (performed_if class
+            (timed_entry t) ++ performed_of V r)) empty) last ends.0 ends.1
+        | inr none ↦ λ ends. two_ways (destroys V t.bytes) ends.0 none
       ],
-      rest,
+      goes_last M sees s (grown h (entries_at V t)) ts (left_by class list) named.1 only.1 left (last_left class list last),
     )
 
 last_of : (list : List Said) (ys : List (Option Said)) (o : Option Said) → map (λ a. Some a) list ≡ ys ++ o ∷ [] → last_zero list ≡ says_zero o
@@ -87,24 +84,28 @@ kept_if : (class : Class) (opcode : ℕ) → destroys_by class opcode ≡ true �
 kept_if Silent opcode is = absurd (cc is)
 kept_if (Bare errno) opcode is = absurd (cc is)
 kept_if Kept opcode is = refl
+kept_if Seen opcode is = absurd (cc is)
 
-pub ends_last : (M : Model) → (s : M.State) (h : History) (timed : List Timed) (list : List Said) → LastDestroys M.serves timed
-    → map (λ a. Some a) list ≡ map (λ e. said M s (grown h (kept_in M.serves timed)) (entry_id e)) (kept_in M.serves timed) → last_zero list ≡ true
-    → EndsLast M s h timed
-ends_last M s h timed list l are zero =
+pub ends_last : (M : Model) → HistoriesGrow M → SeenByClass → (s : M.State) (h : History) (timed : List Timed) (list : List Said) → LastDestroys M.service timed
+    → map (λ a. Some a) list ≡ answers_over M s h (performed_of M.service timed) → last_zero list ≡ true → EndsLast M s h timed
+ends_last M grows sees s h timed list l are zero =
+    let V = M.service in
     let e = timed_entry l.one in
-    let g = grown h (kept_in M.serves l.earlier) in
-    let kept = kept_if (class_for M.serves l.one.bytes) (raw_of l.one.bytes).opcode l.destroy in
-    let entries : kept_in M.serves timed ≡ kept_in M.serves l.earlier ++ e ∷ [] = ap (kept_in M.serves) l.parts ∙ kept_in-append M.serves l.earlier (l.one ∷ [])
-    ∙ ap (λ c. kept_in M.serves l.earlier ++ (entry_if c e ++ [])) kept in
-    let last : grown h (kept_in M.serves timed) ≡ add g e = ap (grown h) entries ∙ grown-append h (kept_in M.serves l.earlier) (e ∷ []) in
-    let said_last = λ (x : Entry). said M s (add g e) (entry_id x) in
-    let says = last_of list (map said_last (kept_in M.serves l.earlier)) (said M s (add g e) (entry_id e))
-    (are ∙ ap (λ x. map (λ y. said M s x (entry_id y)) (kept_in M.serves timed)) last ∙ ap (map said_last) entries
-    ∙ map-append said_last (kept_in M.serves l.earlier) (e ∷ [])) in
+    let g = grown h (kept_in V l.earlier) in
+    let first = performed_of V l.earlier in
+    let kept = kept_if (class_for V l.one.bytes) (raw_of l.one.bytes).opcode l.destroy in
+    let entries : performed_of V timed ≡ first ++ e ∷ [] = ap (performed_of V) l.parts ∙ performed_of-append V l.earlier (l.one ∷ [])
+    ∙ ap (λ c. first ++ (performed_if c e ++ [])) kept in
+    let answer : answer_after M s (grown h (kept_of V first)) e ≡ said M s (add g e) (entry_id e) =
+    ap (λ es. answer_after M s (grown h es) e) (kept_performed sees V l.earlier)
+    ∙ ap (λ b. answer_if M b s g e) (sees V l.one.bytes false kept) in
+    let says = last_of list (answers_over M s h first) (answer_after M s (grown h (kept_of V first)) e)
+    (are ∙ ap (answers_over M s h) entries ∙ grows.one_more s h first e) in
+    let last : grown h (kept_in V timed) ≡ add g e = ap (λ ts. grown h (kept_in V ts)) l.parts ∙ grown_kept V h l.earlier (l.one ∷ [])
+    ∙ ap (λ c. grown g (entry_if c e ++ [])) kept in
     record {
       earlier = l.earlier;
       one = l.one;
       parts = l.parts;
-      ends = (l.destroy, ap (λ x. says_zero (said M s x (message_id l.one.bytes))) last ∙ sym says ∙ zero);
+      ends = (l.destroy, ap (λ x. says_zero (said M s x (message_id l.one.bytes))) last ∙ ap says_zero (sym answer) ∙ sym says ∙ zero);
     }

@@ -1,28 +1,27 @@
 -- The groups that are read off messages, one message after another.
-use Rattle.std.proofs.Common.{◌≡◌, ℕ, ◌+◌, ◌-◌, ◌<◌, ◌≤◌, ◌==◌, ◌||◌, nat_lt, Bool, true, false, not, if◌then◌else◌, List, [], ◌∷◌, ◌++◌, length, take, drop, get_or}
+use Rattle.std.proofs.Common.{◌≡◌, ℕ, ◌+◌, ◌-◌, ◌<◌, ◌≤◌, ◌||◌, nat_lt, Bool, true, false, not, if◌then◌else◌, List, [], ◌∷◌, ◌++◌, length}
+use Rattle.std.proofs.Common.{take, drop, get_or}
 use Rattle.std.proofs.Common.{refl, sym, ap, ◌∙◌, append_assoc, arith, length-append, length-drop}
 use Rattle.std.proofs.lemmas.List.{append-nil, drop_more, drop_all, map-append, length-map, take_all, drop-drop}
 use Rattle.std.proofs.lemmas.Grind.{flat_map-append}
 use Rattle.std.specs.List.{flat_map}
 use Rattle.fuse_request.specs.Act.{Asked}
 use Rattle.fuse_request.specs.Classes.{class_for, is_zero}
-use Rattle.fuse_request.specs.Header.{raw_of}
-use Rattle.fuse_request.specs.Opcodes.{OpcodeSet}
+use Rattle.fuse_request.specs.Opcodes.{Service}
 use Rattle.fuse_request.specs.Places.{asked_at}
 use Rattle.fuse_request.specs.Stream.{cut, CutJoins}
 use Rattle.fuse_request.specs.declared.class.Class.{Class}
-use Rattle.fuse_request.specs.declared.class.Class.TheVariants.{Silent, Bare, Kept}
+use Rattle.fuse_request.specs.declared.class.Class.TheVariants.{Silent, Bare, Kept, Seen}
 use Rattle.fuse_request.specs.declared.request.Request.{Request}
 use Rattle.fuse_wire.specs.declared.moment.Moment.{Moment}
-use Rattle.fuse_wire.specs.Opcodes.{fuse_destroy}
 use Rattle.fuse_keeper.specs.Group.{entry_of, entries_of}
 use Rattle.fuse_keeper.specs.History.{Entry}
 use Rattle.fuse_keeper.specs.Performance.{Performance, performances_of, IsPerformanceLog}
 use Rattle.fuse_session.specs.declared.port.Sent.{Sent}
 use Rattle.fuse_session.specs.Clock.{IsLog}
 use Rattle.fuse_session.specs.Deeds.{Deeds, Did}
-use Rattle.fuse_session.specs.Grouping.{asked_in, is_kept_class, one_group, ends_group, groups_after, groups_of, turns_of, groups_in, groups_asked}
-use Rattle.fuse_session.specs.Processed.{Timed, bytes_of, kept_in, entry_if, message_entry}
+use Rattle.fuse_session.specs.Grouping.{asked_in, is_performed_class, one_group, ends_group, groups_after, groups_of, turns_of, groups_in, groups_asked}
+use Rattle.fuse_session.specs.Processed.{Timed, bytes_of, performed_of, performed_if, message_entry, destroys}
 use Rattle.fuse_session.specs.inner.Group.{Gathers, IsStuck}
 use Rattle.fuse_session.specs.Transcript.{PortEvent, Received, Handed, received_in, sends_of, IsTranscript}
 use Rattle.fuse_session.specs.inner.Turn.{Mute, Grouped, GroupedSome, OneTurn}
@@ -31,19 +30,19 @@ use Rattle.fuse_session.proofs.Doing.{then_did, mute_more}
 -- ---- one message
 
 -- what is taken so far is a group where it is full, and else the begin of one
-abbrev pub groups_next : OpcodeSet → List Asked → List (List ℕ) → List (List Asked)
+abbrev pub groups_next : Service → List Asked → List (List ℕ) → List (List Asked)
 groups_next V so_far rest = if nat_lt 15 (length so_far) then so_far ∷ groups_after V [] rest else groups_after V so_far rest
 
-abbrev kept_then : OpcodeSet → List Asked → List ℕ → List (List ℕ) → Bool → List (List Asked)
+abbrev kept_then : Service → List Asked → List ℕ → List (List ℕ) → Bool → List (List Asked)
 kept_then V so_far m ms ends = if ends then (so_far ++ asked_at m ∷ []) ∷ groups_after V [] ms else groups_after V (so_far ++ asked_at m ∷ []) ms
 
-abbrev class_then : OpcodeSet → List Asked → List ℕ → List (List ℕ) → Bool → List (List Asked)
-class_then V so_far m ms kept = if not kept then groups_after V so_far ms else kept_then V so_far m ms (ends_group (length so_far) m)
+abbrev class_then : Service → List Asked → List ℕ → List (List ℕ) → Bool → List (List Asked)
+class_then V so_far m ms kept = if not kept then groups_after V so_far ms else kept_then V so_far m ms (ends_group V (length so_far) m)
 
-abbrev zero_then : OpcodeSet → List Asked → List ℕ → List (List ℕ) → Bool → List (List Asked)
-zero_then V so_far m ms zero = if zero then one_group so_far else class_then V so_far m ms (is_kept_class (class_for V m))
+abbrev zero_then : Service → List Asked → List ℕ → List (List ℕ) → Bool → List (List Asked)
+zero_then V so_far m ms zero = if zero then one_group so_far else class_then V so_far m ms (is_performed_class (class_for V m))
 
-next_is : (V : OpcodeSet) (so_far : List Asked) (rest : List (List ℕ)) (full : Bool) → nat_lt 15 (length so_far) ≡ full
+next_is : (V : Service) (so_far : List Asked) (rest : List (List ℕ)) (full : Bool) → nat_lt 15 (length so_far) ≡ full
     → groups_next V so_far rest ≡ (if full then so_far ∷ groups_after V [] rest else groups_after V so_far rest)
 next_is V so_far rest full is = ap (λ b. if b then so_far ∷ groups_after V [] rest else groups_after V so_far rest) is
 
@@ -52,44 +51,44 @@ one_some [] a = refl
 one_some (x ∷ xs) a = refl
 
 -- it is full
-pub next_full : (V : OpcodeSet) (so_far : List Asked) (rest : List (List ℕ)) → nat_lt 15 (length so_far) ≡ true
+pub next_full : (V : Service) (so_far : List Asked) (rest : List (List ℕ)) → nat_lt 15 (length so_far) ≡ true
     → groups_next V so_far rest ≡ one_group so_far ++ groups_of V rest
 next_full V [] rest full = absurd (cc full)
 next_full V (a ∷ more) rest full = next_is V (a ∷ more) rest true full
 
 -- no message is left
-pub next_end : (V : OpcodeSet) (so_far : List Asked) → groups_next V so_far [] ≡ one_group so_far ++ groups_of V []
+pub next_end : (V : Service) (so_far : List Asked) → groups_next V so_far [] ≡ one_group so_far ++ groups_of V []
 next_end V [] = refl
 next_end V (a ∷ more) = elim (nat_lt 15 (length (a ∷ more))) as (λ b. (if b then (a ∷ more) ∷ [] else (a ∷ more) ∷ []) ≡ (a ∷ more) ∷ []) [ true ↦ refl | false ↦ refl ]
 
 -- the next one is zero
-pub next_zero : (V : OpcodeSet) (so_far : List Asked) (m : List ℕ) (ms : List (List ℕ)) → nat_lt 15 (length so_far) ≡ false → is_zero m ≡ true
+pub next_zero : (V : Service) (so_far : List Asked) (m : List ℕ) (ms : List (List ℕ)) → nat_lt 15 (length so_far) ≡ false → is_zero m ≡ true
     → groups_next V so_far (m ∷ ms) ≡ one_group so_far ++ groups_of V (m ∷ ms)
 next_zero V so_far m ms few zero =
     next_is V so_far (m ∷ ms) false few ∙ ap (zero_then V so_far m ms) zero ∙ sym (append-nil (one_group so_far))
     ∙ ap (λ (r : List (List Asked)). one_group so_far ++ r) (sym (ap (zero_then V [] m ms) zero))
 
-next_class : (V : OpcodeSet) (so_far : List Asked) (m : List ℕ) (ms : List (List ℕ)) (kept : Bool) → nat_lt 15 (length so_far) ≡ false → is_zero m ≡ false
-    → is_kept_class (class_for V m) ≡ kept → groups_next V so_far (m ∷ ms) ≡ class_then V so_far m ms kept
+next_class : (V : Service) (so_far : List Asked) (m : List ℕ) (ms : List (List ℕ)) (kept : Bool) → nat_lt 15 (length so_far) ≡ false → is_zero m ≡ false
+    → is_performed_class (class_for V m) ≡ kept → groups_next V so_far (m ∷ ms) ≡ class_then V so_far m ms kept
 next_class V so_far m ms kept few named is =
     next_is V so_far (m ∷ ms) false few ∙ ap (zero_then V so_far m ms) named ∙ ap (class_then V so_far m ms) is
 
 -- the next one isn't kept
-next_none : (V : OpcodeSet) (so_far : List Asked) (m : List ℕ) (ms : List (List ℕ)) → nat_lt 15 (length so_far) ≡ false → is_zero m ≡ false
-    → is_kept_class (class_for V m) ≡ false → groups_next V so_far (m ∷ ms) ≡ groups_next V so_far ms
+next_none : (V : Service) (so_far : List Asked) (m : List ℕ) (ms : List (List ℕ)) → nat_lt 15 (length so_far) ≡ false → is_zero m ≡ false
+    → is_performed_class (class_for V m) ≡ false → groups_next V so_far (m ∷ ms) ≡ groups_next V so_far ms
 next_none V so_far m ms few named isnt = next_class V so_far m ms false few named isnt ∙ sym (next_is V so_far ms false few)
 
 -- the next one is kept, and no DESTROY
-next_some : (V : OpcodeSet) (so_far : List Asked) (m : List ℕ) (ms : List (List ℕ)) → nat_lt 15 (length so_far) ≡ false → is_zero m ≡ false
-    → is_kept_class (class_for V m) ≡ true → ((raw_of m).opcode == fuse_destroy) ≡ false
+next_some : (V : Service) (so_far : List Asked) (m : List ℕ) (ms : List (List ℕ)) → nat_lt 15 (length so_far) ≡ false → is_zero m ≡ false
+    → is_performed_class (class_for V m) ≡ true → destroys V m ≡ false
     → groups_next V so_far (m ∷ ms) ≡ groups_next V (so_far ++ asked_at m ∷ []) ms
 next_some V so_far m ms few named kept isnt =
     next_class V so_far m ms true few named kept
     ∙ ap (kept_then V so_far m ms) (ap (λ d. d || nat_lt 15 (length so_far + 1)) isnt ∙ ap (nat_lt 15) (sym (length-append so_far (asked_at m ∷ []))))
 
 -- the next one is a DESTROY
-next_destroy : (V : OpcodeSet) (so_far : List Asked) (m : List ℕ) (ms : List (List ℕ)) → nat_lt 15 (length so_far) ≡ false → is_zero m ≡ false
-    → is_kept_class (class_for V m) ≡ true → ((raw_of m).opcode == fuse_destroy) ≡ true
+next_destroy : (V : Service) (so_far : List Asked) (m : List ℕ) (ms : List (List ℕ)) → nat_lt 15 (length so_far) ≡ false → is_zero m ≡ false
+    → is_performed_class (class_for V m) ≡ true → destroys V m ≡ true
     → groups_next V so_far (m ∷ ms) ≡ one_group (so_far ++ asked_at m ∷ []) ++ groups_of V ms
 next_destroy V so_far m ms few named kept is =
     next_class V so_far m ms true few named kept
@@ -98,15 +97,17 @@ next_destroy V so_far m ms few named kept is =
 
 -- ---- the loop over them
 
-kept_none : (class : Class) (e : Entry) → [] ≡ entry_if class e → is_kept_class class ≡ false
+kept_none : (class : Class) (e : Entry) → [] ≡ performed_if class e → is_performed_class class ≡ false
 kept_none Silent e is = refl
 kept_none (Bare errno) e is = refl
 kept_none Kept e is = absurd (cc is)
+kept_none Seen e is = absurd (cc is)
 
-kept_one : (class : Class) (x e : Entry) → x ∷ [] ≡ entry_if class e → (is_kept_class class ≡ true) × (x ≡ e)
+kept_one : (class : Class) (x e : Entry) → x ∷ [] ≡ performed_if class e → (is_performed_class class ≡ true) × (x ≡ e)
 kept_one Silent x e is = absurd (cc is)
 kept_one (Bare errno) x e is = absurd (cc is)
 kept_one Kept x e is = (refl, cc is)
+kept_one Seen x e is = (refl, cc is)
 
 here : (ms : List (List ℕ)) (i : ℕ) (m bytes : List ℕ) → i < length ms → m ≡ get_or ms i m → bytes ≡ m → drop i ms ≡ bytes ∷ drop (i + 1) ms
 here ms i m bytes lt at is = drop_more ms i m lt ∙ ap (λ x. x ∷ drop (i + 1) ms) (sym (is ∙ at))
@@ -129,16 +130,16 @@ asked_more taken taken' one bytes t pushed is =
     ∙ map-append (λ (e : Entry). e.asked) (entries_of taken) (entry_of one ∷ [])
     ∙ ap (λ (e : Entry). asked_in (entries_of taken) ++ e.asked ∷ []) is
 
-pub groups_none : (V : OpcodeSet) (ms : List (List ℕ)) (i : ℕ) (m bytes : List ℕ) (taken : List (Request × Moment)) (t : Moment) → i < length ms
-    → m ≡ get_or ms i m → bytes ≡ m → length taken < 16 → is_zero bytes ≡ false → [] ≡ entry_if (class_for V bytes) (message_entry bytes t)
+pub groups_none : (V : Service) (ms : List (List ℕ)) (i : ℕ) (m bytes : List ℕ) (taken : List (Request × Moment)) (t : Moment) → i < length ms
+    → m ≡ get_or ms i m → bytes ≡ m → length taken < 16 → is_zero bytes ≡ false → [] ≡ performed_if (class_for V bytes) (message_entry bytes t)
     → groups_of V ms ≡ groups_next V (asked_in (entries_of taken)) (drop i ms) → groups_of V ms ≡ groups_next V (asked_in (entries_of taken)) (drop (i + 1) ms)
 groups_none V ms i m bytes taken t lt at is few named none so_far =
     so_far ∙ ap (groups_next V (asked_in (entries_of taken))) (here ms i m bytes lt at is)
     ∙ next_none V (asked_in (entries_of taken)) bytes (drop (i + 1) ms) (asked_open taken few) named (kept_none (class_for V bytes) (message_entry bytes t) none)
 
-pub groups_some : (V : OpcodeSet) (ms : List (List ℕ)) (i : ℕ) (m bytes : List ℕ) (taken taken' : List (Request × Moment)) (one : Request × Moment) (t : Moment)
+pub groups_some : (V : Service) (ms : List (List ℕ)) (i : ℕ) (m bytes : List ℕ) (taken taken' : List (Request × Moment)) (one : Request × Moment) (t : Moment)
     → i < length ms → m ≡ get_or ms i m → bytes ≡ m → length taken < 16 → is_zero bytes ≡ false
-    → entry_of one ∷ [] ≡ entry_if (class_for V bytes) (message_entry bytes t) → taken' ≡ taken ++ one ∷ [] → ((raw_of bytes).opcode == fuse_destroy) ≡ false
+    → entry_of one ∷ [] ≡ performed_if (class_for V bytes) (message_entry bytes t) → taken' ≡ taken ++ one ∷ [] → destroys V bytes ≡ false
     → groups_of V ms ≡ groups_next V (asked_in (entries_of taken)) (drop i ms) → groups_of V ms ≡ groups_next V (asked_in (entries_of taken')) (drop (i + 1) ms)
 groups_some V ms i m bytes taken taken' one t lt at is few named some pushed isnt so_far =
     let kept = kept_one (class_for V bytes) (entry_of one) (message_entry bytes t) some in
@@ -146,9 +147,9 @@ groups_some V ms i m bytes taken taken' one t lt at is few named some pushed isn
     ∙ next_some V (asked_in (entries_of taken)) bytes (drop (i + 1) ms) (asked_open taken few) named kept.0 isnt
     ∙ ap (λ l. groups_next V l (drop (i + 1) ms)) (sym (asked_more taken taken' one bytes t pushed kept.1))
 
-pub groups_destroy : (V : OpcodeSet) (ms : List (List ℕ)) (i : ℕ) (m bytes : List ℕ) (taken taken' : List (Request × Moment)) (one : Request × Moment) (t : Moment)
+pub groups_destroy : (V : Service) (ms : List (List ℕ)) (i : ℕ) (m bytes : List ℕ) (taken taken' : List (Request × Moment)) (one : Request × Moment) (t : Moment)
     → i < length ms → m ≡ get_or ms i m → bytes ≡ m → length taken < 16 → is_zero bytes ≡ false
-    → entry_of one ∷ [] ≡ entry_if (class_for V bytes) (message_entry bytes t) → taken' ≡ taken ++ one ∷ [] → ((raw_of bytes).opcode == fuse_destroy) ≡ true
+    → entry_of one ∷ [] ≡ performed_if (class_for V bytes) (message_entry bytes t) → taken' ≡ taken ++ one ∷ [] → destroys V bytes ≡ true
     → groups_of V ms ≡ groups_next V (asked_in (entries_of taken)) (drop i ms)
     → groups_of V ms ≡ one_group (asked_in (entries_of taken')) ++ groups_of V (drop (i + 1) ms)
 groups_destroy V ms i m bytes taken taken' one t lt at is few named some pushed destroy so_far =
@@ -157,7 +158,7 @@ groups_destroy V ms i m bytes taken taken' one t lt at is few named some pushed 
     ∙ next_destroy V (asked_in (entries_of taken)) bytes (drop (i + 1) ms) (asked_open taken few) named kept.0 destroy
     ∙ ap (λ l. one_group l ++ groups_of V (drop (i + 1) ms)) (sym (asked_more taken taken' one bytes t pushed kept.1))
 
-pub groups_zero : (V : OpcodeSet) (ms : List (List ℕ)) (i : ℕ) (m bytes : List ℕ) (taken : List (Request × Moment)) → i < length ms
+pub groups_zero : (V : Service) (ms : List (List ℕ)) (i : ℕ) (m bytes : List ℕ) (taken : List (Request × Moment)) → i < length ms
     → m ≡ get_or ms i m → bytes ≡ m → length taken < 16 → is_zero bytes ≡ true
     → groups_of V ms ≡ groups_next V (asked_in (entries_of taken)) (drop i ms) → groups_of V ms ≡ one_group (asked_in (entries_of taken)) ++ groups_of V (drop i ms)
 groups_zero V ms i m bytes taken lt at is few zero so_far =
@@ -165,11 +166,11 @@ groups_zero V ms i m bytes taken lt at is few zero so_far =
     so_far ∙ ap (groups_next V (asked_in (entries_of taken))) there ∙ next_zero V (asked_in (entries_of taken)) bytes (drop (i + 1) ms) (asked_open taken few) zero
     ∙ ap (λ l. one_group (asked_in (entries_of taken)) ++ groups_of V l) (sym there)
 
-pub groups_full : (V : OpcodeSet) (ms : List (List ℕ)) (i : ℕ) (taken : List (Request × Moment)) → 16 ≤ length taken
+pub groups_full : (V : Service) (ms : List (List ℕ)) (i : ℕ) (taken : List (Request × Moment)) → 16 ≤ length taken
     → groups_of V ms ≡ groups_next V (asked_in (entries_of taken)) (drop i ms) → groups_of V ms ≡ one_group (asked_in (entries_of taken)) ++ groups_of V (drop i ms)
 groups_full V ms i taken many so_far = so_far ∙ next_full V (asked_in (entries_of taken)) (drop i ms) (asked_full taken many)
 
-pub groups_end : (V : OpcodeSet) (ms : List (List ℕ)) (i : ℕ) (taken : List (Request × Moment)) → length ms ≤ i
+pub groups_end : (V : Service) (ms : List (List ℕ)) (i : ℕ) (taken : List (Request × Moment)) → length ms ≤ i
     → groups_of V ms ≡ groups_next V (asked_in (entries_of taken)) (drop i ms) → groups_of V ms ≡ one_group (asked_in (entries_of taken)) ++ groups_of V (drop i ms)
 groups_end V ms i taken all so_far =
     let none = drop_all i ms all in
@@ -181,11 +182,11 @@ none_timed : (ts : List Timed) → [] ≡ bytes_of ts → ts ≡ []
 none_timed [] is = refl
 none_timed (t ∷ ts) is = absurd (cc is)
 
-pub full_stuck : (V : OpcodeSet) (gave : List Moment → Type 0) (ms : List (List ℕ)) (n : ℕ) (taken : List (Request × Moment)) → n ≡ 0
+pub full_stuck : (V : Service) (gave : List Moment → Type 0) (ms : List (List ℕ)) (n : ℕ) (taken : List (Request × Moment)) → n ≡ 0
     → Gathers V gave (take n ms) taken false → 1 ≤ length taken → ⊥
 full_stuck V gave ms n taken none gathers many =
     let b : [] ≡ bytes_of gathers.timed = ap (λ k. take k ms) (sym none) ∙ gathers.bytes in
-    let e : entries_of taken ≡ [] = gathers.entries ∙ ap (kept_in V) (none_timed gathers.timed b) in
+    let e : entries_of taken ≡ [] = gathers.entries ∙ ap (performed_of V) (none_timed gathers.timed b) in
     omega (arith, ap length e, length-map taken entry_of, many)
 
 pub zero_stuck : (ms : List (List ℕ)) (i : ℕ) (m bytes : List ℕ) → m ≡ get_or ms i m → bytes ≡ m → is_zero bytes ≡ true → i ≡ 0 → IsStuck ms
@@ -199,7 +200,7 @@ asked_one [] ids = refl
 asked_one (e ∷ es) ids = refl
 
 -- a group was taken off messages, and the keeper asked for it
-pub grouped_one : (V : OpcodeSet) (ms : List (List ℕ)) (n count : ℕ) (taken group : List (Request × Moment)) (ids : List ℕ) → count ≡ n → group ≡ taken
+pub grouped_one : (V : Service) (ms : List (List ℕ)) (n count : ℕ) (taken group : List (Request × Moment)) (ids : List ℕ) → count ≡ n → group ≡ taken
     → groups_of V ms ≡ one_group (asked_in (entries_of taken)) ++ groups_of V (drop n ms)
     → groups_of V ms ≡ groups_asked (performances_of (entries_of group) ids) ++ groups_of V (drop count ms)
 grouped_one V ms n count taken group ids len same is =
@@ -216,12 +217,12 @@ asked_both xs ys later =
 pub waiting_is : (ms : List (List ℕ)) (i : ℕ) → take (length ms - i) (drop i ms) ≡ drop i ms
 waiting_is ms i = take_all (length ms - i) (drop i ms) (omega (arith, length-drop i ms))
 
-pub left_is : (V : OpcodeSet) (ms : List (List ℕ)) (i n : ℕ) → groups_of V (drop n (take (length ms - i) (drop i ms))) ≡ groups_of V (drop (i + n) ms)
+pub left_is : (V : Service) (ms : List (List ℕ)) (i n : ℕ) → groups_of V (drop n (take (length ms - i) (drop i ms))) ≡ groups_of V (drop (i + n) ms)
 left_is V ms i n = ap (λ l. groups_of V (drop n l)) (waiting_is ms i) ∙ ap (groups_of V) (drop-drop n i ms)
 
 -- groups, and then those of the messages that were left
 pub mute_grouped : {K P C : Type 0} (gave : C → C → List Moment → Type 0) (performed : K → K → List Performance → Type 0) (became : P → P → List PortEvent → Type 0)
-    → IsLog gave → IsPerformanceLog performed → IsTranscript became → (c c' c'' : C) (k k' k'' : K) (p p' p'' : P) (a b : Deeds) (V : OpcodeSet)
+    → IsLog gave → IsPerformanceLog performed → IsTranscript became → (c c' c'' : C) (k k' k'' : K) (p p' p'' : P) (a b : Deeds) (V : Service)
     (ms : List (List ℕ)) (i : ℕ) (later later' : List (List Asked)) → later ≡ later'
     → Mute (Did (gave c c') (Grouped V ms (groups_of V (drop i ms)) (performed k k')) (became p p')) a
     → Mute (Did (gave c' c'') (Grouped V (take (length ms - i) (drop i ms)) later (performed k' k'')) (became p' p'')) b
@@ -255,7 +256,7 @@ mute_grouped gave performed became log asks path c c' c'' k k' k'' p p' p'' a b 
 
 -- the same where it isn't known what is left in the end
 pub mute_some : {K P C : Type 0} (gave : C → C → List Moment → Type 0) (performed : K → K → List Performance → Type 0) (became : P → P → List PortEvent → Type 0)
-    → IsLog gave → IsPerformanceLog performed → IsTranscript became → (c c' c'' : C) (k k' k'' : K) (p p' p'' : P) (a b : Deeds) (V : OpcodeSet)
+    → IsLog gave → IsPerformanceLog performed → IsTranscript became → (c c' c'' : C) (k k' k'' : K) (p p' p'' : P) (a b : Deeds) (V : Service)
     (ms : List (List ℕ)) (i : ℕ)
     → Mute (Did (gave c c') (Grouped V ms (groups_of V (drop i ms)) (performed k k')) (became p p')) a
     → Mute (Did (gave c' c'') (GroupedSome V (take (length ms - i) (drop i ms)) (performed k' k'')) (became p' p'')) b
@@ -306,7 +307,7 @@ unfolding cut
 cut_nothing = refl
 
 -- a turn more
-pub groups_more : CutJoins → (V : OpcodeSet) (a b : Deeds) (held received : List ℕ) (all : Bool) (did : Deeds → Type 0) → received_in a.events ≡ received
+pub groups_more : CutJoins → (V : Service) (a b : Deeds) (held received : List ℕ) (all : Bool) (did : Deeds → Type 0) → received_in a.events ≡ received
     → held ≡ (cut ([] ++ received)).1 → groups_in V a.events ≡ groups_asked a.asked → (turn : OneTurn V held all did b)
     → groups_in V (a.events ++ b.events) ≡ groups_asked (a.asked ++ b.asked) ++ turn.later
 groups_more joins V a b held received all did came held_so so_far turn =

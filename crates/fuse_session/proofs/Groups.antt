@@ -1,21 +1,18 @@
 -- A group performed, and its answers sent.
-use Rattle.std.proofs.Common.{◌≡◌, ◌⊎◌, inl, inr, ⊎_elim, ℕ, suc, ◌-◌, ◌≤◌, ◌<◌, Bool, true, false, ◌&&◌, ◌==◌, List, [], ◌∷◌, ◌++◌, ◌+◌, length, map}
+use Rattle.std.proofs.Common.{◌≡◌, ◌⊎◌, inl, inr, ⊎_elim, ℕ, suc, ◌-◌, ◌≤◌, Bool, true, false, ◌&&◌, ◌==◌, List, [], ◌∷◌, ◌++◌, ◌+◌, length}
+use Rattle.std.proofs.Common.{map}
 use Rattle.std.proofs.Common.{take, drop, All, Some, slice_get, refl, sym, ap, subst, ◌∙◌, arith}
 use Rattle.std.proofs.lemmas.List.{append-nil, take-append-drop, length-map}
-use Rattle.fuse_request.specs.Opcodes.{OpcodeSet}
 use Rattle.fuse_wire.specs.declared.moment.Moment.{Moment}
-use Rattle.fuse_answer.specs.Said.{Said}
 use Rattle.fuse_request.specs.declared.request.Request.{Request}
-use Rattle.fuse_request.specs.declared.class.Class.{Class}
-use Rattle.fuse_request.specs.declared.class.Class.TheVariants.{Silent, Bare, Kept}
-use Rattle.fuse_request.specs.Classes.{class_for}
+use Rattle.fuse_request.specs.Classes.{SeenByClass}
 use Rattle.fuse_keeper.specs.declared.keeper.Done.{Done}
 use Rattle.fuse_keeper.specs.declared.fault.StoreFault.{StoreFault}
-use Rattle.fuse_keeper.specs.History.{Entry, entry_id, History, said, grown, said_after_each, ids_in, Includes, IsUnsettled, repeats, HistoriesGrow}
+use Rattle.fuse_keeper.specs.History.{Entry, History, grown, kept_of, answers_over, ids_in, Includes, IsUnsettled, repeats, HistoriesGrow}
 use Rattle.fuse_keeper.specs.Model.{Model}
 use Rattle.fuse_keeper.specs.Stands.{Standing, Records, Stands, StandsForEither, AreThese, StillStands}
 use Rattle.fuse_keeper.specs.KeeperState.{KeeperState, StandsFor, Performed, Leaves, IsFirm, KeepsHeld, ActsOn}
-use Rattle.fuse_keeper.specs.Group.{entry_of, entries_of, handed_to, left_pending}
+use Rattle.fuse_keeper.specs.Group.{entries_of, handed_to, left_pending}
 use Rattle.fuse_keeper.specs.Performance.{Performance, performances_of}
 use Rattle.fuse_session.specs.Transcript.{PortEvent, sends_of, handed_in}
 use Rattle.fuse_session.specs.Slices.{RestsOfAll, RestsOfSome}
@@ -27,7 +24,7 @@ use Rattle.fuse_session.proofs.Firsts.{group_first, first_unsent, same_answers}
 use Rattle.fuse_session.proofs.Standing.{standing, exchanged, StandAt, stands_later, stands_kept}
 use Rattle.fuse_session.specs.declared.ended.Ended.{Ended}
 use Rattle.fuse_session.specs.declared.ended.Ended.TheVariants.{Store as ByStore}
-use Rattle.fuse_session.specs.Ended.{ended_store, ended_between, MayEnd}
+use Rattle.fuse_session.specs.Ended.{ended_store, ended_between, MayEnd, IsIntact}
 use Rattle.fuse_session.specs.inner.Finishing.{ended_at}
 use Rattle.fuse_session.specs.Passage.{passage}
 use Rattle.fuse_session.specs.declared.counts.SessionCounts.{SessionCounts}
@@ -36,13 +33,13 @@ use Rattle.fuse_session.specs.declared.group.Next.TheVariants.{ZeroUnique}
 use Rattle.fuse_session.specs.declared.fault.Fault.{Fault}
 use Rattle.fuse_session.specs.declared.fault.Fault.TheVariants.{PortFailed, Store, Memory}
 use Rattle.fuse_session.specs.Port.{PortState}
-use Rattle.fuse_session.specs.Processed.{Timed, bytes_of, kept_in, entry_if, timed_entry, answers_to, Works, StartsZero, moments_in}
+use Rattle.fuse_session.specs.Processed.{Timed, bytes_of, kept_in, performed_of, own_answers, Works, StartsZero, moments_in}
 use Rattle.fuse_session.specs.Settling.{Mark, replies, settled_in, NoneComesAgain, SentUpTo, Replied, FewHave}
-use Rattle.fuse_session.specs.inner.Group.{Gathers, IsStuck, answers_in, repeats_in, wires, left_by, tallied, rest_by, last_zero, AreEnough}
+use Rattle.fuse_session.specs.inner.Group.{Gathers, IsStuck, answers_in, repeats_in, wires, tallied, rest_by, last_zero}
 use Rattle.fuse_session.proofs.Outs.{wires_are, answers_are_outs, outs_prefix}
 use Rattle.fuse_session.specs.inner.Sending.{sending, SentAll, SentSome}
 use Rattle.fuse_session.specs.Exchange.{Exchange, grown_by, HoldsAt, Lived, Exact}
-use Rattle.fuse_session.specs.Serving.{TookTurn, Broken, lasts}
+use Rattle.fuse_session.specs.Serving.{TookTurn, Broken, OnlySaw, lasts}
 use Rattle.fuse_session.proofs.Replies.{replied_none}
 use Rattle.fuse_session.proofs.Batching.{one_batch, are_one, asked_one, left_one, some_all}
 use Rattle.fuse_session.proofs.Transcripts.{handed_sends}
@@ -50,6 +47,8 @@ use Rattle.fuse_session.proofs.Ending.{works_group, goes_none, goes_last, ends_l
 use Rattle.fuse_session.proofs.Settled.{group_unsettled, settled_none, includes_left}
 use Rattle.fuse_session.proofs.Handing.{few_kept, few_same, few_sent, few_unsent}
 use Rattle.fuse_session.proofs.Counted.{tallied_is}
+use Rattle.fuse_session.proofs.Gathering.{kept_gathered}
+use Rattle.fuse_session.proofs.Looking.{looked_if}
 
 -- ---- what stands, and what a crash leaves
 
@@ -80,7 +79,7 @@ lived_none M Stood s h c t timed so = record {
 -- all of it was
 pub lived_all : (M : Model) → (Stood : Standing M → Type 0) (at : Standing M) (x : Exchange) (answer : List ℕ)
     → Works M at.state at.history x.timed → Stood (grown_by at x)
-    → SentUpTo (answers_to M at.state (grown at.history (kept_in M.serves x.timed)) x.timed) x.marks answer → Lived M at x Stood answer
+    → SentUpTo (own_answers M at.state at.history x.timed) x.marks answer → Lived M at x Stood answer
 lived_all M Stood at x answer works so sent = record {
   worked = x.timed;
   unprocessed = [];
@@ -105,7 +104,7 @@ exact_none M Stood s h c t timed so = record {
 -- exactly all of it was
 pub exact_all : (M : Model) → (Stood : Standing M → Type 0) (at : Standing M) (x : Exchange)
     → Works M at.state at.history x.timed → Stood (grown_by at x)
-    → replies x.marks ≡ answers_to M at.state (grown at.history (kept_in M.serves x.timed)) x.timed → Exact M at x Stood
+    → replies x.marks ≡ own_answers M at.state at.history x.timed → Exact M at x Stood
 exact_all M Stood at x works so sent = record {
   worked = x.timed;
   unprocessed = [];
@@ -118,9 +117,10 @@ exact_all M Stood at x works so sent = record {
 -- nothing was done at all
 pub broken_none : (M : Model) → (holds holds' : KeeperState M) (did : Deeds → Type 0) (p q : PortState) (pending : List ℕ) (messages : List (List ℕ))
     (e : Ended) → ended_store e ≡ false → (deeds : Deeds) → did deeds → deeds.asked ≡ [] → handed_in deeds.events ≡ [] → Replied p q [] []
+    → OnlySaw holds holds' (IsIntact holds' e)
     → KeepsHeld holds holds' → ((IsFirm holds) → (s : M.State) (h : History) (t : List ℕ) → StandsFor holds s h t → Leaves holds' (λ x r. Stands M x r s h t))
     → Broken (passage holds holds' p q did) pending messages e
-broken_none M holds holds' did p q pending messages e inexact deeds done unasked unhanded replied keeps leaves = record {
+broken_none M holds holds' did p q pending messages e inexact deeds done unasked unhanded replied looked keeps leaves = record {
   work = record {
     timed = [];
     marks = [];
@@ -150,48 +150,57 @@ broken_none M holds holds' did p q pending messages e inexact deeds done unasked
       (λ x r. Lived M (standing M s h t) (exchanged p.confirms [] []) (StandAt M x r) [])
       (λ x r left. lived_none M (StandAt M x r) s h p.confirms t [] left) (leaves is_firm s h t so);
   few = λ intact t again h. (pending, few_same M holds' p.confirms t pending [] (few_kept M holds holds' t pending keeps h));
+  looked = λ _. looked;
 }
 
 -- ---- a group that wasn't performed
 
-stored : (M : Model) → (s : M.State) (h : History) (c : Bool) (t : List ℕ) (ts : List Timed) (es : List Entry) (x : M.Rows) (r : Records) → es ≡ kept_in M.serves ts
-    → Works M s h ts → StandsForEither M (standing M s h t) (standing M s (grown h es) t) x r
+stored : (M : Model) → (s : M.State) (h : History) (c : Bool) (t : List ℕ) (ts : List Timed) (kept : List Entry) (x : M.Rows) (r : Records)
+    → kept ≡ kept_in M.service ts
+    → Works M s h ts → StandsForEither M (standing M s h t) (standing M s (grown h kept) t) x r
     → Lived M (standing M s h t) (exchanged c ts []) (StandAt M x r) []
-stored M s h c t ts es x r is works either = ⊎_elim
+stored M s h c t ts kept x r is works either = ⊎_elim
     (λ before. lived_none M (StandAt M x r) s h c t ts before)
     (λ after. lived_all M (StandAt M x r) (standing M s h t) (exchanged c ts []) [] works
-    (subst (λ u. Stands M x r s (grown h (kept_in M.serves ts)) u) (sym (ap (λ (q : List ℕ). t ++ q) (settled_none M.serves c (bytes_of ts)) ∙ append-nil t))
-    (subst (λ l. Stands M x r s (grown h l) t) is after)) (record { later = answers_to M s (grown h (kept_in M.serves ts)) ts; first = refl; next = inl refl }))
+    (subst (λ u. Stands M x r s (grown h (kept_in M.service ts)) u) (sym (ap (λ (q : List ℕ). t ++ q) (settled_none M.service c (bytes_of ts)) ∙ append-nil t))
+    (subst (λ l. Stands M x r s (grown h l) t) is after)) (record { later = own_answers M s h ts; first = refl; next = inl refl }))
     either
 
-pub broken_store : (M : Model) → (holds holds' : KeeperState M) (gave : List Moment → Type 0) (performed : List Performance → Type 0)
+pub broken_store : (M : Model) → SeenByClass → (holds holds' : KeeperState M) (gave : List Moment → Type 0) (performed : List Performance → Type 0)
     (became : List PortEvent → Type 0) (p : PortState) (pending : List ℕ)
     (messages : List (List ℕ)) (count : ℕ) (taken : List (Request × Moment)) (ends : Bool) (group : List (Request × Moment)) (fault : StoreFault)
-    → Gathers M.serves gave (take count messages) taken ends → group ≡ taken → performed (performances_of (entries_of group) pending) → became []
+    → Gathers M.service gave (take count messages) taken ends → group ≡ taken
+    → performed (performances_of (entries_of group) (handed_to (kept_of M.service (entries_of group)) pending)) → became []
     → (holds'.is_clean → KeepsHeld holds holds')
     → (holds'.is_clean → (s : M.State) (h : History) (t : List ℕ) → StandsFor holds s h t → holds.may_answer fault)
-    → ((s : M.State) (h : History) (t : List ℕ) → StandsFor holds s h t → Includes t pending → All (IsUnsettled t) (entries_of group) → IsFirm holds
-    → Leaves holds' (StandsForEither M (standing M s h t) (standing M s (grown h (entries_of group)) t)))
+    → ((s : M.State) (h : History) (t : List ℕ) → StandsFor holds s h t → Includes t pending
+    → All (IsUnsettled t) (kept_of M.service (entries_of group))
+    → IsFirm holds → Leaves holds' (StandsForEither M (standing M s h t) (standing M s (grown h (kept_of M.service (entries_of group))) t)))
+    → (kept_of M.service (entries_of group) ≡ [] → OnlySaw holds holds' (IsIntact holds' (ByStore fault)))
     → Broken (passage holds holds' p p (Mute (Did gave performed became))) pending messages (ByStore fault)
-broken_store M holds holds' gave performed became p pending messages count taken ends group fault gathers same asked unsent keeps may crash =
+broken_store M sees holds holds' gave performed became p pending messages count taken ends group fault gathers same asked unsent keeps may crash looked =
+    let V = M.service in
     let ts = gathers.timed in
-    let es : entries_of group ≡ kept_in M.serves ts = ap entries_of same ∙ gathers.entries in
+    let es : entries_of group ≡ performed_of V ts = ap entries_of same ∙ gathers.entries in
+    let kept = kept_of V (entries_of group) in
+    let kept_is : kept ≡ kept_in V ts = kept_gathered sees V gave (take count messages) taken ends group gathers same in
+    let all = performances_of (entries_of group) (handed_to kept pending) in
     record {
       work = record {
         timed = ts;
         marks = [];
-        deeds = record { moments = moments_in M.serves ts; asked = performances_of (entries_of group) pending; events = [] };
+        deeds = record { moments = moments_in V ts; asked = all; events = [] };
         done = record { done = record { moments = gathers.moments; asked = asked; events = unsent }; slices = []; events = refl };
         batches = one_batch ts [];
         are = are_one ts [];
-        asked = asked_one M.serves p.confirms pending ts [] (entries_of group) (performances_of (entries_of group) pending) es refl;
+        asked = asked_one sees V p.confirms pending ts [] (entries_of group) all es refl;
         first = λ _. first_unsent M holds p.confirms pending ts (λ s h. works_group M s h ts gathers.no_zero gathers.only);
       };
       others = drop count messages;
       answer = [];
       part = [];
       prefix = sym (take-append-drop count messages) ∙ ap (λ f. f ++ drop count messages) gathers.bytes;
-      moments = ([], sym (append-nil (moments_in M.serves ts)));
+      moments = ([], sym (append-nil (moments_in V ts)));
       answered = (inl refl, tt);
       slices = some_all [] [] refl;
       replied = replied_none p;
@@ -204,36 +213,32 @@ broken_store M holds holds' gave performed became p pending messages count taken
       life = λ intact s h t so within again.
           lived_none M (HoldsAt holds') s h p.confirms t ts (stands_kept M holds holds' s h t (keeps (intact.clean refl)) so);
       crash = λ honest firm s h t so within again.
-          leaves_map M holds' (StandsForEither M (standing M s h t) (standing M s (grown h (entries_of group)) t))
+          leaves_map M holds' (StandsForEither M (standing M s h t) (standing M s (grown h kept) t))
           (λ x r. Lived M (standing M s h t) (exchanged p.confirms ts []) (StandAt M x r) [])
-          (λ x r either. stored M s h p.confirms t ts (entries_of group) x r es (works_group M s h ts gathers.no_zero gathers.only) either)
-          (crash s h t so within (subst (All (IsUnsettled t)) (sym es) (group_unsettled M.serves p.confirms t ts [] again)) firm);
+          (λ x r either. stored M s h p.confirms t ts kept x r kept_is (works_group M s h ts gathers.no_zero gathers.only) either)
+          (crash s h t so within (subst (All (IsUnsettled t)) (sym kept_is) (group_unsettled V p.confirms t ts [] again)) firm);
       few = λ intact t again h.
           (pending, few_same M holds' p.confirms t pending ts (few_kept M holds holds' t pending (keeps (intact.clean refl)) h));
+      looked = λ none. looked (kept_is ∙ none);
     }
 
 -- ---- a group that was performed
 
-says_all : (M : Model) → (holds : KeeperState M) (s : M.State) (h : History) (t : List ℕ) (es : List Entry) (ts : List Timed)
-    (dones : List Done) → Performed holds s h t es dones → es ≡ kept_in M.serves ts
-    → map (λ a. Some a) (answers_in dones) ≡ map (λ e. said M s (grown h (kept_in M.serves ts)) (entry_id e)) (kept_in M.serves ts)
-says_all M holds s h t es ts dones done is = same_answers dones ∙ done.answers ∙ ap (λ l. map (λ e. said M s (grown h l) (entry_id e)) l) is
+answers_are : (M : Model) → (holds : KeeperState M) (s : M.State) (h : History) (t : List ℕ) (es : List Entry) (ts : List Timed)
+    (dones : List Done) → Performed holds s h t es dones → es ≡ performed_of M.service ts
+    → map (λ a. Some a) (answers_in dones) ≡ answers_over M s h (performed_of M.service ts)
+answers_are M holds s h t es ts dones done is = same_answers dones ∙ done.answers ∙ ap (answers_over M s h) is
 
-says_told : (M : Model) → HistoriesGrow M → (holds : KeeperState M) (s : M.State) (h : History) (t : List ℕ) (es : List Entry) (ts : List Timed)
-    (dones : List Done) → Performed holds s h t es dones → es ≡ kept_in M.serves ts
-    → map (λ a. Some a) (answers_in dones) ≡ said_after_each M s h (kept_in M.serves ts)
-says_told M grows holds s h t es ts dones done is = says_all M holds s h t es ts dones done is ∙ grows.each s h (kept_in M.serves ts)
-
-sent_are : (M : Model) → HistoriesGrow M → (holds : KeeperState M) (s : M.State) (h : History) (t : List ℕ) (es : List Entry) (ts : List Timed)
-    (prefix : List (List ℕ)) (dones : List Done) → Performed holds s h t es dones → es ≡ kept_in M.serves ts
-    → prefix ≡ bytes_of ts → wires M.serves prefix (answers_in dones) ≡ answers_to M s (grown h (kept_in M.serves ts)) ts
-sent_are M grows holds s h t es ts prefix dones done is bytes = ap (λ f. wires M.serves f (answers_in dones)) bytes ∙ wires_are M grows s h ts (answers_in dones)
-    (says_told M grows holds s h t es ts dones done is)
+sent_are : (M : Model) → HistoriesGrow M → SeenByClass → (holds : KeeperState M) (s : M.State) (h : History) (t : List ℕ) (es : List Entry) (ts : List Timed)
+    (prefix : List (List ℕ)) (dones : List Done) → Performed holds s h t es dones → es ≡ performed_of M.service ts
+    → prefix ≡ bytes_of ts → wires M.service prefix (answers_in dones) ≡ own_answers M s h ts
+sent_are M grows sees holds s h t es ts prefix dones done is bytes = ap (λ f. wires M.service f (answers_in dones)) bytes ∙ wires_are M grows sees s h ts (answers_in dones)
+    (answers_are M holds s h t es ts dones done is)
 
 now_stands : (M : Model) → StillStands M → (holds : KeeperState M) (s : M.State) (h : History) (t more : List ℕ) (es : List Entry) (ts : List Timed) (dones : List Done)
-    → Performed holds s h t es dones → es ≡ kept_in M.serves ts
-    → StandsFor holds s (grown h (kept_in M.serves ts)) (t ++ more)
-now_stands M still holds s h t more es ts dones done is = stands_later M still holds s (grown h (kept_in M.serves ts)) t (t ++ more) (includes_left t more)
+    → Performed holds s h t es dones → kept_of M.service es ≡ kept_in M.service ts
+    → StandsFor holds s (grown h (kept_in M.service ts)) (t ++ more)
+now_stands M still holds s h t more es ts dones done is = stands_later M still holds s (grown h (kept_in M.service ts)) t (t ++ more) (includes_left t more)
     (subst (λ l. StandsFor holds s (grown h l) t) is done.stands)
 
 memory_is : (fault : Fault) → ended_between (ended_at fault) ≡ true → ended_store (ended_at fault) ≡ false → fault ≡ Memory
@@ -282,47 +287,58 @@ sent_slices became p q answers (Store f) x =
     }
 
 -- its answers weren't all sent
-pub broken_sent : (M : Model) → HistoriesGrow M → GroupsGrow M → StillStands M → (holds holds' : KeeperState M) (gave : List Moment → Type 0) (performed_so : List Performance → Type 0)
+pub broken_sent : (M : Model) → HistoriesGrow M → GroupsGrow M → StillStands M → SeenByClass → (holds holds' : KeeperState M) (gave : List Moment → Type 0) (performed_so : List Performance → Type 0)
     (became : List PortEvent → Type 0) (p q : PortState) (pending mid : List ℕ)
     (messages : List (List ℕ)) (count : ℕ) (taken : List (Request × Moment)) (ends : Bool) (group : List (Request × Moment)) (prefix : List (List ℕ))
     (dones list : List Done) (fault : Fault)
-    → Gathers M.serves gave (take count messages) taken ends → group ≡ taken → performed_so (performances_of (entries_of group) pending)
+    → Gathers M.service gave (take count messages) taken ends → group ≡ taken
+    → performed_so (performances_of (entries_of group) (handed_to (kept_of M.service (entries_of group)) pending))
     → prefix ≡ take count messages
-    → (holds'.is_honest → (s : M.State) (h : History) (t : List ℕ) → StandsFor holds s h t → Includes t pending → All (IsUnsettled t) (entries_of group)
+    → (holds'.is_honest → (s : M.State) (h : History) (t : List ℕ) → StandsFor holds s h t → Includes t pending
+    → All (IsUnsettled t) (kept_of M.service (entries_of group))
     → Performed holds' s h t (entries_of group) dones)
     → (holds'.is_honest → IsFirm holds → IsFirm holds')
-    → (holds'.is_honest → (u : List ℕ) → All (IsUnsettled u) (entries_of group) → FewHave holds u pending → FewHave holds' u mid)
-    → length mid + length (entries_of group) ≤ 16 → ActsOn holds holds' (handed_to (entries_of group) pending) (entries_of group) dones
-    → list ≡ dones → SentSome became p q (wires M.serves prefix (answers_in list)) fault
+    → (holds'.is_honest → (u : List ℕ) → All (IsUnsettled u) (kept_of M.service (entries_of group)) → FewHave holds u pending
+    → FewHave holds' u mid)
+    → length mid + length (kept_of M.service (entries_of group)) ≤ 16
+    → ActsOn holds holds' (handed_to (kept_of M.service (entries_of group)) pending) (entries_of group) dones
+    → list ≡ dones → SentSome became p q (wires M.service prefix (answers_in list)) fault
+    → (kept_of M.service (entries_of group) ≡ [] → OnlySaw holds holds' holds'.is_honest)
     → Broken (passage holds holds' p q (Mute (Did gave performed_so became))) pending messages (ended_at fault)
-broken_sent M grows groups still holds holds' gave performed_so became p q pending mid messages count taken ends group prefix dones list fault gathers same asked same_prefix
-    performed firm_still few size acts same_list sent =
-    let some = subst (λ l. SentSome became p q (wires M.serves prefix (answers_in l)) fault) same_list sent in
-    let sl = sent_slices became p q (wires M.serves prefix (answers_in dones)) fault some in
+broken_sent M grows groups still sees holds holds' gave performed_so became p q pending mid messages count taken ends group prefix dones list fault gathers same asked same_prefix
+    performed firm_still few size acts same_list sent looked =
+    let some = subst (λ l. SentSome became p q (wires M.service prefix (answers_in l)) fault) same_list sent in
+    let sl = sent_slices became p q (wires M.service prefix (answers_in dones)) fault some in
     let ts = gathers.timed in
-    let es : entries_of group ≡ kept_in M.serves ts = ap entries_of same ∙ gathers.entries in
+    let V = M.service in
+    let es : entries_of group ≡ performed_of V ts = ap entries_of same ∙ gathers.entries in
+    let kept = kept_of V (entries_of group) in
+    let kept_is : kept ≡ kept_in V ts = kept_gathered sees V gave (take count messages) taken ends group gathers same in
+    let all_asked = performances_of (entries_of group) (handed_to kept pending) in
     let bytes : prefix ≡ bytes_of ts = same_prefix ∙ gathers.bytes in
     let done = λ (honest : holds'.is_honest) (s : M.State) (h : History) (t : List ℕ) (so : StandsFor holds s h t) (within : Includes t pending)
-    (again : NoneComesAgain M.serves p.confirms t (bytes_of ts) some.marks).
-    performed honest s h t so within (subst (All (IsUnsettled t)) (sym es) (group_unsettled M.serves p.confirms t ts some.marks again)) in
+    (again : NoneComesAgain M.service p.confirms t (bytes_of ts) some.marks).
+    performed honest s h t so within (subst (All (IsUnsettled t)) (sym kept_is)
+    (group_unsettled M.service p.confirms t ts some.marks again)) in
     let works = λ (s : M.State) (h : History). works_group M s h ts gathers.no_zero gathers.only in
     record {
       work = record {
         timed = ts;
         marks = some.marks;
-        deeds = record { moments = moments_in M.serves ts; asked = performances_of (entries_of group) pending; events = sends_of sl.slices };
+        deeds = record { moments = moments_in M.service ts; asked = all_asked; events = sends_of sl.slices };
         done = record { done = record { moments = gathers.moments; asked = asked; events = sl.calls }; slices = sl.slices; events = refl };
         batches = one_batch ts some.marks;
         are = are_one ts some.marks;
-        asked = asked_one M.serves p.confirms pending ts some.marks (entries_of group) (performances_of (entries_of group) pending) es refl;
-        first = λ honest. group_first M groups holds holds' p.confirms pending ts (entries_of group) dones some.marks some.sent.later works es acts
-            (ap (λ f. wires M.serves f (answers_in dones)) (sym bytes) ∙ some.sent.first) honest;
+        asked = asked_one sees M.service p.confirms pending ts some.marks (entries_of group) all_asked es refl;
+        first = λ honest. group_first M grows groups sees holds holds' p.confirms pending ts
+            (entries_of group) dones some.marks some.sent.later works es acts
+            (ap (λ f. wires M.service f (answers_in dones)) (sym bytes) ∙ some.sent.first) honest;
       };
       others = drop count messages;
       answer = sl.answer;
       part = some.part;
       prefix = sym (take-append-drop count messages) ∙ ap (λ f. f ++ drop count messages) gathers.bytes;
-      moments = ([], sym (append-nil (moments_in M.serves ts)));
+      moments = ([], sym (append-nil (moments_in M.service ts)));
       answered = (inl refl, tt);
       slices = subst (RestsOfSome some.marks sl.answer some.part) (sym (handed_sends sl.slices)) sl.kind;
       replied = some.replied;
@@ -332,7 +348,7 @@ broken_sent M grows groups still holds holds' gave performed_so became p q pendi
         exact = λ honest s h t so within again.
             let d = done honest s h t so within again in
             let f = outs_prefix M s h ts some.marks some.sent.later (works s h) (sym (answers_are_outs M grows s h ts)
-            ∙ sym (sent_are M grows holds' s h t (entries_of group) ts prefix dones d es bytes) ∙ some.sent.first) in
+            ∙ sym (sent_are M grows sees holds' s h t (entries_of group) ts prefix dones d es bytes) ∙ some.sent.first) in
             record {
               worked = f.first;
               unprocessed = f.others;
@@ -345,21 +361,23 @@ broken_sent M grows groups still holds holds' gave performed_so became p q pendi
       life = λ intact s h t so within again.
           let d = done intact.honest s h t so within again in
           lived_all M (HoldsAt holds') (standing M s h t) (exchanged p.confirms ts some.marks) sl.answer (works s h)
-          (now_stands M still holds' s h t _ (entries_of group) ts dones d es) (subst (λ all. SentUpTo all some.marks sl.answer)
-          (sent_are M grows holds' s h t (entries_of group) ts prefix dones d es bytes) sl.sent);
+          (now_stands M still holds' s h t _ (entries_of group) ts dones d kept_is) (subst (λ all. SentUpTo all some.marks sl.answer)
+          (sent_are M grows sees holds' s h t (entries_of group) ts prefix dones d es bytes) sl.sent);
       crash = λ honest firm s h t so within again.
           let d = done honest s h t so within again in
-          leaves_map M holds' (λ x r. Stands M x r s (grown h (kept_in M.serves ts)) (t ++ settled_in M.serves p.confirms (bytes_of ts) some.marks))
+          leaves_map M holds' (λ x r. Stands M x r s (grown h (kept_in M.service ts)) (t ++ settled_in M.service p.confirms (bytes_of ts) some.marks))
           (λ x r. Lived M (standing M s h t) (exchanged p.confirms ts some.marks) (StandAt M x r) sl.answer)
           (λ x r stands. lived_all M (StandAt M x r) (standing M s h t) (exchanged p.confirms ts some.marks) sl.answer (works s h) stands
-          (subst (λ all. SentUpTo all some.marks sl.answer) (sent_are M grows holds' s h t (entries_of group) ts prefix dones d es bytes) sl.sent))
-          (firm_leaves M still holds' s (grown h (kept_in M.serves ts)) _ (firm_still honest firm)
-          (now_stands M still holds' s h t (settled_in M.serves p.confirms (bytes_of ts) some.marks) (entries_of group) ts dones d es));
+          (subst (λ all. SentUpTo all some.marks sl.answer) (sent_are M grows sees holds' s h t (entries_of group) ts prefix dones d es bytes) sl.sent))
+          (firm_leaves M still holds' s (grown h (kept_in M.service ts)) _ (firm_still honest firm)
+          (now_stands M still holds' s h t (settled_in M.service p.confirms (bytes_of ts) some.marks) (entries_of group) ts dones d kept_is));
       few = λ intact t again h. (
-        mid ++ ids_in (entries_of group),
-        few_unsent M holds' p.confirms t mid (entries_of group) ts some.marks es size
-            (few intact.honest t (subst (All (IsUnsettled t)) (sym es) (group_unsettled M.serves p.confirms t ts some.marks again)) h),
+        mid ++ ids_in kept,
+        few_unsent M holds' p.confirms t mid kept ts some.marks kept_is size
+            (few intact.honest t (subst (All (IsUnsettled t)) (sym kept_is)
+            (group_unsettled M.service p.confirms t ts some.marks again)) h),
       );
+      looked = λ none. looked_if M holds holds' (IsIntact holds' (ended_at fault)) (λ intact. intact.honest) (looked (kept_is ∙ none));
     }
 
 -- ---- a group that was answered
@@ -381,70 +399,80 @@ and_false : (a b : Bool) → (a && b) ≡ false → (a ≡ false) ⊎ ((a ≡ tr
 and_false true b is = inr (refl, is)
 and_false false b is = inl refl
 
-pub turned : (M : Model) → HistoriesGrow M → GroupsGrow M → StillStands M → (holds holds' : KeeperState M) (gave : List Moment → Type 0) (performed_so : List Performance → Type 0)
+pub turned : (M : Model) → HistoriesGrow M → GroupsGrow M → StillStands M → SeenByClass → (holds holds' : KeeperState M) (gave : List Moment → Type 0) (performed_so : List Performance → Type 0)
     (became : List PortEvent → Type 0) (p q : PortState) (pending mid pending' : List ℕ)
     (messages : List (List ℕ)) (count : ℕ)
     (taken : List (Request × Moment)) (ends : Bool) (group : List (Request × Moment)) (prefix : List (List ℕ)) (dones list : List Done) (stuck : Bool)
     (rest : Next) (counts : SessionCounts)
-    → Gathers M.serves gave (take count messages) taken ends → group ≡ taken → performed_so (performances_of (entries_of group) pending)
-    → mid ≡ left_pending (entries_of group) pending → prefix ≡ take count messages
-    → (holds'.is_honest → (s : M.State) (h : History) (t : List ℕ) → StandsFor holds s h t → Includes t pending → All (IsUnsettled t) (entries_of group)
+    → Gathers M.service gave (take count messages) taken ends → group ≡ taken
+    → performed_so (performances_of (entries_of group) (handed_to (kept_of M.service (entries_of group)) pending))
+    → mid ≡ left_pending (kept_of M.service (entries_of group)) pending → prefix ≡ take count messages
+    → (holds'.is_honest → (s : M.State) (h : History) (t : List ℕ) → StandsFor holds s h t → Includes t pending
+    → All (IsUnsettled t) (kept_of M.service (entries_of group))
     → Performed holds' s h t (entries_of group) dones)
-    → (holds'.is_honest → (u : List ℕ) → All (IsUnsettled u) (entries_of group) → FewHave holds u pending → FewHave holds' u mid) → length pending' ≤ 16
-    → ActsOn holds holds' (handed_to (entries_of group) pending) (entries_of group) dones
-    → SentAll M.serves (sending became p q mid pending') prefix (wires M.serves prefix (answers_in list)) → list ≡ dones → rest ≡ rest_by (ends && last_zero (answers_in list)) stuck
-    → counts ≡ tallied M.serves prefix (repeats_in list)
+    → (holds'.is_honest → (u : List ℕ) → All (IsUnsettled u) (kept_of M.service (entries_of group)) → FewHave holds u pending
+    → FewHave holds' u mid) → length pending' ≤ 16
+    → ActsOn holds holds' (handed_to (kept_of M.service (entries_of group)) pending) (entries_of group) dones
+    → SentAll M.service (sending became p q mid pending') prefix (wires M.service prefix (answers_in list)) → list ≡ dones → rest ≡ rest_by (ends && last_zero (answers_in list)) stuck
+    → counts ≡ tallied M.service prefix (repeats_in list)
+    → (kept_of M.service (entries_of group) ≡ [] → OnlySaw holds holds' holds'.is_honest)
     → TookTurn (passage holds holds' p q (Mute (Did gave performed_so became))) pending pending' (take count messages) (lasts rest) counts
-turned M grows groups still holds holds' gave performed_so became p q pending mid pending' messages count taken ends group prefix dones list stuck rest counts gathers same asked left same_prefix performed
-    few size acts sent same_list is counts_are =
-    let all = subst (λ l. SentAll M.serves (sending became p q mid pending') prefix (wires M.serves prefix (answers_in l))) same_list sent in
+turned M grows groups still sees holds holds' gave performed_so became p q pending mid pending' messages count taken ends group prefix dones list stuck rest counts gathers same asked left same_prefix performed
+    few size acts sent same_list is counts_are looked =
+    let all = subst (λ l. SentAll M.service (sending became p q mid pending') prefix (wires M.service prefix (answers_in l))) same_list sent in
     let ts = gathers.timed in
-    let es : entries_of group ≡ kept_in M.serves ts = ap entries_of same ∙ gathers.entries in
+    let V = M.service in
+    let es : entries_of group ≡ performed_of V ts = ap entries_of same ∙ gathers.entries in
+    let kept = kept_of V (entries_of group) in
+    let kept_is : kept ≡ kept_in V ts = kept_gathered sees V gave (take count messages) taken ends group gathers same in
+    let all_asked = performances_of (entries_of group) (handed_to kept pending) in
     let bytes : prefix ≡ bytes_of ts = same_prefix ∙ gathers.bytes in
     record {
       work = record {
         timed = ts;
         marks = all.marks;
-        deeds = record { moments = moments_in M.serves ts; asked = performances_of (entries_of group) pending; events = sends_of all.hands.slices };
+        deeds = record { moments = moments_in M.service ts; asked = all_asked; events = sends_of all.hands.slices };
         done = record { done = record { moments = gathers.moments; asked = asked; events = all.hands.calls }; slices = all.hands.slices; events = refl };
         batches = one_batch ts all.marks;
         are = are_one ts all.marks;
-        asked = asked_one M.serves p.confirms pending ts all.marks (entries_of group) (performances_of (entries_of group) pending) es refl;
-        first = λ honest. group_first M groups holds holds' p.confirms pending ts (entries_of group) dones all.marks []
+        asked = asked_one sees M.service p.confirms pending ts all.marks (entries_of group) all_asked es refl;
+        first = λ honest. group_first M grows groups sees holds holds' p.confirms pending ts (entries_of group) dones all.marks []
             (λ s h. works_group M s h ts gathers.no_zero gathers.only) es acts
-            (ap (λ f. wires M.serves f (answers_in dones)) (sym bytes) ∙ sym all.whole ∙ sym (append-nil (replies all.marks))) honest;
+            (ap (λ f. wires M.service f (answers_in dones)) (sym bytes) ∙ sym all.whole ∙ sym (append-nil (replies all.marks))) honest;
       };
       bytes = gathers.bytes;
       full = all.full ∙ ap length bytes ∙ length-map ts (λ (t : Timed). t.bytes);
       moments = refl;
       answered = (all.full ∙ ap length bytes ∙ length-map ts (λ (t : Timed). t.bytes), tt);
-      left = left_one M.serves p.confirms pending mid pending' ts all.marks (entries_of group) prefix es left bytes all.handed;
+      left = left_one sees V p.confirms pending mid pending' ts all.marks (entries_of group) prefix es left bytes all.handed;
       slices = subst (RestsOfAll all.marks) (sym (handed_sends all.hands.slices)) all.hands.kind;
       replied = all.replied;
       all = λ honest s h t so within again.
-          let d = performed honest s h t so within (subst (All (IsUnsettled t)) (sym es) (group_unsettled M.serves p.confirms t ts all.marks again)) in
-          let says = says_told M grows holds' s h t (entries_of group) ts dones d es in
+          let d = performed honest s h t so within (subst (All (IsUnsettled t)) (sym kept_is)
+          (group_unsettled M.service p.confirms t ts all.marks again)) in
+          let says = answers_are M holds' s h t (entries_of group) ts dones d es in
           record {
             works = works_group M s h ts gathers.no_zero gathers.only;
             goes = λ going. elim (and_false ends (last_zero (answers_in list))
                 (lasts_not (ends && last_zero (answers_in list)) stuck (sym (ap lasts is) ∙ going))) [
                   | inl no_end ↦ goes_none M s h ts gathers.no_zero (gathers.none no_end)
-                  | inr both ↦ goes_last M s h ts (answers_in dones) gathers.no_zero gathers.only says
+                  | inr both ↦ goes_last M sees s h ts (answers_in dones) gathers.no_zero gathers.only says
                       (sym (ap (λ l. last_zero (answers_in l)) same_list) ∙ both.1)
                 ];
             last = λ over.
                 let both = and_true ends (last_zero (answers_in list)) (ended_so (ends && last_zero (answers_in list)) stuck (sym (ap lasts is) ∙ over)) in
-                ends_last M s h ts (answers_in dones) (gathers.ended both.0) (says_all M holds' s h t (entries_of group) ts dones d es) (sym (ap (λ l. last_zero (answers_in l)) same_list) ∙ both.1);
-            stands = now_stands M still holds' s h t _ (entries_of group) ts dones d es;
-            sent = all.whole ∙ sent_are M grows holds' s h t (entries_of group) ts prefix dones d es bytes;
-            counts_are = counts_are ∙ ap (λ l. tallied M.serves prefix (repeats_in l)) same_list ∙ ap (λ f. tallied M.serves f (repeats_in dones)) bytes
-                ∙ ap (tallied M.serves (bytes_of ts)) (d.repeated ∙ ap (repeats h) es) ∙ tallied_is M.serves ts h;
+                ends_last M grows sees s h ts (answers_in dones) (gathers.ended both.0) says (sym (ap (λ l. last_zero (answers_in l)) same_list) ∙ both.1);
+            stands = now_stands M still holds' s h t _ (entries_of group) ts dones d kept_is;
+            sent = all.whole ∙ sent_are M grows sees holds' s h t (entries_of group) ts prefix dones d es bytes;
+            counts_are = counts_are ∙ ap (λ l. tallied M.service prefix (repeats_in l)) same_list ∙ ap (λ f. tallied M.service f (repeats_in dones)) bytes
+                ∙ ap (tallied M.service (bytes_of ts)) (d.repeated ∙ ap (repeats V h) es) ∙ tallied_is sees M.service ts h;
           };
       few = λ honest t again h.
           few_sent M holds' p.confirms t mid pending' prefix ts all.marks bytes all.handed size
-          (few honest t (subst (All (IsUnsettled t)) (sym es) (group_unsettled M.serves p.confirms t ts all.marks again)) h);
+          (few honest t (subst (All (IsUnsettled t)) (sym kept_is) (group_unsettled M.service p.confirms t ts all.marks again)) h);
       destroyed = λ over. gathers.ended (and_true ends (last_zero (answers_in list))
           (ended_so (ends && last_zero (answers_in list)) stuck (sym (ap lasts is) ∙ over))).0;
+      looked = λ none. looked (kept_is ∙ none);
     }
 
 pub stuck_zero : (ended stuck : Bool) → rest_by ended stuck ≡ ZeroUnique → stuck ≡ true
@@ -462,31 +490,3 @@ last_is (x ∷ []) d is = let same : d ≡ x = cc is in ap (λ (y : Done). y.ans
 last_is (x ∷ y ∷ rest) d is = let e1 : length (x ∷ y ∷ rest) - 1 ≡ suc (length rest) = omega arith in
     let e2 : length (y ∷ rest) - 1 ≡ length rest = omega arith in
     last_is (y ∷ rest) d (is ∙ ap (slice_get (x ∷ y ∷ rest)) e1 ∙ ap (slice_get (y ∷ rest)) (sym e2))
-
--- ---- each kept message has an answer
-
-enough_by : (class : Class) (e : Entry) (es : List Entry) (list : List Said) → length list ≡ length (entry_if class e ++ es) → (class ≡ Kept → 0 < length list)
-    × (length (left_by class list) ≡ length es)
-enough_by Silent e es list is = (λ isnt. absurd (cc isnt), is)
-enough_by (Bare errno) e es list is = (λ isnt. absurd (cc isnt), is)
-enough_by Kept e es [] is = absurd (omega arith)
-enough_by Kept e es (a ∷ list) is = (λ _. omega arith, omega arith)
-
-enough : (V : OpcodeSet) → (ts : List Timed) (list : List Said) → length list ≡ length (kept_in V ts) → AreEnough V (bytes_of ts) list
-enough V [] list is = tt
-enough V (t ∷ ts) list is =
-    let p = enough_by (class_for V t.bytes) (timed_entry t) (kept_in V ts) list is in
-    (p.0, enough V ts (left_by (class_for V t.bytes) list) p.1)
-
-pub are_enough : (V : OpcodeSet) → (gave : List Moment → Type 0) (prefix : List (List ℕ)) (taken : List (Request × Moment)) (ends : Bool) (slice : List (List ℕ))
-    (group : List (Request × Moment)) (dones list : List Done)
-    → Gathers V gave prefix taken ends → slice ≡ prefix → group ≡ taken → length dones ≡ length group → list ≡ dones → AreEnough V slice (answers_in list)
-are_enough V gave prefix taken ends slice group dones list gathers same same_group count same_list =
-    subst (λ f. AreEnough V f (answers_in list)) (sym (same ∙ gathers.bytes))
-    (enough V gathers.timed (answers_in list) (length-map list (λ (d : Done). d.answer) ∙ ap length same_list ∙ count ∙ ap length same_group
-    ∙ sym (length-map taken entry_of) ∙ ap length gathers.entries))
-
--- a group was read off so many messages
-pub gathers_to : (V : OpcodeSet) → (gave : List Moment → Type 0) (messages : List (List ℕ)) (n count : ℕ) (taken : List (Request × Moment)) (ends : Bool) → count ≡ n
-    → Gathers V gave (take n messages) taken ends → Gathers V gave (take count messages) taken ends
-gathers_to V gave messages n count taken ends is gathers = subst (λ k. Gathers V gave (take k messages) taken ends) (sym is) gathers

@@ -1,6 +1,5 @@
 mod Bytes
 mod Transcripts
-mod Notices
 mod Devices
 mod Streams
 mod Sharing
@@ -19,6 +18,7 @@ mod Counted
 mod Sends
 mod Handing
 mod Firsts
+mod Looking
 mod Groups
 mod Turns
 mod Waiting

@@ -2,7 +2,7 @@
 use Rattle.std.proofs.Common.{◌≡◌, ◌⊎◌, inl, inr, ℕ, Bool, List, [], ◌∷◌, ◌++◌, length, None, refl, sym, ap, subst, arith, ◌∙◌}
 use Rattle.std.specs.List.{AllByRecursion}
 use Rattle.fuse_request.specs.Framing.{bad_length}
-use Rattle.fuse_request.specs.Opcodes.{OpcodeSet}
+use Rattle.fuse_request.specs.Opcodes.{Service}
 use Rattle.fuse_request.specs.Stream.{cut, joined}
 use Rattle.fuse_keeper.specs.Model.{Model}
 use Rattle.fuse_keeper.specs.KeeperState.{KeeperState}
@@ -24,7 +24,7 @@ pub record Answering {M : Model} (k new : KeeperState M) (did : Deeds → Type 0
   pub done : did deeds
   pub first : AnswersFirst k new confirms deeds.events
   pub stops : StopsThere deeds.events
-  pub groups : groups_in M.serves deeds.events ≡ groups_asked deeds.asked
+  pub groups : groups_in M.service deeds.events ≡ groups_asked deeds.asked
 
 -- all messages that came were processed, and nothing ended the session
 pub caught_whole : (M : Model) → (k new : KeeperState M) (did : Deeds → Type 0) (p q : PortState) (after : Waiting)
@@ -92,7 +92,7 @@ first_none M k new confirms before after result bytes is = absurd (no_receive []
 
 -- a turn more
 pub first_more : (M : Model) → (k mid new : KeeperState M) (did : Deeds → Type 0) (held : List ℕ) (all : Bool) (confirms : Bool) (a b : Deeds) → (new.is_honest → mid.is_honest)
-    → CaughtUp k mid confirms a.events → AnswersFirst k mid confirms a.events → OneTurn M.serves held all did b → AnswersFirst k new confirms (a.events ++ b.events)
+    → CaughtUp k mid confirms a.events → AnswersFirst k mid confirms a.events → OneTurn M.service held all did b → AnswersFirst k new confirms (a.events ++ b.events)
 first_more M k mid new did held all confirms a b honest_too up first turn before after result bytes is =
     elim (which a.events turn.result turn.bytes turn.slices before after result bytes
     (ap (λ (l : List PortEvent). a.events ++ l) (sym turn.events) ∙ is)) [
@@ -108,7 +108,7 @@ pub stops_none : StopsThere []
 stops_none before after result bytes is = absurd (no_receive [] before after result bytes is)
 
 -- where each receive of the turns before gave bytes
-pub stops_more : (V : OpcodeSet) (did : Deeds → Type 0) (held : List ℕ) (all : Bool) (a b : Deeds) → AllByRecursion Gave a.events → OneTurn V held all did b → StopsThere (a.events ++ b.events)
+pub stops_more : (V : Service) (did : Deeds → Type 0) (held : List ℕ) (all : Bool) (a b : Deeds) → AllByRecursion Gave a.events → OneTurn V held all did b → StopsThere (a.events ++ b.events)
 stops_more V did held all a b gave turn before after result bytes is =
     elim (which a.events turn.result turn.bytes turn.slices before after result bytes
     (ap (λ (l : List PortEvent). a.events ++ l) (sym turn.events) ∙ is)) [

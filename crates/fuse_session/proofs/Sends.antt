@@ -4,16 +4,17 @@ use Rattle.std.proofs.Common.{append_assoc, arith, add-one, drop-cons, length-ap
 use Rattle.std.proofs.lemmas.List.{append-nil, take_more}
 use Rattle.std.proofs.Common.{Bool, ◌||◌, Result, Ok, Err, IfOk}
 use Rattle.std.specs.Prelude.{IfErr, OnOk}
-use Rattle.fuse_request.specs.Opcodes.{OpcodeSet}
+use Rattle.fuse_request.specs.Opcodes.{Service}
 use Rattle.fuse_wire.specs.declared.errno.Errno.{Errno}
 use Rattle.fuse_answer.specs.Wire.{wire}
 use Rattle.fuse_answer.specs.Said.{Said}
-use Rattle.fuse_request.specs.declared.class.Class.TheVariants.{Silent, Bare, Kept}
+use Rattle.fuse_request.specs.declared.class.Class.TheVariants.{Silent, Bare, Kept, Seen}
 use Rattle.fuse_request.specs.Classes.{class_for}
 use Rattle.fuse_keeper.specs.declared.keeper.Done.{Done}
 use Rattle.fuse_session.specs.declared.fault.Fault.{Fault}
 use Rattle.fuse_session.specs.declared.fault.Fault.TheVariants.{PortFailed, Store, Memory}
 use Rattle.fuse_session.specs.Port.{PortState, IsYoung, IsQuiet, SentWhole, MoreGone}
+use Rattle.fuse_session.specs.Grouping.{is_performed_class}
 use Rattle.fuse_session.specs.Processed.{unique_of, message_id}
 use Rattle.fuse_session.specs.declared.port.Sent.{Sent}
 use Rattle.fuse_session.specs.Transcript.{PortEvent, Steps, sends_of, Hands, SendsPart}
@@ -28,7 +29,7 @@ use Rattle.fuse_session.proofs.Replies.{replied_none, replied_more, replied_one,
 use Rattle.fuse_session.proofs.Settled.{settled-append}
 
 -- the first of these answers were sent whole, and these are left
-pub record SentFirst (V : OpcodeSet) (x : Sending) (messages answers left : List (List ℕ)) : Type 0 where
+pub record SentFirst (V : Service) (x : Sending) (messages answers left : List (List ℕ)) : Type 0 where
   pub marks : List Mark
   pub whole : answers ≡ replies marks ++ left
   pub full : length marks ≡ length messages
@@ -42,7 +43,7 @@ pub young_still : (a b : PortState) → b.failures ≡ a.failures → IsQuiet a 
 young_still a b same quiet young = record { receives = omega (arith, quiet.receives, young.receives); failures = omega (arith, same, young.failures) }
 
 -- nothing is sent for a message that isn't answered
-pub sent_nothing : (V : OpcodeSet) (became : List PortEvent → Type 0) → became [] → (p : PortState) (m : List ℕ) (pending : List ℕ) → settles_by_mark V p.confirms m (record { reply = []; gone = false }) ≡ []
+pub sent_nothing : (V : Service) (became : List PortEvent → Type 0) → became [] → (p : PortState) (m : List ℕ) (pending : List ℕ) → settles_by_mark V p.confirms m (record { reply = []; gone = false }) ≡ []
     → SentNext V (sending became p p pending pending) m []
 sent_nothing V became nothing p m pending none = record {
   mark = record { reply = []; gone = false };
@@ -52,7 +53,7 @@ sent_nothing V became nothing p m pending none = record {
   handed = sym (ap (λ (r : List ℕ). pending ++ r) none ∙ append-nil pending);
 }
 
-pub sent_first_none : (V : OpcodeSet) (became : List PortEvent → Type 0) → became [] → (p : PortState) (messages answers : List (List ℕ)) (pending : List ℕ)
+pub sent_first_none : (V : Service) (became : List PortEvent → Type 0) → became [] → (p : PortState) (messages answers : List (List ℕ)) (pending : List ℕ)
     → SentFirst V (sending became p p pending pending) [] answers answers
 sent_first_none V became nothing p messages answers pending = record {
   marks = [];
@@ -101,7 +102,7 @@ hands_same became became' became'' joins Kind one nothing = record {
   kind = one.kind;
 }
 
-pub sent_first_more : (V : OpcodeSet) (became became' became'' : List PortEvent → Type 0) → ((xs ys : List PortEvent) → became xs → became' ys → became'' (xs ++ ys)) → (a b c : PortState)
+pub sent_first_more : (V : Service) (became became' became'' : List PortEvent → Type 0) → ((xs ys : List PortEvent) → became xs → became' ys → became'' (xs ++ ys)) → (a b c : PortState)
     → ((es : List PortEvent) → became' es → Steps b c es) → (prefix answers left left' : List (List ℕ)) (m bytes : List ℕ) (p q r : List ℕ) → left ≡ bytes ∷ left'
     → SentFirst V (sending became a b p q) prefix answers left → SentNext V (sending became' b c q r) m bytes
     → SentFirst V (sending became'' a c p r) (prefix ++ m ∷ []) answers left'
@@ -128,7 +129,7 @@ left_at ms i m bytes lt at is = rw (add-one) (drop-cons ms i m lt) ∙ ap (λ x.
 pub taken_at : (ms : List (List ℕ)) (i : ℕ) (m bytes : List ℕ) → i < length ms → m ≡ get_or ms i m → bytes ≡ m → take i ms ++ bytes ∷ [] ≡ take (i + 1) ms
 taken_at ms i m bytes lt at is = ap (λ x. take i ms ++ x ∷ []) (is ∙ at) ∙ sym (take_more ms i m lt)
 
-pub sent_more : (V : OpcodeSet) (became became' became'' : List PortEvent → Type 0) → ((xs ys : List PortEvent) → became xs → became' ys → became'' (xs ++ ys)) → (a b c : PortState)
+pub sent_more : (V : Service) (became became' became'' : List PortEvent → Type 0) → ((xs ys : List PortEvent) → became xs → became' ys → became'' (xs ++ ys)) → (a b c : PortState)
     → ((es : List PortEvent) → became' es → Steps b c es) → (ms : List (List ℕ)) (i : ℕ) (m bytes : List ℕ) (list list' : List Said) (all : List (List ℕ)) (p q r : List ℕ)
     → i < length ms → m ≡ get_or ms i m → bytes ≡ m
     → list' ≡ left_by (class_for V bytes) list → SentFirst V (sending became a b p q) (take i ms) all (wires V (drop i ms) list)
@@ -142,7 +143,7 @@ sent_more V became became' became'' joins a b c tells ms i m bytes list list' al
     subst (λ f. SentFirst V (sending became'' a c p r) f all (wires V (drop (i + 1) ms) list')) (taken_at ms i m bytes lt at is) step
 
 -- an answer wasn't sent whole
-some_by : (V : OpcodeSet) (became became' became'' : List PortEvent → Type 0) → ((xs ys : List PortEvent) → became xs → became' ys → became'' (xs ++ ys)) → (fault : Fault) (a b c : PortState) (prefix answers left left' : List (List ℕ)) (bytes : List ℕ) (p q : List ℕ) → left ≡ bytes ∷ left'
+some_by : (V : Service) (became became' became'' : List PortEvent → Type 0) → ((xs ys : List PortEvent) → became xs → became' ys → became'' (xs ++ ys)) → (fault : Fault) (a b c : PortState) (prefix answers left left' : List (List ℕ)) (bytes : List ℕ) (p q : List ℕ) → left ≡ bytes ∷ left'
     → SentFirst V (sending became a b p q) prefix answers left → SendFails fault became' b c bytes
     → SentSome became'' a c answers fault
 some_by V became became' became'' joins Memory a b c prefix answers left left' bytes p q is one same =
@@ -181,7 +182,7 @@ some_by V became became' became'' joins PortFailed a b c prefix answers left lef
     }
 some_by V became became' became'' joins (Store x) a b c prefix answers left left' bytes p q is one two = absurd two
 
-pub sent_some : (V : OpcodeSet) (became became' became'' : List PortEvent → Type 0) → ((xs ys : List PortEvent) → became xs → became' ys → became'' (xs ++ ys)) → (fault : Fault) (a b c : PortState) (ms : List (List ℕ)) (i : ℕ) (m bytes : List ℕ) (list : List Said) (all : List (List ℕ)) (p q : List ℕ)
+pub sent_some : (V : Service) (became became' became'' : List PortEvent → Type 0) → ((xs ys : List PortEvent) → became xs → became' ys → became'' (xs ++ ys)) → (fault : Fault) (a b c : PortState) (ms : List (List ℕ)) (i : ℕ) (m bytes : List ℕ) (list : List Said) (all : List (List ℕ)) (p q : List ℕ)
     → i < length ms → m ≡ get_or ms i m → bytes ≡ m
     → SentFirst V (sending became a b p q) (take i ms) all (wires V (drop i ms) list) → SendFails fault became' b c (head_wire (class_for V bytes) (unique_of bytes) list)
     → SentSome became'' a c all fault
@@ -190,7 +191,7 @@ sent_some V became became' became'' joins fault a b c ms i m bytes list all p q 
     (head_wire (class_for V bytes) (unique_of bytes) list) p q
     (ap (λ x. wires V x list) (left_at ms i m bytes lt at is)) one two
 
-pub sent_all : (V : OpcodeSet) (became : List PortEvent → Type 0) → (a b : PortState) (ms left all : List (List ℕ)) (prefix : List (List ℕ)) (p q : List ℕ) → left ≡ [] → prefix ≡ ms
+pub sent_all : (V : Service) (became : List PortEvent → Type 0) → (a b : PortState) (ms left all : List (List ℕ)) (prefix : List (List ℕ)) (p q : List ℕ) → left ≡ [] → prefix ≡ ms
     → SentFirst V (sending became a b p q) prefix all left → SentAll V (sending became a b p q) ms all
 sent_all V became a b ms left all prefix p q none same one = record {
   marks = one.marks;
@@ -222,14 +223,14 @@ length_left (d ∷ dones) zero lt = omega arith
 length_left (d ∷ dones) (suc n) lt = let more = length_left dones n lt in omega arith
 
 -- the message at i uses an answer that is there
-pub enough_at : (V : OpcodeSet) → (ms : List (List ℕ)) (i : ℕ) (m bytes : List ℕ) (dones : List Done) (n : ℕ) → i < length ms → m ≡ get_or ms i m → bytes ≡ m
+pub enough_at : (V : Service) → (ms : List (List ℕ)) (i : ℕ) (m bytes : List ℕ) (dones : List Done) (n : ℕ) → i < length ms → m ≡ get_or ms i m → bytes ≡ m
     → AreEnough V (drop i ms) (drop n (answers_in dones))
-    → class_for V bytes ≡ Kept → n < length dones
-enough_at V ms i m bytes dones n lt at is (enough) kept =
+    → is_performed_class (class_for V bytes) ≡ true → n < length dones
+enough_at V ms i m bytes dones n lt at is (enough) performed =
     let here = subst (λ x. AreEnough V x (drop n (answers_in dones))) (left_at ms i m bytes lt at is) (enough) in
-    length_left dones n (here.0 kept)
+    length_left dones n (here.0 performed)
 
-pub enough_more : (V : OpcodeSet) → (ms : List (List ℕ)) (i : ℕ) (m bytes : List ℕ) (list list' : List Said) → i < length ms → m ≡ get_or ms i m → bytes ≡ m
+pub enough_more : (V : Service) → (ms : List (List ℕ)) (i : ℕ) (m bytes : List ℕ) (list list' : List Said) → i < length ms → m ≡ get_or ms i m → bytes ≡ m
     → AreEnough V (drop i ms) list → list' ≡ left_by (class_for V bytes) list
     → AreEnough V (drop (i + 1) ms) list'
 enough_more V ms i m bytes list list' lt at is (enough) left =
@@ -246,19 +247,19 @@ bare_settles : (b : Bool) (e : Errno) (i : ℕ) → settles_if b (Bare e) i ≡ 
 bare_settles true e i = refl
 bare_settles false e i = refl
 
-pub next_silent : (V : OpcodeSet) (became : List PortEvent → Type 0) → became [] → (p : PortState) (m : List ℕ) (list : List Said) (pending : List ℕ) → Silent ≡ class_for V m
+pub next_silent : (V : Service) (became : List PortEvent → Type 0) → became [] → (p : PortState) (m : List ℕ) (list : List Said) (pending : List ℕ) → Silent ≡ class_for V m
     → SentNext V (sending became p p pending pending) m (head_wire (class_for V m) (unique_of m) list)
 next_silent V became nothing p m list pending is =
     subst (λ k. SentNext V (sending became p p pending pending) m (head_wire k (unique_of m) list)) is
     (sent_nothing V became nothing p m pending (subst (λ k. settles_if (p.confirms || false) k (message_id m) ≡ []) is (silent_settles (p.confirms || false) (message_id m))))
 
-pub left_silent : (V : OpcodeSet) → (m : List ℕ) (list : List Said) → Silent ≡ class_for V m → list ≡ left_by (class_for V m) list
+pub left_silent : (V : Service) → (m : List ℕ) (list : List Said) → Silent ≡ class_for V m → list ≡ left_by (class_for V m) list
 left_silent V m list is = subst (λ k. list ≡ left_by k list) is refl
 
-pub left_bare : (V : OpcodeSet) → (m : List ℕ) (e : Errno) (list : List Said) → Bare e ≡ class_for V m → list ≡ left_by (class_for V m) list
+pub left_bare : (V : Service) → (m : List ℕ) (e : Errno) (list : List Said) → Bare e ≡ class_for V m → list ≡ left_by (class_for V m) list
 left_bare V m e list is = subst (λ k. list ≡ left_by k list) is refl
 
-pub next_bare : (V : OpcodeSet) (became : List PortEvent → Type 0) → (a b : PortState) (m : List ℕ) (e : Errno) (gone : Bool) (list : List Said) (pending : List ℕ) → Bare e ≡ class_for V m
+pub next_bare : (V : Service) (became : List PortEvent → Type 0) → (a b : PortState) (m : List ℕ) (e : Errno) (gone : Bool) (list : List Said) (pending : List ℕ) → Bare e ≡ class_for V m
     → SentWhole a b (wire e.0 [] (unique_of m)) gone → Hands became (wire e.0 [] (unique_of m)) true
     → SentNext V (sending became a b pending pending) m (head_wire (class_for V m) (unique_of m) list)
 next_bare V became a b m e gone list pending is sent hands =
@@ -273,38 +274,81 @@ next_bare V became a b m e gone list pending is sent hands =
       handed = sym (ap (λ (r : List ℕ). pending ++ r) none ∙ append-nil pending);
     })
 
-pub fails_bare : (V : OpcodeSet) (fault : Fault) (became : List PortEvent → Type 0) (a b : PortState) (m : List ℕ) (e : Errno) (list : List Said) → Bare e ≡ class_for V m
+pub fails_bare : (V : Service) (fault : Fault) (became : List PortEvent → Type 0) (a b : PortState) (m : List ℕ) (e : Errno) (list : List Said) → Bare e ≡ class_for V m
     → SendFails fault became a b (wire e.0 [] (unique_of m)) → SendFails fault became a b (head_wire (class_for V m) (unique_of m) list)
 fails_bare V fault became a b m e list is f = subst (λ k. SendFails fault became a b (head_wire k (unique_of m) list)) is f
 
 -- a kept message, and the answer at its place
-head_kept : (V : OpcodeSet) → (m : List ℕ) (dones : List Done) (n : ℕ) (d : Done) (a : Said) → Kept ≡ class_for V m → n < length dones → d ≡ get_or dones n d → a ≡ d.answer
+head_kept : (V : Service) → (m : List ℕ) (dones : List Done) (n : ℕ) (d : Done) (a : Said) → Kept ≡ class_for V m → n < length dones → d ≡ get_or dones n d → a ≡ d.answer
     → wire a.errno a.body (unique_of m) ≡ head_wire (class_for V m) (unique_of m) (drop n (answers_in dones))
 head_kept V m dones n d a is lt at same =
     ap (λ (x : Said). wire x.errno x.body (unique_of m)) same ∙ ap (head_wire Kept (unique_of m)) (sym (drop_answers dones n d lt at))
     ∙ ap (λ k. head_wire k (unique_of m) (drop n (answers_in dones))) is
 
-pub next_kept : (V : OpcodeSet) (became : List PortEvent → Type 0) → (a b : PortState) (m : List ℕ) (dones : List Done) (n : ℕ) (d : Done) (said : Said) (p q : List ℕ) → Kept ≡ class_for V m → n < length dones
+pub next_kept : (V : Service) (became : List PortEvent → Type 0) → (a b : PortState) (m : List ℕ) (dones : List Done) (n : ℕ) (d : Done) (said : Said) (p q : List ℕ) → Kept ≡ class_for V m → n < length dones
     → d ≡ get_or dones n d → said ≡ d.answer
     → SentNext V (sending became a b p q) m (wire said.errno said.body (unique_of m)) → SentNext V (sending became a b p q) m (head_wire (class_for V m) (unique_of m) (drop n (answers_in dones)))
 next_kept V became a b m dones n d said p q is lt at same sent = subst (λ w. SentNext V (sending became a b p q) m w) (head_kept V m dones n d said is lt at same) sent
 
-pub fails_kept : (V : OpcodeSet) (fault : Fault) (became : List PortEvent → Type 0) (a b : PortState) (m : List ℕ) (dones : List Done) (n : ℕ) (d : Done) (said : Said) → Kept ≡ class_for V m → n < length dones
+pub fails_kept : (V : Service) (fault : Fault) (became : List PortEvent → Type 0) (a b : PortState) (m : List ℕ) (dones : List Done) (n : ℕ) (d : Done) (said : Said) → Kept ≡ class_for V m → n < length dones
     → d ≡ get_or dones n d → said ≡ d.answer
     → SendFails fault became a b (wire said.errno said.body (unique_of m)) → SendFails fault became a b (head_wire (class_for V m) (unique_of m) (drop n (answers_in dones)))
 fails_kept V fault became a b m dones n d said is lt at same f = subst (SendFails fault became a b) (head_kept V m dones n d said is lt at same) f
 
-pub left_kept : (V : OpcodeSet) → (m : List ℕ) (dones : List Done) (n : ℕ) (d : Done) → Kept ≡ class_for V m → n < length dones → d ≡ get_or dones n d
+pub left_kept : (V : Service) → (m : List ℕ) (dones : List Done) (n : ℕ) (d : Done) → Kept ≡ class_for V m → n < length dones → d ≡ get_or dones n d
     → drop (n + 1) (answers_in dones) ≡ left_by (class_for V m) (drop n (answers_in dones))
 left_kept V m dones n d is lt at = subst (λ k. drop (n + 1) (answers_in dones) ≡ left_by k (drop n (answers_in dones))) is
     (ap (left_by Kept) (sym (drop_answers dones n d lt at)))
+
+-- a seen message, and the answer at its place
+head_seen : (V : Service) → (m : List ℕ) (dones : List Done) (n : ℕ) (d : Done) (a : Said) → Seen ≡ class_for V m → n < length dones
+    → d ≡ get_or dones n d → a ≡ d.answer
+    → wire a.errno a.body (unique_of m) ≡ head_wire (class_for V m) (unique_of m) (drop n (answers_in dones))
+head_seen V m dones n d a is lt at same =
+    ap (λ (x : Said). wire x.errno x.body (unique_of m)) same ∙ ap (head_wire Seen (unique_of m)) (sym (drop_answers dones n d lt at))
+    ∙ ap (λ k. head_wire k (unique_of m) (drop n (answers_in dones))) is
+
+seen_settles : (b : Bool) (i : ℕ) → settles_if b Seen i ≡ []
+seen_settles true i = refl
+seen_settles false i = refl
+
+pub next_seen : (V : Service) (became : List PortEvent → Type 0)
+    → (a b : PortState) (m : List ℕ) (gone : Bool) (dones : List Done) (n : ℕ) (d : Done) (said : Said)
+    (pending : List ℕ) → Seen ≡ class_for V m → n < length dones → d ≡ get_or dones n d → said ≡ d.answer
+    → SentWhole a b (wire said.errno said.body (unique_of m)) gone → Hands became (wire said.errno said.body (unique_of m)) true
+    → SentNext V (sending became a b pending pending) m (head_wire (class_for V m) (unique_of m) (drop n (answers_in dones)))
+next_seen V became a b m gone dones n d said pending is lt at same sent hands =
+    let none : settles_if (a.confirms || gone) (class_for V m) (message_id m) ≡ [] = subst (λ k. settles_if (a.confirms || gone) k
+    (message_id m) ≡ []) is
+    (seen_settles (a.confirms || gone) (message_id m)) in
+    subst (SentNext V (sending became a b pending pending) m) (head_seen V m dones n d said is lt at same) (record {
+      mark = record { reply = wire said.errno said.body (unique_of m); gone = gone };
+      reply = refl;
+      sent = sent;
+      hands = hands;
+      handed = sym (ap (λ (r : List ℕ). pending ++ r) none ∙ append-nil pending);
+    })
+
+pub fails_seen : (V : Service) (fault : Fault) (became : List PortEvent
+    → Type 0) (a b : PortState) (m : List ℕ) (dones : List Done) (n : ℕ) (d : Done) (said : Said) → Seen ≡ class_for V m → n < length dones
+    → d ≡ get_or dones n d → said ≡ d.answer
+    → SendFails fault became a b (wire said.errno said.body (unique_of m))
+    → SendFails fault became a b (head_wire (class_for V m) (unique_of m) (drop n (answers_in dones)))
+fails_seen V fault became a b m dones n d said is lt at same f = subst (SendFails fault became a b)
+    (head_seen V m dones n d said is lt at same) f
+
+pub left_seen : (V : Service) → (m : List ℕ) (dones : List Done) (n : ℕ) (d : Done) → Seen ≡ class_for V m → n < length dones
+    → d ≡ get_or dones n d
+    → drop (n + 1) (answers_in dones) ≡ left_by (class_for V m) (drop n (answers_in dones))
+left_seen V m dones n d is lt at = subst (λ k. drop (n + 1) (answers_in dones) ≡ left_by k (drop n (answers_in dones))) is
+    (ap (left_by Seen) (sym (drop_answers dones n d lt at)))
 
 -- the id of a kept message that was answered is pending, where the answer settles it
 kept_pending : (b : Bool) (i : ℕ) (p q : List ℕ) → (b ≡ true → q ≡ p ++ i ∷ []) → (b ≡ false → q ≡ p) → q ≡ p ++ settles_if b Kept i
 kept_pending true i p q when_so when_not = when_so refl
 kept_pending false i p q when_so when_not = when_not refl ∙ sym (append-nil p)
 
-pub kept_next : (V : OpcodeSet) (became : List PortEvent → Type 0) → (a b : PortState) (m bytes : List ℕ) (gone : Bool) (p q : List ℕ) → class_for V m ≡ Kept → SentWhole a b bytes gone → Hands became bytes true
+pub kept_next : (V : Service) (became : List PortEvent → Type 0) → (a b : PortState) (m bytes : List ℕ) (gone : Bool) (p q : List ℕ) → class_for V m ≡ Kept → SentWhole a b bytes gone → Hands became bytes true
     → ((b.confirms || gone) ≡ true → q ≡ p ++ message_id m ∷ []) → ((b.confirms || gone) ≡ false → q ≡ p)
     → SentNext V (sending became a b p q) m bytes
 kept_next V became a b m bytes gone p q is sent hands when_so when_not = record {

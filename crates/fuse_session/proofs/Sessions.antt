@@ -32,11 +32,12 @@ use Rattle.std.proofs.lemmas.Bool.{eqb-true, eqb-false}
 use Rattle.fuse_session.specs.Serving.{TookTurn, ProcessedAll, Waiting, nothing_waits, Whole, Run, lasts}
 use Rattle.fuse_session.specs.inner.Turn.{waits}
 use Rattle.fuse_session.specs.Ends.{Rested, Halted, EndsAs, EndsNot, IsGoodRest, FaultOf, receive_failed, counts_at}
-use Rattle.fuse_session.specs.Ended.{ended_store}
+use Rattle.fuse_session.specs.Ended.{ended_store, IsIntact}
 use Rattle.fuse_session.specs.inner.Finishing.{ended_port, FinishedBy, IsFault}
 use Rattle.fuse_session.proofs.Bytes.{consumes_none}
 use Rattle.fuse_session.proofs.Replies.{replied_none}
 use Rattle.fuse_session.proofs.Groups.{broken_none, firm_leaves}
+use Rattle.fuse_session.proofs.Looking.{looked_none}
 use Rattle.fuse_session.proofs.Turns.{turned_quiet, turned_life}
 use Rattle.fuse_session.proofs.Growing.{hearing_replied, whole_more, halted_more, whole_none, whole_heard, halted_heard, life_heard}
 
@@ -70,7 +71,7 @@ life_unheard M still holds did became p q ids h e inexact alone n hearing =
       came = by.came;
       broken = broken_none M holds holds (Hears did by.received) p q ids (cut (h.bytes ++ by.received)).0 e inexact
           (one_heard by.result by.received) (alone by.result by.received by.once) refl refl (hearing_replied p q hearing)
-          (λ rows records held. held) (λ firm s g t so. firm_leaves M still holds s g t firm so);
+          (looked_none M holds (IsIntact holds e)) (λ rows records held. held) (λ firm s g t so. firm_leaves M still holds s g t firm so);
     }
 
 whole_unheard : (M : Model) → (holds : KeeperState M) (did : Deeds → Type 0) (p q : PortState) (ids : List ℕ) (h : HeldBytes) (result : Receipt)
@@ -275,7 +276,16 @@ fault_not_turns (ZeroUnique at) is isnt = is
 -- ---- the counts at an end
 
 pub none_below : (n : ℕ) → IsBelow none_counted n
-none_below n = record { messages = omega arith; kept = omega arith; repeated = omega arith; bare = omega arith; silent = omega arith; interrupts = omega arith }
+none_below n = record {
+  messages = omega arith;
+  kept = omega arith;
+  repeated = omega arith;
+  seen = omega arith;
+  bare = omega arith;
+  silent
+      = omega arith;
+  interrupts = omega arith;
+}
 
 none_failed : (p r : PortState) → r.receive_failures ≡ p.receive_failures → receive_failed p r ≡ false
 none_failed p r same = elim (r.receive_failures == p.receive_failures) as (λ x. (r.receive_failures == p.receive_failures) ≡ x → not x ≡ false)
@@ -365,7 +375,7 @@ life_none M still holds did p w e inexact none = record {
   received = [];
   came = consumes_none p.coming;
   broken = broken_none M holds holds (Hears did []) p p w.pending (cut (w.bytes ++ [])).0 e inexact no_deeds (none, refl) refl refl (replied_none p)
-      (λ rows records is. is) (λ firm s g t so. firm_leaves M still holds s g t firm so);
+      (looked_none M holds (IsIntact holds e)) (λ rows records is. is) (λ firm s g t so. firm_leaves M still holds s g t firm so);
 }
 
 -- a turn more, and its counts

@@ -1,14 +1,14 @@
 -- Which ids are settled, group after group.
 use Rattle.std.proofs.Common.{◌≡◌, ◌⊎◌, inl, inr, ℕ, Bool, true, false, ◌||◌, ◌==◌, List, [], ◌∷◌, ◌++◌, length, All, refl, sym, ap, subst, ◌∙◌}
-use Rattle.std.proofs.Common.{append_assoc, arith}
+use Rattle.std.proofs.Common.{◌≤◌, append_assoc, arith, length-append}
 use Rattle.std.proofs.Math.Bool.{or-true}
 use Rattle.std.proofs.lemmas.List.{append-nil, map-append}
 use Rattle.std.proofs.lemmas.List.Folds.{list_any-append}
 use Rattle.std.proofs.lemmas.Bool.{eqb-true, or_cases, false_from_ne_true, both_ways}
 use Rattle.std.proofs.lemmas.List.Elements.{All-append, All-nil, All-cons, All-head, All-tail}
-use Rattle.fuse_request.specs.Opcodes.{OpcodeSet}
+use Rattle.fuse_request.specs.Opcodes.{Service}
 use Rattle.fuse_request.specs.declared.class.Class.{Class}
-use Rattle.fuse_request.specs.declared.class.Class.TheVariants.{Silent, Bare, Kept}
+use Rattle.fuse_request.specs.declared.class.Class.TheVariants.{Silent, Bare, Kept, Seen}
 use Rattle.fuse_request.specs.Classes.{class_for}
 use Rattle.fuse_keeper.specs.History.{Entry, entry_id, is_in, ids_in, Includes, IsUnsettled}
 use Rattle.fuse_session.specs.Processed.{Timed, bytes_of, kept_in, entries_at, entry_if, timed_entry, message_id}
@@ -37,7 +37,7 @@ if_not : (b rest : Bool) → (b ≡ true → ⊥) → rest ≡ false → (b || r
 if_not true rest isnt absent = absurd (isnt refl)
 if_not false rest isnt absent = absent
 
-pub settled-append : (V : OpcodeSet) → (c : Bool) (xs ys : List (List ℕ)) (ms ns : List Mark) → length ms ≡ length xs → settled_in V c (xs ++ ys) (ms ++ ns) ≡ settled_in V c xs ms
+pub settled-append : (V : Service) → (c : Bool) (xs ys : List (List ℕ)) (ms ns : List Mark) → length ms ≡ length xs → settled_in V c (xs ++ ys) (ms ++ ns) ≡ settled_in V c xs ms
     ++ settled_in V c ys ns
 settled-append V c [] ys [] ns same = refl
 settled-append V c [] ys (m ∷ ms) ns same = absurd (omega arith)
@@ -46,12 +46,12 @@ settled-append V c (x ∷ xs) ys (m ∷ ms) ns same =
     ap (λ (r : List ℕ). settles_by_mark V c x m ++ r) (settled-append V c xs ys ms ns (omega arith))
     ∙ sym (append_assoc (settles_by_mark V c x m) (settled_in V c xs ms) (settled_in V c ys ns))
 
-pub settled_none : (V : OpcodeSet) → (c : Bool) (xs : List (List ℕ)) → settled_in V c xs [] ≡ []
+pub settled_none : (V : Service) → (c : Bool) (xs : List (List ℕ)) → settled_in V c xs [] ≡ []
 settled_none V c [] = refl
 settled_none V c (x ∷ xs) = refl
 
 -- messages, and then others
-pub again-parts : (V : OpcodeSet) → (c : Bool) (t : List ℕ) (xs ys : List (List ℕ)) (ms ns : List Mark) → length ms ≡ length xs → NoneComesAgain V c t (xs ++ ys) (ms ++ ns)
+pub again-parts : (V : Service) → (c : Bool) (t : List ℕ) (xs ys : List (List ℕ)) (ms ns : List Mark) → length ms ≡ length xs → NoneComesAgain V c t (xs ++ ys) (ms ++ ns)
     → NoneComesAgain V c t xs ms × NoneComesAgain V c (t ++ settled_in V c xs ms) ys ns
 again-parts V c t [] ys [] ns same each = (tt, subst (λ (u : List ℕ). NoneComesAgain V c u ys ns) (sym (append-nil t)) each)
 again-parts V c t [] ys (m ∷ ms) ns same each = absurd (omega arith)
@@ -71,9 +71,10 @@ one_unsettled : (t : List ℕ) (m : Timed) (class : Class) → comes_again t cla
 one_unsettled t m Silent may = All-nil (IsUnsettled t)
 one_unsettled t m (Bare errno) may = All-nil (IsUnsettled t)
 one_unsettled t m Kept may = only_one (IsUnsettled t) (timed_entry m) may
+one_unsettled t m Seen may = All-nil (IsUnsettled t)
 
 -- none of a group's entries has an id that was settled before the group
-pub group_unsettled : (V : OpcodeSet) → (c : Bool) (t : List ℕ) (ts : List Timed) (marks : List Mark) → NoneComesAgain V c t (bytes_of ts) marks → All (IsUnsettled t) (kept_in V ts)
+pub group_unsettled : (V : Service) → (c : Bool) (t : List ℕ) (ts : List Timed) (marks : List Mark) → NoneComesAgain V c t (bytes_of ts) marks → All (IsUnsettled t) (kept_in V ts)
 group_unsettled V c t [] marks each = All-nil (IsUnsettled t)
 group_unsettled V c t (m ∷ ts) [] each =
     All-append (IsUnsettled t) (entries_at V m) (kept_in V ts) (one_unsettled t m (class_for V m.bytes) each.0) (group_unsettled V c t ts [] each.1)
@@ -88,8 +89,9 @@ kept_settled : (t : Timed) (m : Mark) (class : Class) → settles_if (true || m.
 kept_settled t m Silent = refl
 kept_settled t m (Bare errno) = refl
 kept_settled t m Kept = refl
+kept_settled t m Seen = refl
 
-pub all_settled : (V : OpcodeSet) → (ts : List Timed) (marks : List Mark) → length marks ≡ length ts → settled_in V true (bytes_of ts) marks ≡ ids_in (kept_in V ts)
+pub all_settled : (V : Service) → (ts : List Timed) (marks : List Mark) → length marks ≡ length ts → settled_in V true (bytes_of ts) marks ≡ ids_in (kept_in V ts)
 all_settled V [] [] same = refl
 all_settled V [] (m ∷ marks) same = absurd (omega arith)
 all_settled V (t ∷ ts) [] same = absurd (omega arith)
@@ -103,9 +105,10 @@ one_within false t class i there = absurd (cc there)
 one_within true t Silent i there = there
 one_within true t (Bare errno) i there = there
 one_within true t Kept i there = there
+one_within true t Seen i there = there
 
 -- only the ids of kept messages are settled
-pub settled_within : (V : OpcodeSet) → (c : Bool) (ts : List Timed) (marks : List Mark) → Includes (ids_in (kept_in V ts)) (settled_in V c (bytes_of ts) marks)
+pub settled_within : (V : Service) → (c : Bool) (ts : List Timed) (marks : List Mark) → Includes (ids_in (kept_in V ts)) (settled_in V c (bytes_of ts) marks)
 settled_within V c [] marks i there = absurd (cc there)
 settled_within V c (t ∷ ts) [] i there = absurd (cc there)
 settled_within V c (t ∷ ts) (m ∷ marks) i there =
@@ -116,6 +119,27 @@ settled_within V c (t ∷ ts) (m ∷ marks) i there =
       | inl one ↦ includes_left here rest i (one_within (c || m.gone) t (class_for V t.bytes) i one)
       | inr more ↦ includes_right here rest i (settled_within V c ts marks i more)
     ])
+
+short_one : (b : Bool) (t : Timed) (class : Class) → length (settles_if b class (message_id t.bytes)) ≤ length (entry_if class
+    (timed_entry t))
+short_one false t class = omega arith
+short_one true t Silent = omega arith
+short_one true t (Bare errno) = omega arith
+short_one true t Kept = omega arith
+short_one true t Seen = omega arith
+
+-- and no more of them
+pub settled_short : (V : Service) → (c : Bool) (ts : List Timed) (marks : List Mark)
+    → length (settled_in V c (bytes_of ts) marks) ≤ length (kept_in V ts)
+settled_short V c [] marks = omega arith
+settled_short V c (t ∷ ts) [] = omega arith
+settled_short V c (t ∷ ts) (m ∷ marks) = omega (
+  arith,
+  short_one (c || m.gone) t (class_for V t.bytes),
+  settled_short V c ts marks,
+  length-append (settles_by_mark V c t.bytes m) (settled_in V c (bytes_of ts) marks),
+  length-append (entries_at V t) (kept_in V ts),
+)
 
 -- an id that was settled before is none of a group's
 pub none_again : (u : List ℕ) (es : List Entry) (i : ℕ) → All (IsUnsettled u) es → is_in u i ≡ true → is_in (ids_in es) i ≡ false

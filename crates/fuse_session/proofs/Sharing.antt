@@ -41,6 +41,7 @@ turned_done M k new did did' p q ids ids' prefix going counts t done = record {
   all = t.all;
   few = t.few;
   destroyed = t.destroyed;
+  looked = t.looked;
 }
 
 -- these messages were processed by just these deeds

@@ -3,7 +3,7 @@ use Rattle.std.proofs.Common.{◌≡◌, inl, inr, ⊎_elim, ℕ, ◌+◌, ◌-�
 use Rattle.std.proofs.Common.{append_assoc, arith, length-append, length-drop}
 use Rattle.std.proofs.lemmas.List.{append-nil, take-append-drop, take_all, take-append-le, drop_all, take_more, drop-drop, map-append, length-map}
 use Rattle.std.proofs.Math.Seq.{take-add, take-append-add}
-use Rattle.fuse_request.specs.Opcodes.{OpcodeSet}
+use Rattle.fuse_request.specs.Opcodes.{Service}
 use Rattle.fuse_wire.specs.declared.moment.Moment.{Moment}
 use Rattle.fuse_request.specs.Stream.{joined}
 use Rattle.fuse_keeper.specs.declared.fault.StoreFault.{StoreFault}
@@ -18,11 +18,12 @@ use Rattle.fuse_session.specs.declared.ended.Ended.TheVariants as ended
 use Rattle.fuse_session.specs.declared.group.Next.{Next}
 use Rattle.fuse_session.specs.declared.group.Next.TheVariants.{GoesOn as GoesOnHere, Destroyed, ZeroUnique}
 use Rattle.fuse_session.specs.Port.{PortState}
-use Rattle.fuse_session.specs.Processed.{Timed, bytes_of, kept_in, answers_to, says_zero, message_id, StartsZero, GoesOn, Works, moments_in}
+use Rattle.fuse_session.specs.Processed.{Timed, bytes_of, kept_in, own_answers, says_zero, message_id, StartsZero, GoesOn, Works}
+use Rattle.fuse_session.specs.Processed.{moments_in}
 use Rattle.fuse_session.specs.Settling.{Mark, replies, settled_in, NoneComesAgain, SentUpTo, Replied, FewHave}
 use Rattle.fuse_session.specs.Counting.{plus, none_counted, counted}
 use Rattle.fuse_session.specs.Batches.{Batch, timed_in, marks_in, pending_after, left_over, AllAnswered}
-use Rattle.fuse_session.specs.Ended.{ended_store, MayEnd}
+use Rattle.fuse_session.specs.Ended.{ended_store, MayEnd, IsIntact}
 use Rattle.fuse_session.specs.Passage.{Passage, passage}
 use Rattle.fuse_session.specs.Exchange.{grown_by, HoldsAt, Lived, Exact, FirstAnswered}
 use Rattle.fuse_session.specs.Serving.{Work, settled_with, TookTurn, Broken, ProcessedAll, lasts, goes_on}
@@ -30,7 +31,7 @@ use Rattle.fuse_session.proofs.Firsts.{either_part, again_some, first_unsent}
 use Rattle.fuse_session.proofs.Standing.{standing, exchanged, StandAt}
 use Rattle.fuse_session.proofs.Handing.{left_within}
 use Rattle.fuse_session.proofs.Replies.{replied_none, replied_more, joined-append, replies-append}
-use Rattle.fuse_session.proofs.Outs.{answers_to-append, grown_kept, Works-append, GoesOn-append}
+use Rattle.fuse_session.proofs.Outs.{own_answers-append, grown_kept, Works-append, GoesOn-append}
 use Rattle.fuse_session.proofs.Settled.{settled-append, again-parts, includes_left, includes_right, in_either}
 use Rattle.fuse_session.proofs.Gathering.{moments-append}
 use Rattle.fuse_session.proofs.Batching.{are_more, answered_more, answered_last, answered_all, asked_both, left_both, rests_more, some_more, some_all}
@@ -41,6 +42,7 @@ use Rattle.fuse_session.specs.Transcript.{PortEvent, handed_in}
 use Rattle.fuse_session.specs.Slices.{RestsOfAll, RestsOfSome}
 use Rattle.fuse_session.proofs.Counted.{counted-append}
 use Rattle.fuse_session.proofs.Groups.{leaves_map, firm_leaves, lived_all, exact_all}
+use Rattle.fuse_session.proofs.Looking.{none_both, looked_none, looked_then, looked_if}
 
 bytes-append : (xs ys : List Timed) → bytes_of (xs ++ ys) ≡ bytes_of xs ++ bytes_of ys
 bytes-append xs ys = map-append (λ (t : Timed). t.bytes) xs ys
@@ -77,6 +79,7 @@ turned_quiet M holds did p q pending deeds done none unasked unhanded replied = 
   };
   few = λ honest t again h. subst (λ (u : List ℕ). FewHave holds u pending) (sym (append-nil t)) h;
   destroyed = λ isnt. absurd (cc isnt);
+  looked = λ _. looked_none M holds holds.is_honest;
 }
 
 pub turned_none : (M : Model) → (holds : KeeperState M) (did : Deeds → Type 0) (p : PortState) (pending : List ℕ) → did no_deeds
@@ -84,7 +87,7 @@ pub turned_none : (M : Model) → (holds : KeeperState M) (did : Deeds → Type 
 turned_none M holds did p pending none = turned_quiet M holds did p p pending no_deeds none refl refl refl (replied_none p)
 
 -- the moments of two rows of messages
-moments_both : (V : OpcodeSet) → (xs ys : List Timed) (a b more : List Moment) → a ≡ moments_in V xs → b ≡ moments_in V ys ++ more
+moments_both : (V : Service) → (xs ys : List Timed) (a b more : List Moment) → a ≡ moments_in V xs → b ≡ moments_in V ys ++ more
     → a ++ b ≡ moments_in V (xs ++ ys) ++ more
 moments_both V xs ys a b more one two =
     ap (λ (l : List Moment). l ++ b) one ∙ ap (λ (l : List Moment). moments_in V xs ++ l) two
@@ -96,7 +99,7 @@ slices_both ms ns a b one two =
     subst (RestsOfAll (ms ++ ns)) (sym (handed_more a b)) (rests_more ms ns (handed_in a) (handed_in b) one two)
 
 -- the settled ids of two rows of messages
-settled_both : (V : OpcodeSet) → (c c' : Bool) (t : List ℕ) (xs ys : List Timed) (ms ns : List Mark) → c' ≡ c → length ms ≡ length xs
+settled_both : (V : Service) → (c c' : Bool) (t : List ℕ) (xs ys : List Timed) (ms ns : List Mark) → c' ≡ c → length ms ≡ length xs
     → (t ++ settled_in V c (bytes_of xs) ms) ++ settled_in V c' (bytes_of ys) ns ≡ t ++ settled_in V c (bytes_of (xs ++ ys)) (ms ++ ns)
 settled_both V c c' t xs ys ms ns same full =
     append_assoc t (settled_in V c (bytes_of xs) ms) (settled_in V c' (bytes_of ys) ns)
@@ -105,7 +108,7 @@ settled_both V c c' t xs ys ms ns same full =
     ∙ ap (λ b. settled_in V c b (ms ++ ns)) (sym (bytes-append xs ys)))
 
 -- none of two rows of messages comes again
-again_both : (V : OpcodeSet) → (c c' : Bool) (t : List ℕ) (xs ys : List Timed) (ms ns : List Mark) → c' ≡ c → length ms ≡ length xs
+again_both : (V : Service) → (c c' : Bool) (t : List ℕ) (xs ys : List Timed) (ms ns : List Mark) → c' ≡ c → length ms ≡ length xs
     → NoneComesAgain V c t (bytes_of (xs ++ ys)) (ms ++ ns)
     → NoneComesAgain V c t (bytes_of xs) ms × NoneComesAgain V c' (t ++ settled_in V c (bytes_of xs) ms) (bytes_of ys) ns
 again_both V c c' t xs ys ms ns same full each =
@@ -121,7 +124,7 @@ both_included t pending mid more pending' within f is i there =
     ⊎_elim (λ old. includes_left t more i (f t within i old)) (λ new. includes_right t more i new) (in_either mid more i (sym (ap (λ x. is_in x i) is) ∙ there))
 
 -- the ids that are pending after batches were settled before or by the answers to these
-left_settled : (V : OpcodeSet) (c : Bool) (pending : List ℕ) (bs : List Batch) (t : List ℕ) → AllAnswered bs → Includes t pending
+left_settled : (V : Service) (c : Bool) (pending : List ℕ) (bs : List Batch) (t : List ℕ) → AllAnswered bs → Includes t pending
     → Includes (t ++ settled_in V c (bytes_of (timed_in bs)) (marks_in bs)) (left_over V c pending bs)
 left_settled V c pending [] t answered within = subst (λ (u : List ℕ). Includes u pending) (sym (append-nil t)) within
 left_settled V c pending (b ∷ bs) t answered within =
@@ -138,9 +141,9 @@ still_pending M p ids ids' prefix going counts one t within =
     let w = one.work in
     let c = p.port.confirms in
     subst (λ (l : List ℕ). Includes (settled_with t w) l) (sym one.left)
-    (subst (λ (ts : List Timed). Includes (t ++ settled_in M.serves c (bytes_of ts) w.marks) (left_over M.serves c ids w.batches)) (sym w.are.messages)
-    (subst (λ (ms : List Mark). Includes (t ++ settled_in M.serves c (bytes_of (timed_in w.batches)) ms) (left_over M.serves c ids w.batches)) (sym w.are.answers)
-    (left_settled M.serves c ids w.batches t one.answered within)))
+    (subst (λ (ts : List Timed). Includes (t ++ settled_in M.service c (bytes_of ts) w.marks) (left_over M.service c ids w.batches)) (sym w.are.messages)
+    (subst (λ (ms : List Mark). Includes (t ++ settled_in M.service c (bytes_of (timed_in w.batches)) ms) (left_over M.service c ids w.batches)) (sym w.are.answers)
+    (left_settled M.service c ids w.batches t one.answered within)))
 
 -- ---- messages, and then others
 
@@ -151,7 +154,7 @@ first_more : (M : Model) → HistoriesGrow M → (holds mid new : KeeperState M)
     → new.is_honest → FirstAnswered holds ids (exchanged p.confirms (one.work.timed ++ two.timed) (one.work.marks ++ two.marks))
 first_more M grows holds mid new did did' p q r ids ids' prefix counts one two honest_too honest first others parts s h t so within again =
     let a = one.work in
-    let V = M.serves in
+    let V = M.service in
     let c = p.confirms in
     let same = one.replied.confirms in
     elim (either_part a.timed two.timed first others parts) [
@@ -177,8 +180,8 @@ first_more M grows holds mid new did did' p q r ids ids' prefix counts one two h
             works = subst (Works M s h) (sym there.1) (Works-append M s h a.timed zs (x.goes refl) y.works);
             unsent = y.unsent;
             sent =
-                ap (λ (l : List Timed). answers_to M s (grown h (kept_in V l)) l) there.1 ∙ answers_to-append M grows s h a.timed zs
-                ∙ ap (λ l. l ++ answers_to M s (grown g (kept_in V zs)) zs) (sym x.sent) ∙ ap (λ l. replies a.marks ++ l) y.sent
+                ap (own_answers M s h) there.1 ∙ own_answers-append M grows s h a.timed zs
+                ∙ ap (λ l. l ++ own_answers M s g zs) (sym x.sent) ∙ ap (λ l. replies a.marks ++ l) y.sent
                 ∙ sym (append_assoc (replies a.marks) (replies (take (length zs) two.marks)) y.unsent)
                 ∙ ap (λ l. l ++ y.unsent) (sym (replies-append a.marks (take (length zs) two.marks)) ∙ ap replies (sym (take-append-add a.marks two.marks (length zs))
                 ∙ ap (λ n. take n (a.marks ++ two.marks)) (sym long)));
@@ -197,7 +200,7 @@ work_more M grows holds mid new did did' did'' p q r ids ids' prefix counts one 
   done = onward two.deeds two.done;
   batches = one.work.batches ++ two.batches;
   are = are_more one.work.batches two.batches one.work.timed two.timed one.work.marks two.marks one.work.are two.are;
-  asked = asked_both M.serves p.confirms q.confirms ids ids' one.work.batches two.batches one.work.deeds.asked two.deeds.asked one.replied.confirms one.left
+  asked = asked_both M.service p.confirms q.confirms ids ids' one.work.batches two.batches one.work.deeds.asked two.deeds.asked one.replied.confirms one.left
       one.work.asked two.asked;
   first = first_more M grows holds mid new did did' p q r ids ids' prefix counts one two honest_too;
 }
@@ -217,17 +220,17 @@ turned_more M grows holds mid new did did' did'' p q r ids ids' ids'' prefix pre
       bytes = ap (λ f. f ++ prefix') one.bytes ∙ ap (λ f. bytes_of a.timed ++ f) two.bytes ∙ sym (bytes-append a.timed b.timed);
       full = length-append a.marks b.marks ∙ ap (λ n. n + length b.marks) one.full ∙ ap (λ n. length a.timed + n) two.full
           ∙ sym (length-append a.timed b.timed);
-      moments = moments_both M.serves a.timed b.timed a.deeds.moments b.deeds.moments [] one.moments
-          (two.moments ∙ sym (append-nil (moments_in M.serves b.timed))) ∙ append-nil (moments_in M.serves (a.timed ++ b.timed));
+      moments = moments_both M.service a.timed b.timed a.deeds.moments b.deeds.moments [] one.moments
+          (two.moments ∙ sym (append-nil (moments_in M.service b.timed))) ∙ append-nil (moments_in M.service (a.timed ++ b.timed));
       answered = answered_more a.batches b.batches one.answered two.answered;
-      left = left_both M.serves c q.confirms ids ids' ids'' a.batches b.batches same one.left two.left;
+      left = left_both M.service c q.confirms ids ids' ids'' a.batches b.batches same one.left two.left;
       slices = slices_both a.marks b.marks a.deeds.events b.deeds.events one.slices two.slices;
       replied = replied_more p q r a.marks b.marks [] one.replied two.replied;
       all = λ is s h t so within again.
-          let parts = again_both M.serves c q.confirms t a.timed b.timed a.marks b.marks same one.full again in
+          let parts = again_both M.service c q.confirms t a.timed b.timed a.marks b.marks same one.full again in
           let x = one.all (honest_too is) s h t so within parts.0 in
-          let g = grown h (kept_in M.serves a.timed) in
-          let u = t ++ settled_in M.serves c (bytes_of a.timed) a.marks in
+          let g = grown h (kept_in M.service a.timed) in
+          let u = t ++ settled_in M.service c (bytes_of a.timed) a.marks in
           let y = two.all is s g u x.stands (still_pending M (passage holds mid p q did) ids ids' prefix true counts one t within) parts.1 in
           record {
             works = Works-append M s h a.timed b.timed (x.goes refl) y.works;
@@ -238,21 +241,21 @@ turned_more M grows holds mid new did did' did'' p q r ids ids' ids'' prefix pre
                   earlier = a.timed ++ l.earlier;
                   one = l.one;
                   parts = ap (λ f. a.timed ++ f) l.parts ∙ sym (append_assoc a.timed l.earlier (l.one ∷ []));
-                  ends = (l.ends.0, ap (λ z. says_zero (said M s z (message_id l.one.bytes))) (grown_kept M.serves h a.timed b.timed) ∙ l.ends.1);
+                  ends = (l.ends.0, ap (λ z. says_zero (said M s z (message_id l.one.bytes))) (grown_kept M.service h a.timed b.timed) ∙ l.ends.1);
                 };
-            stands = subst (λ z. StandsFor new s z (t ++ settled_in M.serves c (bytes_of (a.timed ++ b.timed)) (a.marks ++ b.marks)))
-                (sym (grown_kept M.serves h a.timed b.timed))
-                (subst (StandsFor new s (grown g (kept_in M.serves b.timed)))
-                (settled_both M.serves c q.confirms t a.timed b.timed a.marks b.marks same one.full) y.stands);
-            sent = replies-append a.marks b.marks ∙ ap (λ z. z ++ replies b.marks) x.sent ∙ ap (λ z. answers_to M s g a.timed ++ z) y.sent
-                ∙ sym (answers_to-append M grows s h a.timed b.timed);
-            counts_are = ap (λ z. plus z counts') x.counts_are ∙ ap (plus (counted M.serves h a.timed)) y.counts_are
-                ∙ sym (counted-append M.serves h a.timed b.timed);
+            stands = subst (λ z. StandsFor new s z (t ++ settled_in M.service c (bytes_of (a.timed ++ b.timed)) (a.marks ++ b.marks)))
+                (sym (grown_kept M.service h a.timed b.timed))
+                (subst (StandsFor new s (grown g (kept_in M.service b.timed)))
+                (settled_both M.service c q.confirms t a.timed b.timed a.marks b.marks same one.full) y.stands);
+            sent = replies-append a.marks b.marks ∙ ap (λ z. z ++ replies b.marks) x.sent ∙ ap (λ z. own_answers M s h a.timed ++ z) y.sent
+                ∙ sym (own_answers-append M grows s h a.timed b.timed);
+            counts_are = ap (λ z. plus z counts') x.counts_are ∙ ap (plus (counted M.service h a.timed)) y.counts_are
+                ∙ sym (counted-append M.service h a.timed b.timed);
           };
       few = λ is t again h.
-          let parts = again_both M.serves c q.confirms t a.timed b.timed a.marks b.marks same one.full again in
-          subst (λ (u : List ℕ). FewHave new u ids'') (settled_both M.serves c q.confirms t a.timed b.timed a.marks b.marks same one.full)
-          (two.few is (t ++ settled_in M.serves c (bytes_of a.timed) a.marks) parts.1 (one.few (honest_too is) t parts.0 h));
+          let parts = again_both M.service c q.confirms t a.timed b.timed a.marks b.marks same one.full again in
+          subst (λ (u : List ℕ). FewHave new u ids'') (settled_both M.service c q.confirms t a.timed b.timed a.marks b.marks same one.full)
+          (two.few is (t ++ settled_in M.service c (bytes_of a.timed) a.marks) parts.1 (one.few (honest_too is) t parts.0 h));
       destroyed = λ over.
           let l = two.destroyed over in
           record {
@@ -261,26 +264,29 @@ turned_more M grows holds mid new did did' did'' p q r ids ids' ids'' prefix pre
             parts = ap (λ f. a.timed ++ f) l.parts ∙ sym (append_assoc a.timed l.earlier (l.one ∷ []));
             destroy = l.destroy;
           };
+      looked = λ none.
+          let parts = none_both M.service a.timed b.timed none in
+          looked_then M holds mid new new.is_honest (λ is. is) honest_too (one.looked parts.0) (two.looked parts.1);
     }
 
 -- a life after messages that were answered
 lived_more : (M : Model) → HistoriesGrow M → (Stood : Standing M → Type 0) (s : M.State) (h : History) (c c' : Bool) (t : List ℕ) (xs ys : List Timed)
     (ms ns : List Mark) (answer : List ℕ) → c' ≡ c → length ms ≡ length xs
-    → GoesOn M s h xs → replies ms ≡ answers_to M s (grown h (kept_in M.serves xs)) xs
+    → GoesOn M s h xs → replies ms ≡ own_answers M s h xs
     → Lived M (grown_by (standing M s h t) (exchanged c xs ms)) (exchanged c' ys ns) Stood answer
     → Lived M (standing M s h t) (exchanged c (xs ++ ys) (ms ++ ns)) Stood answer
 lived_more M grows Stood s h c c' t xs ys ms ns answer same full goes sent l =
-    let g = grown h (kept_in M.serves xs) in
+    let g = grown h (kept_in M.service xs) in
     record {
       worked = xs ++ l.worked;
       unprocessed = l.unprocessed;
       parts = ap (λ f. xs ++ f) l.parts ∙ sym (append_assoc xs l.worked l.unprocessed);
       works = Works-append M s h xs l.worked goes l.works;
-      stands = subst (λ x. Stood (standing M s x (t ++ settled_in M.serves c (bytes_of (xs ++ l.worked)) (ms ++ ns)))) (sym (grown_kept M.serves h xs l.worked))
-          (subst (λ x. Stood (standing M s (grown g (kept_in M.serves l.worked)) x)) (settled_both M.serves c c' t xs l.worked ms ns same full) l.stands);
+      stands = subst (λ x. Stood (standing M s x (t ++ settled_in M.service c (bytes_of (xs ++ l.worked)) (ms ++ ns)))) (sym (grown_kept M.service h xs l.worked))
+          (subst (λ x. Stood (standing M s (grown g (kept_in M.service l.worked)) x)) (settled_both M.service c c' t xs l.worked ms ns same full) l.stands);
       sent = record {
         later = l.sent.later;
-        first = answers_to-append M grows s h xs l.worked ∙ ap (λ x. x ++ answers_to M s (grown g (kept_in M.serves l.worked)) l.worked) (sym sent)
+        first = own_answers-append M grows s h xs l.worked ∙ ap (λ x. x ++ own_answers M s g l.worked) (sym sent)
             ∙ ap (λ x. replies ms ++ x) l.sent.first
             ∙ sym (append_assoc (replies ms) (replies ns) l.sent.later) ∙ ap (λ x. x ++ l.sent.later) (sym (replies-append ms ns));
         next = l.sent.next;
@@ -289,19 +295,20 @@ lived_more M grows Stood s h c c' t xs ys ms ns answer same full goes sent l =
 
 exact_more : (M : Model) → HistoriesGrow M → (Stood Stood' : Standing M → Type 0) (s : M.State) (h : History) (c c' : Bool) (t : List ℕ)
     (xs ys : List Timed) (ms ns : List Mark) → c' ≡ c → length ms ≡ length xs
-    → GoesOn M s h xs → replies ms ≡ answers_to M s (grown h (kept_in M.serves xs)) xs → ((after : Standing M) → Stood after → Stood' after)
+    → GoesOn M s h xs → replies ms ≡ own_answers M s h xs → ((after : Standing M) → Stood after → Stood' after)
     → Exact M (grown_by (standing M s h t) (exchanged c xs ms)) (exchanged c' ys ns) Stood
     → Exact M (standing M s h t) (exchanged c (xs ++ ys) (ms ++ ns)) Stood'
 exact_more M grows Stood Stood' s h c c' t xs ys ms ns same full goes sent f e =
-    let g = grown h (kept_in M.serves xs) in
+    let g = grown h (kept_in M.service xs) in
     record {
       worked = xs ++ e.worked;
       unprocessed = e.unprocessed;
       parts = ap (λ f. xs ++ f) e.parts ∙ sym (append_assoc xs e.worked e.unprocessed);
       works = Works-append M s h xs e.worked goes e.works;
-      stands = subst (λ x. Stood' (standing M s x (t ++ settled_in M.serves c (bytes_of (xs ++ e.worked)) (ms ++ ns)))) (sym (grown_kept M.serves h xs e.worked))
-          (subst (λ x. Stood' (standing M s (grown g (kept_in M.serves e.worked)) x)) (settled_both M.serves c c' t xs e.worked ms ns same full) (f _ e.stands));
-      sent = replies-append ms ns ∙ ap (λ x. x ++ replies ns) sent ∙ ap (λ x. answers_to M s g xs ++ x) e.sent ∙ sym (answers_to-append M grows s h xs e.worked);
+      stands = subst (λ x. Stood' (standing M s x (t ++ settled_in M.service c (bytes_of (xs ++ e.worked)) (ms ++ ns)))) (sym (grown_kept M.service h xs e.worked))
+          (subst (λ x. Stood' (standing M s (grown g (kept_in M.service e.worked)) x)) (settled_both M.service c c' t xs e.worked ms ns same full) (f _ e.stands));
+      sent = replies-append ms ns ∙ ap (λ x. x ++ replies ns) sent ∙ ap (λ x. own_answers M s h xs ++ x) e.sent
+          ∙ sym (own_answers-append M grows s h xs e.worked);
     }
 
 pub may_end : (may may' : StoreFault → Type 0) (e : Ended) → ((f : StoreFault) → may' f → may f) → MayEnd may' e → MayEnd may e
@@ -337,7 +344,7 @@ turned_broken M grows holds mid new did did' did'' p q r ids ids' prefix message
           ∙ ap (λ f. f ++ two.others) (sym (bytes-append a.timed b.timed));
       moments = (
         two.moments.0,
-        moments_both M.serves a.timed b.timed a.deeds.moments b.deeds.moments two.moments.0 one.moments two.moments.1,
+        moments_both M.service a.timed b.timed a.deeds.moments b.deeds.moments two.moments.0 one.moments two.moments.1,
       );
       answered = answered_last a.batches b.batches one.answered two.answered;
       slices = subst (RestsOfSome (a.marks ++ b.marks) two.answer two.part) (sym (handed_more a.deeds.events b.deeds.events))
@@ -349,23 +356,23 @@ turned_broken M grows holds mid new did did' did'' p q r ids ids' prefix message
             no_part = x.no_part;
             slices = slices_both a.marks b.marks a.deeds.events b.deeds.events one.slices x.slices;
             exact = λ is s h t so within again.
-                let parts = again_both M.serves c q.confirms t a.timed b.timed a.marks b.marks same one.full again in
+                let parts = again_both M.service c q.confirms t a.timed b.timed a.marks b.marks same one.full again in
                 let y = one.all (honest_too is) s h t so within parts.0 in
                 exact_more M grows (λ after. ended_store e ≡ true → new.is_clean → HoldsAt new after × MayEnd mid.may_answer e)
                 (λ after. ended_store e ≡ true → new.is_clean → HoldsAt new after × MayEnd holds.may_answer e)
                 s h c q.confirms t a.timed b.timed a.marks b.marks same one.full (y.goes refl) y.sent
                 (λ after stands store clean.
                 let z = stands store clean in (z.0, may_end holds.may_answer mid.may_answer e (no_more (honest_too is)) z.1))
-                (x.exact is s (grown h (kept_in M.serves a.timed)) (settled_with t a) y.stands (still t within) parts.1);
+                (x.exact is s (grown h (kept_in M.service a.timed)) (settled_with t a) y.stands (still t within) parts.1);
           };
       life = λ intact s h t so within again.
-          let parts = again_both M.serves c q.confirms t a.timed b.timed a.marks b.marks same one.full again in
+          let parts = again_both M.service c q.confirms t a.timed b.timed a.marks b.marks same one.full again in
           let y = one.all (honest_too intact.honest) s h t so within parts.0 in
           lived_more M grows (HoldsAt new) s h c q.confirms t a.timed b.timed a.marks b.marks two.answer same one.full (y.goes refl) y.sent
-          (two.life intact s (grown h (kept_in M.serves a.timed)) (settled_with t a) y.stands (still t within) parts.1);
+          (two.life intact s (grown h (kept_in M.service a.timed)) (settled_with t a) y.stands (still t within) parts.1);
       crash = λ is firm s h t so within again.
-          let parts = again_both M.serves c q.confirms t a.timed b.timed a.marks b.marks same one.full again in
-          let g = grown h (kept_in M.serves a.timed) in
+          let parts = again_both M.service c q.confirms t a.timed b.timed a.marks b.marks same one.full again in
+          let g = grown h (kept_in M.service a.timed) in
           let u = settled_with t a in
           let y = one.all (honest_too is) s h t so within parts.0 in
           leaves_map M new (λ x r. Lived M (standing M s g u) (exchanged q.confirms b.timed b.marks) (StandAt M x r) two.answer)
@@ -373,11 +380,14 @@ turned_broken M grows holds mid new did did' did'' p q r ids ids' prefix message
           (λ x r l. lived_more M grows (StandAt M x r) s h c q.confirms t a.timed b.timed a.marks b.marks two.answer same one.full (y.goes refl) y.sent l)
           (two.crash is (firm_too (honest_too is) firm) s g u y.stands (still t within) parts.1);
       few = λ intact t again h.
-          let parts = again_both M.serves c q.confirms t a.timed b.timed a.marks b.marks same one.full again in
+          let parts = again_both M.service c q.confirms t a.timed b.timed a.marks b.marks same one.full again in
           let f = two.few intact (settled_with t a) parts.1 (one.few (honest_too intact.honest) t parts.0 h) in (
             f.0,
-            subst (λ (u : List ℕ). FewHave new u f.0) (settled_both M.serves c q.confirms t a.timed b.timed a.marks b.marks same one.full) f.1,
+            subst (λ (u : List ℕ). FewHave new u f.0) (settled_both M.service c q.confirms t a.timed b.timed a.marks b.marks same one.full) f.1,
           );
+      looked = λ none.
+          let parts = none_both M.service a.timed b.timed none in
+          looked_then M holds mid new (IsIntact new e) (λ intact. intact.honest) honest_too (one.looked parts.0) (two.looked parts.1);
     }
 
 -- all answers were sent
@@ -398,7 +408,7 @@ turned_life M still holds new did p q ids ids' prefix others messages going coun
       answer = [];
       part = [];
       prefix = parts ∙ ap (λ f. f ++ others) one.bytes;
-      moments = ([], one.moments ∙ sym (append-nil (moments_in M.serves w.timed)));
+      moments = ([], one.moments ∙ sym (append-nil (moments_in M.service w.timed)));
       answered = answered_all w.batches one.answered;
       slices = some_all w.marks (handed_in w.deeds.events) one.slices;
       replied = one.replied;
@@ -415,11 +425,12 @@ turned_life M still holds new did p q ids ids' prefix others messages going coun
           lived_all M (HoldsAt new) (standing M s h t) x [] a.works a.stands (sent_up_to w.marks _ a.sent);
       crash = λ is firm s h t so within again.
           let a = one.all is s h t so within again in
-          leaves_map M new (λ x r. Stands M x r s (grown h (kept_in M.serves w.timed)) (settled_with t w))
+          leaves_map M new (λ x r. Stands M x r s (grown h (kept_in M.service w.timed)) (settled_with t w))
           (λ rows r. Lived M (standing M s h t) x (StandAt M rows r) [])
           (λ rows r stands. lived_all M (StandAt M rows r) (standing M s h t) x [] a.works stands (sent_up_to w.marks _ a.sent))
-          (firm_leaves M still new s (grown h (kept_in M.serves w.timed)) (settled_with t w) (firm_still is firm) a.stands);
+          (firm_leaves M still new s (grown h (kept_in M.service w.timed)) (settled_with t w) (firm_still is firm) a.stands);
       few = λ intact t again h. (ids', one.few intact.honest t again h);
+      looked = λ none. looked_if M holds new (IsIntact new e) (λ intact. intact.honest) (one.looked none);
     }
 
 -- ---- places in the messages

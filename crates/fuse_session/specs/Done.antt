@@ -39,6 +39,7 @@ broken_did p did pending messages ended b done = record {
   life = b.life;
   crash = b.crash;
   few = b.few;
+  looked = b.looked;
 }
 
 abbrev pub run_did : {M : Model} → (p : Passage M) (deeds : Deeds) (before : Waiting) (ended : Ended) → p.did deeds → Run (doing p deeds) before ended

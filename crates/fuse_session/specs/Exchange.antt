@@ -5,7 +5,7 @@ use Rattle.fuse_keeper.specs.Model.{Model}
 use Rattle.fuse_keeper.specs.Stands.{Standing}
 use Rattle.fuse_keeper.specs.KeeperState.{KeeperState, StandsFor}
 use Rattle.fuse_session.specs.declared.counts.SessionCounts.{SessionCounts}
-use Rattle.fuse_session.specs.Processed.{Timed, bytes_of, kept_in, answers_to, GoesOn, Works, EndsLast}
+use Rattle.fuse_session.specs.Processed.{Timed, bytes_of, kept_in, own_answers, GoesOn, Works, EndsLast}
 use Rattle.fuse_session.specs.Settling.{Mark, replies, settled_in, NoneComesAgain, SentUpTo}
 use Rattle.fuse_session.specs.Counting.{counted}
 
@@ -19,8 +19,8 @@ pub record Exchange : Type 0 where
 abbrev pub grown_by : {M : Model} → Standing M → Exchange → Standing M
 grown_by {M} at x = record {
   state = at.state;
-  history = grown at.history (kept_in M.serves x.timed);
-  settled = at.settled ++ settled_in M.serves x.confirms (bytes_of x.timed) x.marks;
+  history = grown at.history (kept_in M.service x.timed);
+  settled = at.settled ++ settled_in M.service x.confirms (bytes_of x.timed) x.marks;
 }
 
 -- what a keeper holds stands so
@@ -30,7 +30,7 @@ HoldsAt k at = StandsFor k at.state at.history at.settled
 -- this is so whatever the keeper stood for and whatever was settled, of which these ids are pending, where no message comes again
 abbrev pub IfNoneComesAgain : {M : Model} → KeeperState M → List ℕ → Exchange → (Standing M → Type 0) → Type 0
 IfNoneComesAgain {M} k pending x P = (s : M.State) (h : History) (t : List ℕ) → StandsFor k s h t → Includes t pending
-    → NoneComesAgain M.serves x.confirms t (bytes_of x.timed) x.marks → P (record { state = s; history = h; settled = t })
+    → NoneComesAgain M.service x.confirms t (bytes_of x.timed) x.marks → P (record { state = s; history = h; settled = t })
 
 -- all messages were processed, and their answers sent
 pub record Answered (M : Model) (at : Standing M) (x : Exchange) (Stood : Standing M → Type 0) (going : Bool) (counts : SessionCounts) : Type 0 where
@@ -38,8 +38,8 @@ pub record Answered (M : Model) (at : Standing M) (x : Exchange) (Stood : Standi
   pub goes : going ≡ true → GoesOn M at.state at.history x.timed
   pub last : going ≡ false → EndsLast M at.state at.history x.timed
   pub stands : Stood (grown_by at x)
-  pub sent : replies x.marks ≡ answers_to M at.state (grown at.history (kept_in M.serves x.timed)) x.timed
-  pub counts_are : counts ≡ counted M.serves at.history x.timed
+  pub sent : replies x.marks ≡ own_answers M at.state at.history x.timed
+  pub counts_are : counts ≡ counted M.service at.history x.timed
 
 -- some of the messages were processed, and their first answers were sent: whole ones, and then this one was begun
 pub record Lived (M : Model) (at : Standing M) (x : Exchange) (Stood : Standing M → Type 0) (answer : List ℕ) : Type 0 where
@@ -48,7 +48,7 @@ pub record Lived (M : Model) (at : Standing M) (x : Exchange) (Stood : Standing 
   pub parts : x.timed ≡ worked ++ unprocessed
   pub works : Works M at.state at.history worked
   pub stands : Stood (grown_by at (record x { timed = worked }))
-  pub sent : SentUpTo (answers_to M at.state (grown at.history (kept_in M.serves worked)) worked) x.marks answer
+  pub sent : SentUpTo (own_answers M at.state at.history worked) x.marks answer
 
 -- some of the messages were processed, and exactly their answers were sent
 pub record Exact (M : Model) (at : Standing M) (x : Exchange) (Stood : Standing M → Type 0) : Type 0 where
@@ -57,14 +57,14 @@ pub record Exact (M : Model) (at : Standing M) (x : Exchange) (Stood : Standing 
   pub parts : x.timed ≡ worked ++ unprocessed
   pub works : Works M at.state at.history worked
   pub stands : Stood (grown_by at (record x { timed = worked }))
-  pub sent : replies x.marks ≡ answers_to M at.state (grown at.history (kept_in M.serves worked)) worked
+  pub sent : replies x.marks ≡ own_answers M at.state at.history worked
 
 -- these messages were processed, and the whole answers that were sent for them are the first of those that are said, where just
 -- these messages are added
 pub record AnswersBegin (M : Model) (at : Standing M) (x : Exchange) : Type 0 where
   pub works : Works M at.state at.history x.timed
   pub unsent : List (List ℕ)
-  pub sent : answers_to M at.state (grown at.history (kept_in M.serves x.timed)) x.timed ≡ replies (take (length x.timed) x.marks) ++ unsent
+  pub sent : own_answers M at.state at.history x.timed ≡ replies (take (length x.timed) x.marks) ++ unsent
 
 -- so it is up to the first message that comes again: of any of the first messages, whatever comes after them
 abbrev pub FirstAnswered : {M : Model} → KeeperState M → List ℕ → Exchange → Type 0

@@ -3,13 +3,12 @@ use Rattle.std.specs.Prelude.{◌≡◌, ◌⊎◌, ℕ, Bool, List, [], ◌∷�
 use Rattle.std.specs.List.{AllByRecursion}
 use Rattle.fuse_request.specs.Framing.{bad_length}
 use Rattle.fuse_request.specs.Stream.{cut, joined}
-use Rattle.fuse_keeper.specs.History.{grown}
 use Rattle.fuse_keeper.specs.Model.{Model}
 use Rattle.fuse_keeper.specs.KeeperState.{KeeperState}
 use Rattle.fuse_session.specs.declared.port.Received.{Received as ReceiveResult}
 use Rattle.fuse_session.specs.Transcript.{PortEvent, Received, received_in, handed_in, Gave}
 use Rattle.fuse_session.specs.Deeds.{Deeds}
-use Rattle.fuse_session.specs.Processed.{Timed, bytes_of, kept_in, answers_to, GoesOn}
+use Rattle.fuse_session.specs.Processed.{Timed, bytes_of, own_answers, GoesOn}
 use Rattle.fuse_session.specs.Settling.{Mark, replies}
 use Rattle.fuse_session.specs.Slices.{RestsOfAll}
 use Rattle.fuse_session.specs.Passage.{Passage}
@@ -25,7 +24,7 @@ pub record CaughtUp {M : Model} (k new : KeeperState M) (confirms : Bool) (event
   pub full : length marks ≡ length timed
   pub slices : RestsOfAll marks (handed_in events)
   pub sent : new.is_honest → IfNoneComesAgain k [] (record { confirms = confirms; timed = timed; marks = marks })
-      (λ at. replies marks ≡ answers_to M at.state (grown at.history (kept_in M.serves timed)) timed)
+      (λ at. replies marks ≡ own_answers M at.state at.history timed)
   pub goes : new.is_honest → IfNoneComesAgain k [] (record { confirms = confirms; timed = timed; marks = marks })
       (λ at. GoesOn M at.state at.history timed)
   pub good : bad_length (length (joined (bytes_of timed))) (cut (received_in events)).1 ≡ None

@@ -2,9 +2,10 @@
 use Rattle.std.specs.Prelude.{◌≡◌, ℕ, ◌+◌, Bool, true, false, List, [], ◌++◌, length, take, drop}
 use Rattle.std.specs.Io.KnownBytes.{Consumes}
 use Rattle.fuse_request.specs.Stream.{cut, joined}
+use Rattle.fuse_keeper.specs.Lots.{SameLots}
 use Rattle.fuse_keeper.specs.Model.{Model}
-use Rattle.fuse_keeper.specs.Stands.{StandsAt}
-use Rattle.fuse_keeper.specs.KeeperState.{KeeperState, Leaves, IsFirm}
+use Rattle.fuse_keeper.specs.Stands.{Records, StandsAt}
+use Rattle.fuse_keeper.specs.KeeperState.{KeeperState, Leaves, IsFirm, KeepsHeld, WhereHeld}
 use Rattle.fuse_session.specs.declared.counts.SessionCounts.{SessionCounts}
 use Rattle.fuse_session.specs.declared.ended.Ended.{Ended}
 use Rattle.fuse_session.specs.declared.group.Next.{Next}
@@ -12,7 +13,7 @@ use Rattle.fuse_session.specs.declared.group.Next.TheVariants.{GoesOn, Destroyed
 use Rattle.fuse_session.specs.declared.group.Progress.{Progress}
 use Rattle.fuse_session.specs.Transcript.{handed_in}
 use Rattle.fuse_session.specs.Deeds.{Deeds}
-use Rattle.fuse_session.specs.Processed.{Timed, bytes_of, StartsZero, LastDestroys, moments_in}
+use Rattle.fuse_session.specs.Processed.{Timed, bytes_of, kept_in, StartsZero, LastDestroys, moments_in}
 use Rattle.fuse_session.specs.Settling.{Mark, settled_in, NoneComesAgain, Replied, FewHave, FewRecorded}
 use Rattle.fuse_session.specs.Slices.{RestsOfAll, RestsOfSome}
 use Rattle.fuse_session.specs.Batches.{Batch, AreBatches, AllAnswered, AnsweredButLast, handed_over, left_over, TimedFirst}
@@ -24,6 +25,13 @@ use Rattle.fuse_session.specs.Exchange.{Exchange, HoldsAt, IfNoneComesAgain, Ans
 abbrev pub KeepsFirm : {M : Model} → KeeperState M → KeeperState M → Type 0
 KeepsFirm old new = new.is_honest → IsFirm old → IsFirm new
 
+-- it only saw requests: where it is intact it holds what it held, and no lot was taken; and a crash leaves no more than before
+pub record OnlySaw {M : Model} (old new : KeeperState M) (Intact : Type 0) : Type 0 where
+  pub same : Intact → KeepsHeld old new
+  pub lots : Intact → WhereHeld old (SameLots old.lots new.lots)
+  pub whole : new.is_honest → WhereHeld old (old.leaves_whole → new.leaves_whole)
+  pub crash : new.is_honest → (x : M.Rows) (r : Records) → WhereHeld old (new.may_leave x r → old.may_leave x r)
+
 -- messages, the whole answers that were sent for the first of them, and what was done: the keeper was asked to perform them batch by
 -- batch, with all ids that were settled by then
 pub record Work {M : Model} (p : Passage M) (pending : List ℕ) : Type 0 where
@@ -33,7 +41,7 @@ pub record Work {M : Model} (p : Passage M) (pending : List ℕ) : Type 0 where
   pub done : p.did deeds
   pub batches : List Batch
   pub are : AreBatches batches timed marks
-  pub asked : deeds.asked ≡ handed_over M.serves p.port.confirms pending batches
+  pub asked : deeds.asked ≡ handed_over M.service p.port.confirms pending batches
   -- up to the first message that comes again, each whole answer is the one that is said
   pub first : p.keeper'.is_honest → FirstAnswered p.keeper pending (record { confirms = p.port.confirms; timed = timed; marks = marks })
 
@@ -42,7 +50,7 @@ exchange {p = p} work = record { confirms = p.port.confirms; timed = work.timed;
 
 -- the ids that were settled before, and those that the answers settled
 abbrev pub settled_with : {M : Model} {p : Passage M} {pending : List ℕ} → List ℕ → Work p pending → List ℕ
-settled_with {M} {p} t work = t ++ settled_in M.serves p.port.confirms (bytes_of work.timed) work.marks
+settled_with {M} {p} t work = t ++ settled_in M.service p.port.confirms (bytes_of work.timed) work.marks
 
 -- ---- all messages were answered
 
@@ -52,17 +60,19 @@ pub record TookTurn {M : Model} (p : Passage M) (pending pending' : List ℕ) (p
   pub work : Work p pending
   pub bytes : prefix ≡ bytes_of work.timed
   pub full : length work.marks ≡ length work.timed
-  pub moments : work.deeds.moments ≡ moments_in M.serves work.timed
+  pub moments : work.deeds.moments ≡ moments_in M.service work.timed
   pub answered : AllAnswered work.batches
-  pub left : pending' ≡ left_over M.serves p.port.confirms pending work.batches
+  pub left : pending' ≡ left_over M.service p.port.confirms pending work.batches
   pub slices : RestsOfAll work.marks (handed_in work.deeds.events)
   pub replied : Replied p.port p.port' work.marks []
   pub all : p.keeper'.is_honest
       → IfNoneComesAgain p.keeper pending (exchange work) (λ at. Answered M at (exchange work) (HoldsAt p.keeper') going counts)
-  pub few : p.keeper'.is_honest → (t : List ℕ) → NoneComesAgain M.serves p.port.confirms t (bytes_of work.timed) work.marks
+  pub few : p.keeper'.is_honest → (t : List ℕ) → NoneComesAgain M.service p.port.confirms t (bytes_of work.timed) work.marks
       → FewHave p.keeper t pending → FewHave p.keeper' (settled_with t work) pending'
   -- whatever came again, only a kept DESTROY ended it
-  pub destroyed : going ≡ false → LastDestroys M.serves work.timed
+  pub destroyed : going ≡ false → LastDestroys M.service work.timed
+  -- if no message is kept, the keeper only looked
+  pub looked : kept_in M.service work.timed ≡ [] → OnlySaw p.keeper p.keeper' p.keeper'.is_honest
 
 -- nothing ended the session so far
 abbrev pub lasts : Next → Bool
@@ -118,7 +128,7 @@ pub record Broken {M : Model} (p : Passage M) (pending : List ℕ) (messages : L
   pub answer : List ℕ
   pub part : List ℕ
   pub prefix : messages ≡ bytes_of work.timed ++ others
-  pub moments : TimedFirst M.serves work.deeds.moments work.timed
+  pub moments : TimedFirst M.service work.deeds.moments work.timed
   pub answered : AnsweredButLast work.batches
   pub slices : RestsOfSome work.marks answer part (handed_in work.deeds.events)
   pub replied : Replied p.port p.port' work.marks part
@@ -127,8 +137,10 @@ pub record Broken {M : Model} (p : Passage M) (pending : List ℕ) (messages : L
       → IfNoneComesAgain p.keeper pending (exchange work) (λ at. Lived M at (exchange work) (HoldsAt p.keeper') answer)
   pub crash : p.keeper'.is_honest → IsFirm p.keeper → IfNoneComesAgain p.keeper pending (exchange work) (λ at. Leaves p.keeper'
       (λ x r. Lived M at (exchange work) (StandsAt M (record { rows = x; records = r })) answer))
-  pub few : IsIntact p.keeper' ended → (t : List ℕ) → NoneComesAgain M.serves p.port.confirms t (bytes_of work.timed) work.marks
+  pub few : IsIntact p.keeper' ended → (t : List ℕ) → NoneComesAgain M.service p.port.confirms t (bytes_of work.timed) work.marks
       → FewHave p.keeper t pending → FewRecorded p.keeper' (settled_with t work)
+  -- if none of these messages is kept, the keeper only looked
+  pub looked : kept_in M.service work.timed ≡ [] → OnlySaw p.keeper p.keeper' (IsIntact p.keeper' ended)
 
 -- bytes came, and some of their messages were processed and answered so, however it ended
 pub record Run {M : Model} (p : Passage M) (before : Waiting) (ended : Ended) : Type 0 where

@@ -24,13 +24,14 @@ pub record Session {M : Model} (p : Passage M) (turns : ℕ) (served : Served) :
   -- however it ended: the bytes sent are a prefix of the answers to messages that the keeper stands for, and that whatever a crash
   -- leaves stands for; each slice that the port was handed is of the next of these, that of a write that failed too; and few of the
   -- ids that the answers settled have a record. Where the store or a lack of memory ended it, exactly the answers to some of the
-  -- messages were sent. Up to the first message that comes again, each answer is the one to be sent
+  -- messages were sent. Up to the first message that comes again, each answer is the one to be sent. If no message is kept, the
+  -- keeper holds what it held, no lot is taken, and a crash leaves no more than before
   pub life : Run (doing p deeds) nothing_waits served.ended
   -- before more is received, all that came is answered, and nothing ended the session; where nothing more comes, it stops
   pub prompt : Prompt p deeds
-  -- the keeper was asked to perform the groups of what came: of the messages that are whole after a receive, 16 kept ones at once, fewer
-  -- only where a DESTROY ends them, a zero one follows, or no more are whole
-  pub groups : AsksGroups M.serves deeds
+  -- the keeper was asked to perform the groups of what came: of the messages that are whole after a receive, 16 kept and seen ones
+  -- at once, fewer only where a kept DESTROY ends them, a zero one follows, or no more are whole
+  pub groups : AsksGroups M.service deeds
   -- on a port that confirms, the records are some of those of before and at most 16 more, which are under one lot
   pub lots : p.port.confirms ≡ true → IsIntact p.keeper' served.ended
       → AddsFew p.keeper p.keeper'

@@ -2,9 +2,9 @@
 use Rattle.std.specs.Prelude.{◌≡◌, ◌⊎◌, ◌≤◌, ◌||◌, ℕ, Bool, true, false, List, [], ◌∷◌, ◌++◌, length, map, Option, None, IfSome}
 use Rattle.std.specs.Io.KnownBytes.{Appends, append_known}
 use Rattle.fuse_request.specs.declared.class.Class.{Class}
-use Rattle.fuse_request.specs.declared.class.Class.TheVariants.{Silent, Bare, Kept}
+use Rattle.fuse_request.specs.declared.class.Class.TheVariants.{Silent, Bare, Kept, Seen}
 use Rattle.fuse_request.specs.Classes.{class_for}
-use Rattle.fuse_request.specs.Opcodes.{OpcodeSet}
+use Rattle.fuse_request.specs.Opcodes.{Service}
 use Rattle.fuse_request.specs.Stream.{joined}
 use Rattle.fuse_keeper.specs.History.{is_in}
 use Rattle.fuse_keeper.specs.Model.{Model, IsOfGoodState}
@@ -27,12 +27,13 @@ settles_if false class i = []
 settles_if true Silent i = []
 settles_if true (Bare errno) i = []
 settles_if true Kept i = i ∷ []
+settles_if true Seen i = []
 
-abbrev pub settles_by_mark : OpcodeSet → Bool → List ℕ → Mark → List ℕ
+abbrev pub settles_by_mark : Service → Bool → List ℕ → Mark → List ℕ
 settles_by_mark V confirms m mark = settles_if (confirms || mark.gone) (class_for V m) (message_id m)
 
 -- the ids that are settled by the answers to the first of these messages
-abbrev pub settled_in : OpcodeSet → Bool → List (List ℕ) → List Mark → List ℕ
+abbrev pub settled_in : Service → Bool → List (List ℕ) → List Mark → List ℕ
 settled_in V confirms [] marks = []
 settled_in V confirms (m ∷ ms) [] = []
 settled_in V confirms (m ∷ ms) (mark ∷ marks) = settles_by_mark V confirms m mark ++ settled_in V confirms ms marks
@@ -42,12 +43,13 @@ abbrev pub comes_again : List ℕ → Class → ℕ → Bool
 comes_again t Silent i = false
 comes_again t (Bare errno) i = false
 comes_again t Kept i = is_in t i
+comes_again t Seen i = false
 
-abbrev pub MayCome : OpcodeSet → List ℕ → List ℕ → Type 0
+abbrev pub MayCome : Service → List ℕ → List ℕ → Type 0
 MayCome V t m = comes_again t (class_for V m) (message_id m) ≡ false
 
 -- no kept message has an id that was settled before, or by the answer to an earlier message
-abbrev pub NoneComesAgain : OpcodeSet → Bool → List ℕ → List (List ℕ) → List Mark → Type 0
+abbrev pub NoneComesAgain : Service → Bool → List ℕ → List (List ℕ) → List Mark → Type 0
 NoneComesAgain V confirms t [] marks = Unit {0}
 NoneComesAgain V confirms t (m ∷ ms) [] = MayCome V t m × NoneComesAgain V confirms t ms []
 NoneComesAgain V confirms t (m ∷ ms) (mark ∷ marks) = MayCome V t m × NoneComesAgain V confirms (t ++ settles_by_mark V confirms m mark) ms marks

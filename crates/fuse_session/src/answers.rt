@@ -5,6 +5,7 @@ ghost use Rattle.fuse_answer.specs.Wire.{wire};
 ghost use Rattle.fuse_request.specs.Stream.{IsMessage};
 ghost use Rattle.fuse_request.specs.Classes.{class_for};
 ghost use Rattle.fuse_session.specs.Processed.{unique_of};
+ghost use Rattle.fuse_session.specs.Grouping.{is_performed_class};
 ghost use Rattle.fuse_keeper.specs.Group.{ids_of};
 ghost use Rattle.fuse_session.specs.Port.{IsYoung, SentWhole};
 ghost use Rattle.fuse_session.specs.Transcript.{Hands};
@@ -66,12 +67,11 @@ fn send_kept<K: Keeper, P: Port>(
     pending: &mut Vec<Id>,
 ) -> Result<(), Fault>
     requires message { IsMessage message.now }
-    requires kept { class_for K.model.serves message.now ≡ Class.Kept }
+    requires kept { class_for K.model.service message.now ≡ Class.Kept }
     requires young { IsYoung (P.told port.old) }
-    ensures ok { OnOk result (SentNext K.model.serves (sending (P.became port.old port.new)
+    ensures ok { OnOk result (SentNext K.model.service (sending (P.became port.old port.new)
         (P.told port.old) (P.told port.new) (ids_of pending.old.items) (ids_of pending.new.items))
         message.now (wire answer.now.errno answer.now.body (unique_of message.now))) }
-    ensures few { length pending.new.items ≤ length pending.old.items + 1 }
     ensures err { IfErr result (λ fault. SendFails fault (P.became port.old port.new) (P.told port.old) (P.told port.new)
         (wire answer.now.errno answer.now.body (unique_of message.now))) }
 {
@@ -109,6 +109,25 @@ fn send_bare<P: Port>(
     send_reply(alloc, port, fuse_request::unique_of(message), &answer)
 }
 
+// Sends the answer to a seen request, which settles nothing.
+fn send_seen<P: Port>(
+    alloc: Global,
+    port: &mut P,
+    message: &[u8],
+    answer: &Answer,
+) -> Result<Passed, Fault>
+    requires message { IsMessage message.now }
+    requires young { IsYoung (P.told port.old) }
+    ensures ok { IfOk result (λ passed. SentWhole (P.told port.old) (P.told port.new)
+        (wire answer.now.errno answer.now.body (unique_of message.now)) (reports_gone passed)) }
+    ensures hands { OnOk result (Hands (P.became port.old port.new)
+        (wire answer.now.errno answer.now.body (unique_of message.now)) true) }
+    ensures err { IfErr result (λ fault. SendFails fault (P.became port.old port.new) (P.told port.old) (P.told port.new)
+        (wire answer.now.errno answer.now.body (unique_of message.now))) }
+{
+    send_reply(alloc, port, fuse_request::unique_of(message), answer)
+}
+
 // Sends the answer to one message of this class, and says how many answers are used then.
 fn send_next<K: Keeper, P: Port>(
     alloc: Global,
@@ -120,21 +139,20 @@ fn send_next<K: Keeper, P: Port>(
     pending: &mut Vec<Id>,
 ) -> Result<usize, Fault>
     requires message { IsMessage message.now }
-    requires class { class ≡ class_for K.model.serves message.now }
+    requires class { class ≡ class_for K.model.service message.now }
     requires next { next ≤ length dones.now }
-    requires enough { class_for K.model.serves message.now ≡ Class.Kept → next < length dones.now }
+    requires enough { is_performed_class (class_for K.model.service message.now) ≡ true
+        → next < length dones.now }
     requires young { IsYoung (P.told port.old) }
     ensures next { IfOk result (λ n. n ≤ length dones.now) }
     ensures left { IfOk result (λ n. drop n (answers_in dones.now)
-        ≡ left_by (class_for K.model.serves message.now) (drop next (answers_in dones.now))) }
-    ensures ok { OnOk result (SentNext K.model.serves (sending (P.became port.old port.new)
+        ≡ left_by (class_for K.model.service message.now) (drop next (answers_in dones.now))) }
+    ensures ok { OnOk result (SentNext K.model.service (sending (P.became port.old port.new)
         (P.told port.old) (P.told port.new) (ids_of pending.old.items) (ids_of pending.new.items))
-        message.now (head_wire (class_for K.model.serves message.now) (unique_of message.now)
+        message.now (head_wire (class_for K.model.service message.now) (unique_of message.now)
         (drop next (answers_in dones.now)))) }
-    ensures few { IfOk result
-        (λ n. length pending.new.items + next ≤ length pending.old.items + n) }
     ensures err { IfErr result (λ fault. SendFails fault (P.became port.old port.new) (P.told port.old) (P.told port.new)
-        (head_wire (class_for K.model.serves message.now) (unique_of message.now)
+        (head_wire (class_for K.model.service message.now) (unique_of message.now)
         (drop next (answers_in dones.now)))) }
 {
     match class {
@@ -145,6 +163,10 @@ fn send_next<K: Keeper, P: Port>(
         },
         Class::Kept => match send_kept::<K, P>(alloc, port, message, &dones[next].answer, pending) {
             Ok(()) => Ok(next + 1),
+            Err(fault) => Err(fault),
+        },
+        Class::Seen => match send_seen(alloc, port, message, &dones[next].answer) {
+            Ok(_) => Ok(next + 1),
             Err(fault) => Err(fault),
         },
     }
@@ -161,16 +183,14 @@ pub(crate) fn send_answers<K: Keeper, P: Port>(
     pending: &mut Vec<Id>,
 ) -> Result<(), Fault>
     requires messages { All IsMessage messages.now }
-    requires classes { classes.now ≡ classes_in K.model.serves messages.now }
-    requires enough { AreEnough K.model.serves messages.now (answers_in dones.now) }
+    requires classes { classes.now ≡ classes_in K.model.service messages.now }
+    requires enough { AreEnough K.model.service messages.now (answers_in dones.now) }
     requires young { IsYoung (P.told port.old) }
-    ensures ok { OnOk result (SentAll K.model.serves (sending (P.became port.old port.new)
+    ensures ok { OnOk result (SentAll K.model.service (sending (P.became port.old port.new)
         (P.told port.old) (P.told port.new) (ids_of pending.old.items) (ids_of pending.new.items))
-        messages.now (wires K.model.serves messages.now (answers_in dones.now))) }
-    ensures few { OnOk result
-        (length pending.new.items ≤ length pending.old.items + length dones.now) }
+        messages.now (wires K.model.service messages.now (answers_in dones.now))) }
     ensures err { IfErr result (λ fault. SentSome (P.became port.old port.new) (P.told port.old) (P.told port.new)
-        (wires K.model.serves messages.now (answers_in dones.now)) fault) }
+        (wires K.model.service messages.now (answers_in dones.now)) fault) }
 {
     let mut next = 0;
     for (place, message) in messages.iter().enumerate() {

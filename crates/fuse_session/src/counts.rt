@@ -15,12 +15,14 @@ use fuse_request::{Class, decode};
 /// How many messages were processed, by class.
 #[derive(Clone, Copy, Debug, PartialEq, Eq)]
 pub struct SessionCounts {
-    /// All of them: the kept, the bare and the silent ones.
+    /// All of them: the kept, the seen, the bare and the silent ones.
     pub messages: u64,
     /// Those whose answer is recorded.
     pub kept: u64,
     /// The kept ones whose id was there before.
     pub repeated: u64,
+    /// Those whose request changes nothing, and is answered anew each time.
+    pub seen: u64,
     /// Those whose answer follows from their bytes alone.
     pub bare: u64,
     /// Those that are never answered.
@@ -35,6 +37,7 @@ impl SessionCounts {
         messages: 0,
         kept: 0,
         repeated: 0,
+        seen: 0,
         bare: 0,
         silent: 0,
         interrupts: 0,
@@ -51,6 +54,7 @@ pub(crate) fn sum_of(a: SessionCounts, b: SessionCounts) -> SessionCounts
         messages: a.messages + b.messages,
         kept: a.kept + b.kept,
         repeated: a.repeated + b.repeated,
+        seen: a.seen + b.seen,
         bare: a.bare + b.bare,
         silent: a.silent + b.silent,
         interrupts: a.interrupts + b.interrupts,
@@ -100,10 +104,11 @@ fn count_one(message: &[u8], class: Class, repeated: bool) -> SessionCounts
             repeated: u64::from(repeated),
             ..one
         },
+        Class::Seen => SessionCounts { seen: 1, ..one },
     }
 }
 
-// Whether the next kept message is a repeat.
+// Whether the next message that is kept or seen is a repeat.
 fn repeat_at(dones: &[Done], next: usize) -> bool
     ensures { result ≡ head_repeat (drop next (repeats_in dones.now)) }
 {
@@ -123,7 +128,7 @@ fn used_after(class: Class, dones: &[Done], next: usize) -> usize
 {
     match class {
         Class::Silent | Class::Bare(_) => next,
-        Class::Kept => { if next < dones.len() { next + 1 } else { next } }
+        Class::Kept | Class::Seen => { if next < dones.len() { next + 1 } else { next } }
     }
 }
 
@@ -134,9 +139,9 @@ pub(crate) fn count_all<K: Keeper>(
     dones: &[Done],
 ) -> SessionCounts
     requires messages { All IsMessage messages.now }
-    requires classes { classes.now ≡ classes_in K.model.serves messages.now }
+    requires classes { classes.now ≡ classes_in K.model.service messages.now }
     requires few { length messages.now < 2 ^ 60 }
-    ensures tallied { result ≡ tallied K.model.serves messages.now (repeats_in dones.now) }
+    ensures tallied { result ≡ tallied K.model.service messages.now (repeats_in dones.now) }
     ensures below { IsBelow result (length messages.now) }
 {
     let mut counts = SessionCounts::NONE;

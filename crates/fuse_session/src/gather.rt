@@ -4,10 +4,10 @@ ghost use Rattle.fuse_wire.specs.declared.moment.Moment.{Moment as MomentValue};
 ghost use Rattle.fuse_request.specs.Stream.{IsMessage};
 ghost use Rattle.fuse_request.specs.Classes.{class_for};
 ghost use Rattle.fuse_request.specs.Header.{raw_of};
-ghost use Rattle.fuse_keeper.specs.Group.{entries_of, HasId, IsKept};
+ghost use Rattle.fuse_keeper.specs.Group.{entries_of, HasId, IsPerformed};
 ghost use Rattle.fuse_keeper.specs.declared.keeper.TheConstants.{MAX_GROUP as max_group};
 ghost use Rattle.fuse_session.specs.Grouping.{one_group, groups_of, asked_in};
-ghost use Rattle.fuse_session.specs.Processed.{entry_if, message_entry, moment_if};
+ghost use Rattle.fuse_session.specs.Processed.{performed_if, message_entry, moment_if, destroys_by};
 ghost use Rattle.fuse_session.specs.inner.Group.{Gathers, IsStuck, as_list, classes_in};
 
 use crate::clock::Clock;
@@ -18,8 +18,8 @@ use fuse_request::{Class, Request, decode, has_zero_unique, header_of};
 use fuse_wire::Moment;
 use std::alloc::{AllocError, Global};
 
-/// A group read off the first messages: the class of each of them, and the requests of the kept
-/// ones. `ends` says that the last of them is a DESTROY.
+/// A group read off the first messages: the class of each of them, and the requests of the kept and
+/// the seen ones. `ends` says that the last of them is a kept DESTROY.
 #[derive(Drop)]
 pub(crate) struct Gathered<'a> {
     pub(crate) classes: Vec<Class>,
@@ -38,21 +38,21 @@ pub(crate) fn has_opcode(message: &[u8], opcode: u32) -> bool
     }
 }
 
-// The request of a message of this class, and its moment: only a kept one has it.
+// The request of a message of this class, and its moment: only a kept or a seen one has it.
 fn read_one<'a, K: Keeper, C: Clock>(
     clock: &mut C,
     message: &'a [u8],
     class: Class,
 ) -> Option<(Request<'a>, Moment)>
     requires message { IsMessage message.now }
-    requires class { class ≡ class_for K.model.serves message.now }
+    requires class { class ≡ class_for K.model.service message.now }
     ensures entry { (t : MomentValue) × (entries_of (as_list result)
-        ≡ entry_if (class_for K.model.serves message.now) (message_entry message.now t))
-        × C.gave clock.old clock.new (moment_if (class_for K.model.serves message.now) t) }
-    ensures kept { All (IsKept K.model) (entries_of (as_list result)) }
+        ≡ performed_if (class_for K.model.service message.now) (message_entry message.now t))
+        × C.gave clock.old clock.new (moment_if (class_for K.model.service message.now) t) }
+    ensures kept { All (IsPerformed K.model) (entries_of (as_list result)) }
 {
     match class {
-        Class::Kept => match decode(message) {
+        Class::Kept | Class::Seen => match decode(message) {
             Ok(request) => Some((request, clock.now())),
             Err(_) => None,
         },
@@ -61,8 +61,19 @@ fn read_one<'a, K: Keeper, C: Clock>(
     }
 }
 
-/// Reads a group off the first messages: at most 16 kept ones, up to one that is zero, and none
-/// after a DESTROY.
+// Whether a message of this class is a kept DESTROY.
+fn is_kept_destroy(message: &[u8], class: Class) -> bool
+    requires { IsMessage message.now }
+    ensures { result ≡ destroys_by class (raw_of message.now).opcode }
+{
+    match class {
+        Class::Kept => has_opcode(message, DESTROY),
+        Class::Silent | Class::Bare(_) | Class::Seen => false,
+    }
+}
+
+/// Reads a group off the first messages: at most 16 kept and seen ones, up to one that is zero, and
+/// none after a kept DESTROY.
 pub(crate) fn gather<'a, K: Keeper, C: Clock>(
     alloc: Global,
     clock: &mut C,
@@ -71,16 +82,16 @@ pub(crate) fn gather<'a, K: Keeper, C: Clock>(
     requires { All IsMessage messages.now }
     ensures within { IfOk result (λ r. length r.classes.items ≤ length messages.now) }
     ensures classes { IfOk result (λ r.
-        r.classes.items ≡ classes_in K.model.serves (take (length r.classes.items) messages.now)) }
-    ensures gathers { IfOk result (λ r. Gathers K.model.serves (C.gave clock.old clock.new)
+        r.classes.items ≡ classes_in K.model.service (take (length r.classes.items) messages.now)) }
+    ensures gathers { IfOk result (λ r. Gathers K.model.service (C.gave clock.old clock.new)
         (take (length r.classes.items) messages.now) r.taken.items r.ends) }
     ensures few { IfOk result (λ r. length r.taken.items ≤ max_group) }
     ensures named { IfOk result (λ r. All HasId (entries_of r.taken.items)) }
-    ensures kept { IfOk result (λ r. All (IsKept K.model) (entries_of r.taken.items)) }
+    ensures kept { IfOk result (λ r. All (IsPerformed K.model) (entries_of r.taken.items)) }
     ensures stuck { IfOk result (λ r. length r.classes.items ≡ 0 → IsStuck messages.now) }
-    ensures groups { IfOk result (λ r. groups_of K.model.serves messages.now
+    ensures groups { IfOk result (λ r. groups_of K.model.service messages.now
         ≡ one_group (asked_in (entries_of r.taken.items))
-        ++ groups_of K.model.serves (drop (length r.classes.items) messages.now)) }
+        ++ groups_of K.model.service (drop (length r.classes.items) messages.now)) }
     ensures logged { (given : List MomentValue) × C.gave clock.old clock.new given }
 {
     let mut classes = Vec::new(alloc);
@@ -97,7 +108,7 @@ pub(crate) fn gather<'a, K: Keeper, C: Clock>(
         let class = classify::<K>(bytes);
         classes.push(class)?;
         if let Some(one) = read_one::<K, C>(clock, bytes, class) {
-            let ends = has_opcode(bytes, DESTROY);
+            let ends = is_kept_destroy(bytes, class);
             taken.push(one)?;
             if ends {
                 return Ok(Gathered {

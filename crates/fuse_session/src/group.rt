@@ -30,6 +30,7 @@ use crate::session::Session;
 use bytes::Bytes;
 use fuse_answer::Answer;
 use fuse_keeper::{Done, Keeper, histories_grow, kept_groups_grow, perform_group, still_stands};
+use fuse_request::seen_by_class;
 
 /// What comes next, once all answers so far are sent: more messages, or why there are none.
 #[derive(Clone, Copy, Debug, PartialEq, Eq)]
@@ -102,8 +103,8 @@ impl<K: Keeper, P: Port, C: Clock> Session<'_, '_, '_, '_, K, P, C> {
         ensures ok { IfOk result (λ progress. TookTurn (muted (passage (K.told self.old.keeper.now)
             (K.told self.new.keeper.now) (P.told self.old.port.now) (P.told self.new.port.now)
             (Did (C.gave self.old.clock.now self.new.clock.now)
-            (Grouped K.model.serves messages.now
-            (groups_of K.model.serves (drop progress.count messages.now))
+            (Grouped K.model.service messages.now
+            (groups_of K.model.service (drop progress.count messages.now))
             (K.performed self.old.keeper.now self.new.keeper.now))
             (P.became self.old.port.now self.new.port.now))))
             (ids_of self.old.pending.now.items) (ids_of self.new.pending.now.items)
@@ -124,7 +125,7 @@ impl<K: Keeper, P: Port, C: Clock> Session<'_, '_, '_, '_, K, P, C> {
         ensures err { IfErr result (λ fault. Broken (muted (passage (K.told self.old.keeper.now)
             (K.told self.new.keeper.now) (P.told self.old.port.now) (P.told self.new.port.now)
             (Did (C.gave self.old.clock.now self.new.clock.now)
-            (GroupedSome K.model.serves messages.now
+            (GroupedSome K.model.service messages.now
             (K.performed self.old.keeper.now self.new.keeper.now))
             (P.became self.old.port.now self.new.port.now))))
             (ids_of self.old.pending.now.items) messages.now (ended_at fault)) }
@@ -148,6 +149,7 @@ impl<K: Keeper, P: Port, C: Clock> Session<'_, '_, '_, '_, K, P, C> {
         histories_grow::<K>();
         kept_groups_grow::<K>();
         still_stands::<K>();
+        seen_by_class();
         let Ok(gathered) = gather::<K, C>(self.alloc, self.clock, messages) else {
             return Err(Fault::Memory);
         };

@@ -1,4 +1,4 @@
-ghost use Rattle.fuse_session.specs.Processed.{AnswersStay, KeptHaveIds};
+ghost use Rattle.fuse_session.specs.Processed.{AnswersStay, PerformedHaveIds};
 
 use fuse_keeper::{Keeper, histories_grow};
 
@@ -9,7 +9,7 @@ pub fn answers_stay<K: Keeper>()
     histories_grow::<K>();
 }
 
-/// A kept message that isn't zero has an id.
-pub fn kept_have_ids()
-    ensures { KeptHaveIds }
+/// A kept or a seen message that isn't zero has an id.
+pub fn performed_have_ids()
+    ensures { PerformedHaveIds }
 {}

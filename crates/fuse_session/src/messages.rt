@@ -62,8 +62,8 @@ impl<K: Keeper, P: Port, C: Clock> Session<'_, '_, '_, '_, K, P, C> {
         ensures ok { IfOk result (λ progress. ProcessedAll (muted (passage (K.told self.old.keeper.now)
             (K.told self.new.keeper.now) (P.told self.old.port.now) (P.told self.new.port.now)
             (Did (C.gave self.old.clock.now self.new.clock.now)
-            (Grouped K.model.serves messages.now
-            (groups_of K.model.serves (drop progress.count messages.now))
+            (Grouped K.model.service messages.now
+            (groups_of K.model.service (drop progress.count messages.now))
             (K.performed self.old.keeper.now self.new.keeper.now))
             (P.became self.old.port.now self.new.port.now))))
             (ids_of self.old.pending.now.items) (ids_of self.new.pending.now.items) messages.now
@@ -84,7 +84,7 @@ impl<K: Keeper, P: Port, C: Clock> Session<'_, '_, '_, '_, K, P, C> {
         ensures err { IfErr result (λ fault. Broken (muted (passage (K.told self.old.keeper.now)
             (K.told self.new.keeper.now) (P.told self.old.port.now) (P.told self.new.port.now)
             (Did (C.gave self.old.clock.now self.new.clock.now)
-            (GroupedSome K.model.serves messages.now
+            (GroupedSome K.model.service messages.now
             (K.performed self.old.keeper.now self.new.keeper.now))
             (P.became self.old.port.now self.new.port.now))))
             (ids_of self.old.pending.now.items) messages.now (ended_at fault)) }

@@ -1,19 +1,14 @@
-// The notices by which the kernel sends its pending requests again, and looks names up again.
-ghost use Rattle.std.specs.Prelude.{◌≡◌, ◌<◌, ◌^◌, false, [], IfErr, OnOk, OnErr};
+// The notice by which the kernel sends its pending requests again.
+ghost use Rattle.std.specs.Prelude.{◌≡◌, ◌<◌, ◌^◌, false, [], IfErr, OnOk};
 ghost use Rattle.fuse_keeper.specs.KeeperState.{Looked, WhereHeld, IsFirm};
-ghost use Rattle.fuse_session.specs.Port.{IsYoung};
-ghost use Rattle.fuse_session.specs.Resuming.{Resumed, NotResumed, SendsEach, FailsAt, notices};
-ghost use Rattle.fuse_session.specs.Resuming.{knows_epochs, may_ask, of_store};
+ghost use Rattle.fuse_session.specs.Resuming.{Resumed, NotResumed, may_ask, of_store};
 
 use crate::port::{Port, PortFailed, send_whole};
 use bitflags::Flags;
-use fuse_answer::{epoch_notice, resend_notice};
+use fuse_answer::resend_notice;
 use fuse_init::Settings;
 use fuse_keeper::{Keeper, StoreFault};
 use fuse_wire::InitFlags;
-
-// The minor of the version from which on a kernel knows the notice of a new epoch.
-const EPOCH_MINOR: u32 = 44;
 
 /// Why the kernel was not asked to send its pending requests again.
 #[derive(Drop)]
@@ -36,42 +31,16 @@ fn may_be_asked(settings: Option<Settings>) -> bool
     }
 }
 
-// Whether the kernel knows the notice of a new epoch.
-fn has_epochs(settings: Option<Settings>) -> bool
-    ensures { result ≡ knows_epochs settings }
-{
-    match settings {
-        None => false,
-        Some(agreed) => agreed.minor >= EPOCH_MINOR,
-    }
-}
-
-// Sends the resend notice, and after it the one of a new epoch to a kernel that knows it.
-fn send_notices<P: Port>(port: &mut P, epoch: bool) -> Result<(), PortFailed>
-    requires young { IsYoung (P.told port.old) }
-    ensures ok { OnOk result (SendsEach (P.told port.new) (notices epoch)
-        (P.became port.old port.new) (P.told port.old)) }
-    ensures err { OnErr result (FailsAt (P.told port.new) (notices epoch)
-        (P.became port.old port.new) (P.told port.old)) }
-{
-    send_whole(port, &resend_notice())?;
-    if epoch {
-        send_whole(port, &epoch_notice())?;
-    }
-    Ok(())
-}
-
 /// Asks the kernel to send its pending requests again, where the flags that INIT agreed on allow it
-/// or there was no INIT yet. After that notice a kernel of 7.44 or later gets the one of a new
-/// epoch, by which it looks names up again that it keeps. Allocates nothing itself, and changes
-/// nothing that the keeper holds. Where the port answers `Gone` to a notice, the notice counts as
-/// sent, as an answer does, and the port's state has the place where it ends.
+/// or there was no INIT yet. Allocates nothing itself, and changes nothing that the keeper holds.
+/// Where the port answers `Gone`, the notice counts as sent, as an answer does, and the port's
+/// state has the place where it ends.
 pub fn resume<K: Keeper, P: Port>(keeper: &mut K, port: &mut P) -> Result<(), ResumeFault>
     requires going { (K.told keeper.old).has_failed ≡ false }
     requires receives { (P.told port.old).receives < 2 ^ 62 }
     requires failures { (P.told port.old).failures < 2 ^ 62 }
-    // The notices were sent that the settings of what is held ask for, each handed to the port as
-    // all that was left of it each time, and nothing else was.
+    // The notice was sent, handed to the port as all that was left of it each time, and nothing
+    // else was.
     ensures ok { OnOk result (Resumed (K.told keeper.old) (K.told keeper.new)
         (P.told port.old) (P.told port.new) (P.became port.old port.new)) }
 
@@ -93,8 +62,8 @@ pub fn resume<K: Keeper, P: Port>(keeper: &mut K, port: &mut P) -> Result<(), Re
     if !may_be_asked(settings) {
         return Err(ResumeFault::NotOffered);
     }
-    match send_notices(port, has_epochs(settings)) {
-        Ok(()) => Ok(()),
+    match send_whole(port, &resend_notice()) {
+        Ok(_) => Ok(()),
         Err(PortFailed) => Err(ResumeFault::PortFailed),
     }
 }

@@ -248,8 +248,9 @@ fn one_turn<K: Keeper, P: Port, C: Clock>(
 }
 
 /// Serves the messages of a port: receives at most `turns` times, processes all whole messages
-/// after each of them in groups of at most 16 kept ones, and sends the answers of a group once it
-/// is committed. The keeper gets the ids that the answers settle with the next group.
+/// after each of them in groups of at most 16 kept and seen ones, and sends the answers of a group
+/// once it is committed. The keeper gets the ids that the answers settle with the next group that
+/// has a kept one.
 pub fn serve<K: Keeper, P: Port, C: Clock>(
     alloc: Global,
     keeper: &mut K,

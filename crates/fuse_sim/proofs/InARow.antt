@@ -1,9 +1,9 @@
 -- What two lists of events, one after the other, lead to: the answers and the records.
 use Rattle.std.proofs.Common.{◌≡◌, inl, inr, ℕ, true, false, List, [], ◌∷◌, ◌++◌, map, Option, sym, ap, subst, ◌∙◌}
 use Rattle.std.proofs.lemmas.List.{map-append}
-use Rattle.fuse_request.specs.Opcodes.{OpcodeSet}
+use Rattle.fuse_request.specs.Opcodes.{Service}
 use Rattle.fuse_request.specs.declared.class.Class.{Class}
-use Rattle.fuse_request.specs.declared.class.Class.TheVariants.{Silent, Bare, Kept}
+use Rattle.fuse_request.specs.declared.class.Class.TheVariants.{Silent, Bare, Kept, Seen}
 use Rattle.fuse_request.specs.Classes.{class_for}
 use Rattle.fuse_keeper.specs.History.{entry_id, History, HistoriesGrow, Includes, said, is_in, ids_in}
 use Rattle.fuse_keeper.specs.Model.{Model}
@@ -15,12 +15,12 @@ use Rattle.fuse_sim.specs.declared.event.Event.{Event}
 use Rattle.fuse_sim.specs.declared.event.Outcome.{Outcome}
 use Rattle.fuse_sim.specs.Driving.{told_in, StandsIn, commits_in, committed, bytes_given, settles, settled_by, NoneReused, OutcomesBegin}
 use Rattle.fuse_sim.specs.AfterEvents.{StandsAfter, AnswersAre, FirstAnswersAre, DeletesHanded, KeepsUnhanded}
-use Rattle.fuse_sim.specs.HandedOn.{empty_ledger, performances, handed_on_in}
+use Rattle.fuse_sim.specs.HandedOn.{performances, handed_on_in}
 use Rattle.fuse_sim.specs.LeftRecords.{RecordsLeft}
 use Rattle.fuse_sim.proofs.Settled.{is_in-append, in_either, includes_left, includes_right, includes_both, unsettled_too}
 use Rattle.fuse_sim.proofs.Gathered.{commits-append}
-use Rattle.fuse_sim.proofs.Driven.{committed-append, reused-parts, none_reused, includes_none, handed_settled, settled_all}
-use Rattle.fuse_sim.proofs.Asking.{handed_on_in-append, handed_performances}
+use Rattle.fuse_sim.proofs.Ledgers.{includes_none, handed_on_in-append, handed_settled}
+use Rattle.fuse_sim.proofs.Driven.{committed-append, reused-parts, none_reused, settled_all}
 use Rattle.fuse_sim.proofs.Moves.{begin_with, begin_later, split_in, or_false, not_among}
 use Rattle.fuse_sim.proofs.Endings.{not_in_both}
 
@@ -35,11 +35,11 @@ answers_in_a_row M grows told old mid new xs ys one two was stands all begin mor
     subst (OutcomesBegin M s h earlier) (sym (map-append bytes_given one two)) (elim (split_in xs ys earlier later parts) [
       | inl here ↦ begin_with M s h earlier first second (begin (was is) earlier here.more here.parts s h t so none)
       | inr after ↦
-          let reused = reused-parts M.serves t xs after.prefix (subst (NoneReused M.serves t) after.begin none) in
+          let reused = reused-parts M.service t xs after.prefix (subst (NoneReused M.service t) after.begin none) in
           let mids = stands (was is) s h t so reused.0 in
           subst (λ (x : List Event). OutcomesBegin M s h x (first ++ second)) (sym after.begin)
           (begin_later M grows s h xs after.prefix first second (all (was is) s h t so reused.0)
-          (more is after.prefix later after.parts s (committed M.serves h xs) (settled_by M.serves t xs) mids reused.1))
+          (more is after.prefix later after.parts s (committed M.service h xs) (settled_by M.service t xs) mids reused.1))
     ])
 
 -- ---- fewer ids were settled
@@ -48,8 +48,9 @@ comes_too : (u t : List ℕ) (class : Class) (i : ℕ) → Includes u t → come
 comes_too u t Silent i within may = may
 comes_too u t (Bare errno) i within may = may
 comes_too u t Kept i within may = unsettled_too u t i within may
+comes_too u t Seen i within may = may
 
-none_of_fewer : (V : OpcodeSet) (u t : List ℕ) (es : List Event) → Includes u t → NoneReused V u es → NoneReused V t es
+none_of_fewer : (V : Service) (u t : List ℕ) (es : List Event) → Includes u t → NoneReused V u es → NoneReused V t es
 none_of_fewer V u t [] within none = tt
 none_of_fewer V u t (e ∷ es) within none = (
   comes_too u t (class_for V e.bytes) (message_id e.bytes) within none.0,
@@ -60,14 +61,14 @@ none_of_fewer V u t (e ∷ es) within none = (
 -- ---- records
 
 -- what the first list handed on comes in the second no more
-handed_no_more : (V : OpcodeSet) (xs ys : List Event) (i : ℕ) → NoneReused V (settled_by V [] xs) ys → is_in (handed_on_in (performances V xs)) i ≡ true
+handed_no_more : (V : Service) (xs ys : List Event) (i : ℕ) → NoneReused V (settled_by V [] xs) ys → is_in (handed_on_in (performances V xs)) i ≡ true
     → is_in (ids_in (commits_in V ys)) i ≡ false
 handed_no_more V xs ys i none there =
     let u = settled_by V [] xs in
     not_among u (commits_in V ys) i (none_reused V u ys none)
-    (handed_settled V [] empty_ledger xs (includes_none []) i (sym (ap (λ x. is_in x i) (handed_performances V xs)) ∙ there))
+    (handed_settled V [] [] xs (includes_none []) i there)
 
-left_in_a_row : (V : OpcodeSet) (xs ys : List Event) (r r' r'' : Records) → RecordsLeft V (performances V xs) xs r r'
+left_in_a_row : (V : Service) (xs ys : List Event) (r r' r'' : Records) → RecordsLeft V (performances V xs) xs r r'
     → RecordsLeft V (performances V ys) ys r' r'' → RecordsLeft V (performances V xs ++ performances V ys) (xs ++ ys) r r''
 left_in_a_row V xs ys r r' r'' one two =
     let ids : ids_in (commits_in V (xs ++ ys)) ≡ ids_in (commits_in V xs) ++ ids_in (commits_in V ys) = ap ids_in (commits-append V xs ys)
@@ -89,8 +90,8 @@ left_in_a_row V xs ys r r' r'' one two =
 
 pub records_in_a_row : (M : Model) → {K : Type 0} (told : K → KeeperState M) (old mid new : Option K) (xs ys : List Event)
     → ((told_in told new).is_honest → (told_in told mid).is_honest)
-    → DeletesHanded told old mid (performances M.serves xs) xs → DeletesHanded told mid new (performances M.serves ys) ys
-    → DeletesHanded told old new (performances M.serves xs ++ performances M.serves ys) (xs ++ ys)
+    → DeletesHanded told old mid (performances M.service xs) xs → DeletesHanded told mid new (performances M.service ys) ys
+    → DeletesHanded told old new (performances M.service xs ++ performances M.service ys) (xs ++ ys)
 records_in_a_row M told old mid new xs ys was one two = λ is rows records held rowed.
     let first = one (was is) rows records held rowed in
     let second = two is first.rows first.records first.held first.rowed in
@@ -99,19 +100,19 @@ records_in_a_row M told old mid new xs ys was one two = λ is rows records held 
       records = second.records;
       held = second.held;
       rowed = second.rowed;
-      left = left_in_a_row M.serves xs ys records first.records second.records first.left second.left;
+      left = left_in_a_row M.service xs ys records first.records second.records first.left second.left;
     }
 
 -- ---- the records that stay
 
 -- after the first list none but the ids that were settled before it and those that it handed on lack a record
 stands_unhanded : (M : Model) → {K : Type 0} (told : K → KeeperState M) (old mid : Option K) (xs : List Event) → StandsAfter told old mid xs
-    → KeepsUnhanded told old mid (performances M.serves xs) xs → (told_in told mid).is_honest → (s : M.State) (h : History) (t : List ℕ)
-    → StandsIn told old s h t → NoneReused M.serves t xs
-    → StandsIn told mid s (committed M.serves h xs) (t ++ handed_on_in (performances M.serves xs))
+    → KeepsUnhanded told old mid (performances M.service xs) xs → (told_in told mid).is_honest → (s : M.State) (h : History) (t : List ℕ)
+    → StandsIn told old s h t → NoneReused M.service t xs
+    → StandsIn told mid s (committed M.service h xs) (t ++ handed_on_in (performances M.service xs))
 stands_unhanded M told old mid xs stands kept is s h t so none =
     let left = stands is s h t so none in
-    let handed = handed_on_in (performances M.serves xs) in
+    let handed = handed_on_in (performances M.service xs) in
     record {
       rows = left.rows;
       records = left.records;
@@ -128,14 +129,13 @@ stands_unhanded M told old mid xs stands kept is s h t so none =
 
 pub kept_in_a_row : (M : Model) → {K : Type 0} (told : K → KeeperState M) (old mid new : Option K) (xs ys : List Event)
     → ((told_in told new).is_honest → (told_in told mid).is_honest) → StandsAfter told old mid xs
-    → KeepsUnhanded told old mid (performances M.serves xs) xs → KeepsUnhanded told mid new (performances M.serves ys) ys
-    → KeepsUnhanded told old new (performances M.serves xs ++ performances M.serves ys) (xs ++ ys)
+    → KeepsUnhanded told old mid (performances M.service xs) xs → KeepsUnhanded told mid new (performances M.service ys) ys
+    → KeepsUnhanded told old new (performances M.service xs ++ performances M.service ys) (xs ++ ys)
 kept_in_a_row M told old mid new xs ys was stands one two = λ is s h t so none rows records held i unsettled unhanded.
-    let V = M.serves in
+    let V = M.service in
     let handed = handed_on_in (performances V xs) in
     let parts = reused-parts V t xs ys none in
-    let within = subst (λ (x : List ℕ). Includes (settled_by V t xs) (t ++ x)) (sym (handed_performances V xs))
-    (settled_all V t t empty_ledger xs (λ j there. there) (includes_none t)) in
+    let within : Includes (settled_by V t xs) (t ++ handed) = settled_all V t t [] xs (λ j there. there) (includes_none t) in
     let apart = or_false (is_in handed i) (is_in (handed_on_in (performances V ys)) i)
     (sym (ap (λ x. is_in x i) (handed_on_in-append (performances V xs) (performances V ys)) ∙ is_in-append handed (handed_on_in (performances V ys)) i) ∙ unhanded) in
     two is s (committed V h xs) (t ++ handed) (stands_unhanded M told old mid xs stands one (was is) s h t so parts.0)

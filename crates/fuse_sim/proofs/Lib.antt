@@ -3,8 +3,8 @@ mod Gathered
 mod Outcomes
 mod Settled
 mod Groups
+mod Cutting
 mod Ledgers
-mod Asking
 mod Driven
 mod Removed
 mod Moves

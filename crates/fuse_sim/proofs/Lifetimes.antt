@@ -4,7 +4,7 @@ use Rattle.std.proofs.lemmas.List.{map-append}
 use Rattle.std.proofs.lemmas.List.Concat.{flat_map-append}
 use Rattle.fuse_wire.specs.declared.moment.Moment.{Moment}
 use Rattle.fuse_request.specs.Classes.{class_for}
-use Rattle.fuse_request.specs.Opcodes.{OpcodeSet}
+use Rattle.fuse_request.specs.Opcodes.{Service}
 use Rattle.fuse_request.specs.Stream.{joined}
 use Rattle.fuse_keeper.specs.Model.{Model}
 use Rattle.fuse_keeper.specs.History.{Entry, History, Distinct, grown, HistoriesGrow}
@@ -28,53 +28,52 @@ Distinct-none = tt
 
 -- ---- the last history
 
-grown_kept : (V : OpcodeSet) → (h : History) (xs ys : List Timed) → grown h (kept_in V (xs ++ ys)) ≡ grown (grown h (kept_in V xs)) (kept_in V ys)
+grown_kept : (V : Service) → (h : History) (xs ys : List Timed) → grown h (kept_in V (xs ++ ys)) ≡ grown (grown h (kept_in V xs)) (kept_in V ys)
 grown_kept V h xs ys = ap (grown h) (flat_map-append (entries_at V) xs ys) ∙ grown-append h (kept_in V xs) (kept_in V ys)
 
-later : (V : OpcodeSet) (h : History) (ls : List Lifetime) → after_lives V h ls ≡ grown h (kept_in V (all_processed ls))
+later : (V : Service) (h : History) (ls : List Lifetime) → after_lives V h ls ≡ grown h (kept_in V (all_processed ls))
 later V h [] = refl
 later V h (l ∷ ls) = later V (grown h (kept_in V l.worked)) ls ∙ sym (grown_kept V h l.worked (all_processed ls))
 
-pub in_a_row : (V : OpcodeSet) (ls : List Lifetime) → after_lives V [] ls ≡ grown [] (kept_in V (all_processed ls))
+pub in_a_row : (V : Service) (ls : List Lifetime) → after_lives V [] ls ≡ grown [] (kept_in V (all_processed ls))
 in_a_row V ls = later V [] ls
 
-pub once_each : (M : Model) → HistoriesGrow M → (ls : List Lifetime) → Distinct (after_lives M.serves [] ls)
-once_each M grows ls = subst Distinct (sym (in_a_row M.serves ls)) (grows.distinct [] (kept_in M.serves (all_processed ls)) Distinct-none)
+pub once_each : (M : Model) → HistoriesGrow M → (ls : List Lifetime) → Distinct (after_lives M.service [] ls)
+once_each M grows ls = subst Distinct (sym (in_a_row M.service ls)) (grows.distinct [] (kept_in M.service (all_processed ls)) Distinct-none)
 
 -- ---- later requests change no answer
 
 -- what is answered where two histories agree on what follows each message
 answers_stay : (M : Model) → AnswersStay M → (s : M.State) (h : History) (ts : List Timed) (es ds : List Entry)
-    → answers_to M s (grown (grown h (kept_in M.serves ts)) es) ts ≡ answers_to M s (grown (grown h (kept_in M.serves ts)) ds) ts
+    → answers_to M s (grown (grown h (kept_in M.service ts)) es) h ts ≡ answers_to M s (grown (grown h (kept_in M.service ts)) ds) h ts
 answers_stay M stay s h [] es ds = refl
 answers_stay M stay s h (t ∷ ts) es ds =
-    let g = grown h (entries_at M.serves t) in
-    let place : (xs : List Entry) → grown (grown h (kept_in M.serves (t ∷ ts))) xs ≡ grown (grown g (kept_in M.serves ts)) xs =
-    λ xs. ap (λ x. grown x xs) (grown-append h (entries_at M.serves t) (kept_in M.serves ts)) in
-    let first : (xs : List Entry) → answered M s (grown (grown g (kept_in M.serves ts)) xs) t ≡ answered M s g t =
-    λ xs. ap (λ x. answered M s x t) (sym (grown-append g (kept_in M.serves ts) xs)) ∙ stay s h t (kept_in M.serves ts ++ xs) in
-    ap (λ x. answered M s x t ∷ answers_to M s x ts) (place es)
-    ∙ ap (λ r. r ∷ answers_to M s (grown (grown g (kept_in M.serves ts)) es) ts) (first es ∙ sym (first ds))
-    ∙ ap (λ r. answered M s (grown (grown g (kept_in M.serves ts)) ds) t ∷ r) (answers_stay M stay s g ts es ds)
-    ∙ ap (λ x. answered M s x t ∷ answers_to M s x ts) (sym (place ds))
+    let g = grown h (entries_at M.service t) in
+    let end : List Entry → History = λ xs. grown (grown g (kept_in M.service ts)) xs in
+    let place : (xs : List Entry) → grown (grown h (kept_in M.service (t ∷ ts))) xs ≡ end xs =
+    λ xs. ap (λ x. grown x xs) (grown-append h (entries_at M.service t) (kept_in M.service ts)) in
+    let first : (xs : List Entry) → answered M s (end xs) h t ≡ answered M s g h t =
+    λ xs. ap (λ x. answered M s x h t) (sym (grown-append g (kept_in M.service ts) xs)) ∙ stay s h t (kept_in M.service ts ++ xs) in
+    ap (λ x. answered M s x h t ∷ answers_to M s x g ts) (place es)
+    ∙ ap (λ r. r ∷ answers_to M s (end es) g ts) (first es ∙ sym (first ds))
+    ∙ ap (λ r. answered M s (end ds) h t ∷ r) (answers_stay M stay s g ts es ds)
+    ∙ ap (λ x. answered M s x h t ∷ answers_to M s x g ts) (sym (place ds))
 
-sends_by : (M : Model) → AnswersStay M → (s : M.State) (h : History) (ls : List Lifetime) → AreLives M s h ls → AllSend M s (after_lives M.serves h ls) ls
+sends_by : (M : Model) → AnswersStay M → (s : M.State) (h : History) (ls : List Lifetime) → AreLives M s h ls → AllSend M s (after_lives M.service h ls) h ls
 sends_by M stay s h [] lives = tt
 sends_by M stay s h (l ∷ ls) lives =
-    let g = grown h (kept_in M.serves l.worked) in
-    let more = kept_in M.serves (all_processed ls) ++ kept_in M.serves l.worked in
-    let end : grown (after_lives M.serves g ls) (kept_in M.serves l.worked) ≡ grown g more =
-    ap (λ x. grown x (kept_in M.serves l.worked)) (later M.serves g ls) ∙ sym (grown-append g (kept_in M.serves (all_processed ls)) (kept_in M.serves l.worked)) in
-    let same : out M s (after_lives M.serves g ls) l.worked ≡ out M s h l.worked =
-    ap (λ x. joined (answers_to M s x l.worked)) end ∙ ap joined (answers_stay M stay s h l.worked more []) in
+    let g = grown h (kept_in M.service l.worked) in
+    let same : joined (answers_to M s (after_lives M.service g ls) h l.worked) ≡ out M s h l.worked =
+    ap (λ x. joined (answers_to M s x h l.worked)) (later M.service g ls)
+    ∙ ap joined (answers_stay M stay s h l.worked (kept_in M.service (all_processed ls)) []) in
     ((lives.0.unsent, same ∙ lives.0.sends), sends_by M stay s g ls lives.1)
 
-pub all_send : (M : Model) → AnswersStay M → (s : M.State) (ls : List Lifetime) → AreLives M s [] ls → AllSend M s (after_lives M.serves [] ls) ls
+pub all_send : (M : Model) → AnswersStay M → (s : M.State) (ls : List Lifetime) → AreLives M s [] ls → AllSend M s (after_lives M.service [] ls) [] ls
 all_send M stay s ls lives = sends_by M stay s [] ls lives
 
 -- ---- a run of a server is a life
 
-timed_prefix : (V : OpcodeSet) (given : List Moment) (xs ys : List Timed) → TimedFirst V given (xs ++ ys) → TimedFirst V given xs
+timed_prefix : (V : Service) (given : List Moment) (xs ys : List Timed) → TimedFirst V given (xs ++ ys) → TimedFirst V given xs
 timed_prefix V given xs ys timed = (
   moments_in V ys ++ timed.0,
   timed.1 ∙ ap (λ (r : List Moment). r ++ timed.0) (flat_map-append (λ t. moment_if (class_for V t.bytes) t.moment) xs ys) ∙ append_assoc (moments_in V xs) (moments_in V ys) timed.0,
@@ -107,12 +106,12 @@ run_lived M Stood p ended run s h t l =
     let begun : joined (replies marks) ++ joined l.sent.later ≡ sent ++ more.0 =
     ap (λ (x : List ℕ). joined (replies marks) ++ x) more.1 ∙ sym (append_assoc (joined (replies marks)) b.part more.0) in
     record {
-      life = record { received = run.received; sent = sent; worked = l.worked; settled = settled_in M.serves p.port.confirms (bytes_of l.worked) marks };
+      life = record { received = run.received; sent = sent; worked = l.worked; settled = settled_in M.service p.port.confirms (bytes_of l.worked) marks };
       lived = record { others = bytes_of l.unprocessed ++ b.others; prefix = b.prefix ∙ parts; works = l.works; unsent = more.0; sends = split ∙ begun };
       received = refl;
       unprocessed = l.unprocessed;
       parts = l.parts;
-      moments = timed_prefix M.serves w.deeds.moments l.worked l.unprocessed (subst (TimedFirst M.serves w.deeds.moments) l.parts b.moments);
+      moments = timed_prefix M.service w.deeds.moments l.worked l.unprocessed (subst (TimedFirst M.service w.deeds.moments) l.parts b.moments);
       sent = refl;
       up_to = l.sent;
       slices = b.slices;

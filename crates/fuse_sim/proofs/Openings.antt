@@ -3,9 +3,10 @@ use Rattle.std.proofs.Common.{◌≡◌, ◌⊎◌, inl, inr, ℕ, suc, ◌+◌,
 use Rattle.std.proofs.Common.{Some, None, IsSomeAnd, ◌≤◌, refl, sym, ap, subst, ◌∙◌, append_assoc, length-append, drop-cons, arith}
 use Rattle.std.proofs.lemmas.List.{append-nil}
 use Rattle.fuse_request.specs.Classes.{class_for}
-use Rattle.fuse_request.specs.Opcodes.{OpcodeSet}
+use Rattle.fuse_request.specs.Opcodes.{Service}
 use Rattle.fuse_keeper.specs.History.{History, grown, Includes}
 use Rattle.fuse_keeper.specs.Model.{Model}
+use Rattle.fuse_keeper.specs.Stands.{StillStands}
 use Rattle.fuse_keeper.specs.KeeperState.{KeeperState, KeepsHeld, IsCount}
 use Rattle.fuse_session.specs.Processed.{entry_if, message_entry}
 use Rattle.fuse_keeper.specs.Group.{handed_to}
@@ -14,15 +15,15 @@ use Rattle.fuse_sim.specs.declared.event.Fate.TheVariants.{DiedAfterCommit}
 use Rattle.fuse_sim.specs.declared.event.Event.{Event}
 use Rattle.fuse_sim.specs.declared.event.Outcome.{Outcome}
 use Rattle.fuse_sim.specs.declared.group.Group.{Group}
-use Rattle.fuse_sim.specs.Driving.{commits_by, commits_in, committed, dies, deaths, settles, settled_by, NoneReused, told_in, StandsIn, became_in, OpenedAt, EventIn, up_to}
+use Rattle.fuse_sim.specs.Driving.{commits_by, commits_in, committed, dies, dies_before, deaths, settles, settled_by, NoneReused, told_in, StandsIn, became_in, OpenedAt, EventIn, up_to}
 use Rattle.fuse_sim.specs.Driving.{Opened, KeepsMedium, StoodAt, StoodBefore}
 use Rattle.fuse_sim.specs.AfterEvents.{StandsAfter}
-use Rattle.fuse_sim.specs.inner.Running.{dies_before, IsGroupRun, DiesLast, GathersEvents, Worked, Opens, stage}
+use Rattle.fuse_sim.specs.inner.Running.{IsGroupRun, DiesLast, GathersEvents, Worked, Opens, stage}
 use Rattle.fuse_sim.proofs.Settled.{includes_left, includes_both, stands_later}
 use Rattle.fuse_sim.proofs.Driven.{committed-append, settled-append, settled_still, reused-parts, all_unsettled_too, none_reused}
 use Rattle.fuse_sim.proofs.Gathered.{commits-append}
-use Rattle.fuse_sim.proofs.Moves.{handed_within, is_lost, few_taken, split_in}
-use Rattle.fuse_keeper.specs.Stands.{StillStands}
+use Rattle.fuse_sim.proofs.Ledgers.{handed_within}
+use Rattle.fuse_sim.proofs.Moves.{is_lost, few_kept, split_in}
 
 -- ---- what became of a keeper
 
@@ -141,17 +142,17 @@ in_which (x ∷ xs) ys (y ∷ earlier) e later is =
 
 -- what stood after the first events, and then for the second, stands for both
 stood_more : (M : Model) → {K : Type 0} (told : K → KeeperState M) (old mid new : Option K) (xs ys : List Event) (p : List ℕ)
-    → ((t : List ℕ) → Includes (settled_by M.serves t xs) p)
-    → ((s : M.State) (h : History) (t : List ℕ) → StandsIn told old s h t → NoneReused M.serves t xs → StandsIn told mid s (committed M.serves h xs) (settled_by M.serves t xs))
-    → ((s : M.State) (h : History) (t : List ℕ) → StandsIn told mid s h t → Includes t p → NoneReused M.serves t ys
-    → StandsIn told new s (committed M.serves h ys) (settled_by M.serves t ys))
-    → (s : M.State) (h : History) (t : List ℕ) → StandsIn told old s h t → NoneReused M.serves t (xs ++ ys)
-    → StandsIn told new s (committed M.serves h (xs ++ ys)) (settled_by M.serves t (xs ++ ys))
+    → ((t : List ℕ) → Includes (settled_by M.service t xs) p)
+    → ((s : M.State) (h : History) (t : List ℕ) → StandsIn told old s h t → NoneReused M.service t xs → StandsIn told mid s (committed M.service h xs) (settled_by M.service t xs))
+    → ((s : M.State) (h : History) (t : List ℕ) → StandsIn told mid s h t → Includes t p → NoneReused M.service t ys
+    → StandsIn told new s (committed M.service h ys) (settled_by M.service t ys))
+    → (s : M.State) (h : History) (t : List ℕ) → StandsIn told old s h t → NoneReused M.service t (xs ++ ys)
+    → StandsIn told new s (committed M.service h (xs ++ ys)) (settled_by M.service t (xs ++ ys))
 stood_more M told old mid new xs ys p within one two s h t so none =
-    let parts = reused-parts M.serves t xs ys none in
-    let stands = two s (committed M.serves h xs) (settled_by M.serves t xs) (one s h t so parts.0) (within t) parts.1 in
-    subst (λ g. StandsIn told new s g (settled_by M.serves t (xs ++ ys))) (sym (committed-append M.serves h xs ys))
-    (subst (StandsIn told new s (committed M.serves (committed M.serves h xs) ys)) (sym (settled-append M.serves t xs ys)) stands)
+    let parts = reused-parts M.service t xs ys none in
+    let stands = two s (committed M.service h xs) (settled_by M.service t xs) (one s h t so parts.0) (within t) parts.1 in
+    subst (λ g. StandsIn told new s g (settled_by M.service t (xs ++ ys))) (sym (committed-append M.service h xs ys))
+    (subst (StandsIn told new s (committed M.service (committed M.service h xs) ys)) (sym (settled-append M.service t xs ys)) stands)
 
 -- the event between these
 abbrev event_at : {events : List Event} (earlier : List Event) (one : Event) (later : List Event) → events ≡ earlier ++ one ∷ later → EventIn events
@@ -173,7 +174,7 @@ opened_before M told became law old mid new xs ys zs at more parts rest further 
 
 opened_last : (M : Model) → {K : Type 0} (told : K → KeeperState M) (became : K → K → ℕ → Type 0) → IsCount became
     → (old mid new : Option K) (xs ys : List Event) (p : List ℕ) (at : EventIn (xs ++ ys)) (prefix : List Event)
-    → ((t : List ℕ) → Includes (settled_by M.serves t xs) p) → StandsAfter told old mid xs → became_in became old mid (deaths xs) → (two : Opens told became mid new p ys)
+    → ((t : List ℕ) → Includes (settled_by M.service t xs) p) → StandsAfter told old mid xs → became_in became old mid (deaths xs) → (two : Opens told became mid new p ys)
     → ys ≡ prefix ++ at.one ∷ at.later → at.earlier ≡ xs ++ prefix → AtLast two.died prefix at.later → OpenedAt told became old new at
 opened_last M told became law old mid new xs ys p at prefix within stood often two parts begin last =
     let e = at.one in
@@ -189,14 +190,14 @@ opened_last M told became law old mid new xs ys p at prefix within stood often t
       once = once;
       after = subst (became_in became new new) (ap deaths (sym last.ends)) (became_last became law two.left new 1 once);
       kept = two.kept;
-      stood = λ is. subst (λ es. (s : M.State) (h : History) (t : List ℕ) → StandsIn told old s h t → NoneReused M.serves t es
-          → StandsIn told two.left s (committed M.serves h es) (settled_by M.serves t es)) (sym whole)
+      stood = λ is. subst (λ es. (s : M.State) (h : History) (t : List ℕ) → StandsIn told old s h t → NoneReused M.service t es
+          → StandsIn told two.left s (committed M.service h es) (settled_by M.service t es)) (sym whole)
           (stood_more M told old mid two.left xs ys p within (stood (two.was_honest (two.honest is))) (two.stood (two.honest is)));
     }
 
 opened_place : (M : Model) → {K : Type 0} (told : K → KeeperState M) (became : K → K → ℕ → Type 0) → IsCount became
     → (old mid new : Option K) (xs ys : List Event) (p : List ℕ)
-    → ((t : List ℕ) → Includes (settled_by M.serves t xs) p) → StandsAfter told old mid xs → became_in became mid new (deaths ys)
+    → ((t : List ℕ) → Includes (settled_by M.service t xs) p) → StandsAfter told old mid xs → became_in became mid new (deaths ys)
     → ((told_in told new).is_honest → (told_in told mid).is_honest)
     → Opened told became old mid xs → Opens told became mid new p ys
     → (at : EventIn (xs ++ ys)) → dies at.one.fate ≡ true → OpenedAt told became old new at
@@ -209,7 +210,7 @@ opened_place M told became law old mid new xs ys p within stood further was one 
 
 pub opened_more : (M : Model) → {K : Type 0} (told : K → KeeperState M) (became : K → K → ℕ → Type 0) → IsCount became
     → (old mid new : Option K) (xs ys : List Event) (p : List ℕ)
-    → ((t : List ℕ) → Includes (settled_by M.serves t xs) p) → StandsAfter told old mid xs → Opened told became old mid xs → Opens told became mid new p ys
+    → ((t : List ℕ) → Includes (settled_by M.service t xs) p) → StandsAfter told old mid xs → Opened told became old mid xs → Opens told became mid new p ys
     → Opened told became old new (xs ++ ys)
 opened_more M told became law old mid new xs ys p within stood one two =
     let further : became_in became mid new (deaths ys) =
@@ -222,10 +223,10 @@ opened_more M told became law old mid new xs ys p within stood one two =
 
 -- two lists in a row
 pub stands_twice : (M : Model) → {K : Type 0} (told : K → KeeperState M) (old mid new : Option K) (xs ys : List Event)
-    → ((s : M.State) (h : History) (t : List ℕ) → StandsIn told old s h t → NoneReused M.serves t xs → StandsIn told mid s (committed M.serves h xs) (settled_by M.serves t xs))
-    → ((s : M.State) (h : History) (t : List ℕ) → StandsIn told mid s h t → NoneReused M.serves t ys → StandsIn told new s (committed M.serves h ys) (settled_by M.serves t ys))
-    → (s : M.State) (h : History) (t : List ℕ) → StandsIn told old s h t → NoneReused M.serves t (xs ++ ys)
-    → StandsIn told new s (committed M.serves h (xs ++ ys)) (settled_by M.serves t (xs ++ ys))
+    → ((s : M.State) (h : History) (t : List ℕ) → StandsIn told old s h t → NoneReused M.service t xs → StandsIn told mid s (committed M.service h xs) (settled_by M.service t xs))
+    → ((s : M.State) (h : History) (t : List ℕ) → StandsIn told mid s h t → NoneReused M.service t ys → StandsIn told new s (committed M.service h ys) (settled_by M.service t ys))
+    → (s : M.State) (h : History) (t : List ℕ) → StandsIn told old s h t → NoneReused M.service t (xs ++ ys)
+    → StandsIn told new s (committed M.service h (xs ++ ys)) (settled_by M.service t (xs ++ ys))
 stands_twice M told old mid new xs ys one two =
     stood_more M told old mid new xs ys [] (λ t i there. absurd (cc there)) one (λ s h t so within none. two s h t so none)
 
@@ -244,8 +245,8 @@ opened_second M told became law old mid new xs ys at prefix parts was stood ofte
       once = one.once;
       after = one.after;
       kept = one.kept;
-      stood = λ is. subst (λ es. (s : M.State) (h : History) (t : List ℕ) → StandsIn told old s h t → NoneReused M.serves t es
-          → StandsIn told one.left s (committed M.serves h es) (settled_by M.serves t es)) (sym whole)
+      stood = λ is. subst (λ es. (s : M.State) (h : History) (t : List ℕ) → StandsIn told old s h t → NoneReused M.service t es
+          → StandsIn told one.left s (committed M.service h es) (settled_by M.service t es)) (sym whole)
           (stands_twice M told old mid one.left xs (prefix ++ e ∷ []) (stood (was is)) (one.stood is));
     }
 
@@ -300,7 +301,7 @@ pub group_opens : (M : Model) → StillStands M → {K : Type 0} (told : K → K
     → KeepsMedium told old new → Opens told became old new p run
 group_opens M still told became old mid new group run slice p p' outs outs' gathers same all before after keeps honest was medium =
     let worked = subst (λ x. Worked (stage (told_in told old) p outs) (stage (told_in told mid) p' outs') x) same all in
-    let cs = commits_in M.serves run in
+    let cs = commits_in M.service run in
     record {
       died = group.died;
       last = run_last group.died run gathers.goes;
@@ -312,11 +313,11 @@ group_opens M still told became old mid new group run slice p p' outs outs' gath
       kept = keeps;
       stood = λ is s h t so within none.
           let handed = handed_within t p cs within in
-          let fresh = all_unsettled_too t (t ++ handed_to cs p) cs (includes_both t t (handed_to cs p) (λ i there. there) handed) (none_reused M.serves t run none) in
-          stands_later M still (told_in told mid) s (committed M.serves h run) (t ++ handed_to cs p) (settled_by M.serves t run)
-          (includes_both (settled_by M.serves t run) t (handed_to cs p) (settled_still M.serves t run) (λ i there. settled_still M.serves t run i (handed i there)))
+          let fresh = all_unsettled_too t (t ++ handed_to cs p) cs (includes_both t t (handed_to cs p) (λ i there. there) handed) (none_reused M.service t run none) in
+          stands_later M still (told_in told mid) s (committed M.service h run) (t ++ handed_to cs p) (settled_by M.service t run)
+          (includes_both (settled_by M.service t run) t (handed_to cs p) (settled_still M.service t run) (λ i there. settled_still M.service t run i (handed i there)))
           (worked.stands is s h t so fresh);
-      few = few_taken M.serves run group.taken.items 16 gathers.entries gathers.few;
+      few = few_kept M.service run group.taken.items 16 gathers.entries gathers.few;
       medium = medium;
     }
 
@@ -328,7 +329,7 @@ pub lost_opens : (M : Model) → StillStands M → {K : Type 0} (told : K → Ke
 lost_opens M still told became law old new events at e p lt is before once keeps honest medium =
     let lost = is_lost e.fate before in
     let one : e ∷ [] ≡ take 1 (drop at events) = ap (λ (x : Event). x ∷ []) is ∙ ap (take 1) (sym (drop-cons events at e lt)) in
-    let none : commits_in M.serves (e ∷ []) ≡ [] = ap (λ f. commits_by f (entry_if (class_for M.serves e.bytes) (message_entry e.bytes e.moment)) ++ []) lost in
+    let none : commits_in M.service (e ∷ []) ≡ [] = ap (λ f. commits_by f (entry_if (class_for M.service e.bytes) (message_entry e.bytes e.moment)) ++ []) lost in
     subst (Opens told became old new p) one (record {
       died = true;
       last = inr (refl, ap dies lost, refl);
@@ -339,8 +340,8 @@ lost_opens M still told became law old new events at e p lt is before once keeps
       was_honest = λ is. is;
       kept = keeps;
       stood = λ is s h t so within unused.
-          subst (λ cs. StandsIn told old s (grown h cs) (settled_by M.serves t (e ∷ []))) (sym none)
-          (stands_later M still (told_in told old) s h t (settled_by M.serves t (e ∷ [])) (includes_left t (settles M.serves e)) so);
+          subst (λ cs. StandsIn told old s (grown h cs) (settled_by M.service t (e ∷ []))) (sym none)
+          (stands_later M still (told_in told old) s h t (settled_by M.service t (e ∷ [])) (includes_left t (settles M.service e)) so);
       few = omega (arith, ap length none);
       medium = medium;
     })
@@ -360,7 +361,7 @@ stood_none M told became law P k is = λ _ earlier later none.
       begun = [];
       rest = earlier;
       parts = refl;
-      few = omega (arith, ap (λ (es : List Event). length (commits_in M.serves es)) parts.0);
+      few = omega (arith, ap (λ (es : List Event). length (commits_in M.service es)) parts.0);
       keeper = k;
       before = same;
       after = subst (λ es. became_in became k k (deaths (es ++ later))) (sym parts.0) (subst (λ es. became_in became k k (deaths es)) (sym parts.1) same);
@@ -388,7 +389,7 @@ stood_within M told became law old mid new earlier more later ys further rest on
   stood = one.stood;
 }
 
-few_first : (V : OpcodeSet) (ys prefix later : List Event) (n : ℕ) → ys ≡ prefix ++ later → length (commits_in V ys) ≤ n → length (commits_in V prefix) ≤ n
+few_first : (V : Service) (ys prefix later : List Event) (n : ℕ) → ys ≡ prefix ++ later → length (commits_in V ys) ≤ n → length (commits_in V prefix) ≤ n
 few_first V ys prefix later n parts few = omega (
   arith,
   few,
@@ -400,12 +401,12 @@ few_first V ys prefix later n parts few = omega (
 -- one that stood when a group began
 stood_begun : (M : Model) → {K : Type 0} (told : K → KeeperState M) (became : K → K → ℕ → Type 0) (old mid new : Option K) (xs ys earlier prefix later : List Event)
     → (told_in told mid).is_honest → StandsAfter told old mid xs → became_in became old mid (deaths xs) → became_in became mid new (deaths ys)
-    → length (commits_in M.serves ys) ≤ 16 → earlier ≡ xs ++ prefix → ys ≡ prefix ++ later → StoodAt told became old new earlier later
+    → length (commits_in M.service ys) ≤ 16 → earlier ≡ xs ++ prefix → ys ≡ prefix ++ later → StoodAt told became old new earlier later
 stood_begun M told became old mid new xs ys earlier prefix later is stood often further few begin parts = record {
   begun = xs;
   rest = prefix;
   parts = begin;
-  few = few_first M.serves ys prefix later 16 parts few;
+  few = few_first M.service ys prefix later 16 parts few;
   keeper = mid;
   before = often;
   after = subst (λ es. became_in became mid new (deaths es)) parts further;

@@ -2,22 +2,23 @@
 use Rattle.std.proofs.Common.{◌≡◌, ℕ, suc, ◌+◌, ◌≤◌, ◌<◌, Bool, true, false, List, [], ◌∷◌, ◌++◌, length, map, drop, get_or, Option, Some, refl, sym, ap, subst}
 use Rattle.std.proofs.Common.{◌∙◌, append_assoc, length-append, drop-cons, arith}
 use Rattle.std.proofs.lemmas.List.{append-nil, map-append, length-map}
-use Rattle.fuse_request.specs.Opcodes.{OpcodeSet}
+use Rattle.fuse_request.specs.Opcodes.{Service}
 use Rattle.fuse_wire.specs.declared.id.Id.{Id}
 use Rattle.fuse_answer.specs.Said.{Said}
 use Rattle.fuse_answer.specs.Wire.{wire, wire_head}
 use Rattle.fuse_request.specs.declared.class.Class.{Class}
-use Rattle.fuse_request.specs.declared.class.Class.TheVariants.{Silent, Bare, Kept}
+use Rattle.fuse_request.specs.declared.class.Class.TheVariants.{Silent, Bare, Kept, Seen}
 use Rattle.fuse_request.specs.Classes.{class_for}
 use Rattle.fuse_keeper.specs.Group.{ids_of}
 use Rattle.fuse_keeper.specs.declared.keeper.Done.{Done}
+use Rattle.fuse_session.specs.Grouping.{is_performed_class}
 use Rattle.fuse_session.specs.inner.Group.{left_by}
 use Rattle.fuse_session.specs.Settling.{settles_if}
 use Rattle.fuse_session.specs.Processed.{message_id}
 use Rattle.fuse_sim.specs.declared.event.Event.{Event}
 use Rattle.fuse_sim.specs.declared.event.Outcome.{Outcome}
-use Rattle.fuse_sim.specs.Driving.{bytes_given, settles, is_taken}
-use Rattle.fuse_sim.specs.inner.Running.{answers_in, head_outcome, outcomes_by, HasAnswers, settles_in, Adds}
+use Rattle.fuse_sim.specs.Driving.{bytes_given, settles, settles_in, is_taken}
+use Rattle.fuse_sim.specs.inner.Running.{answers_in, head_outcome, outcomes_by, HasAnswers, Adds}
 
 -- a head and the body that it announces
 pub whole_answer : (a : Said) (unique : ℕ) (head body : List ℕ) → head ≡ wire_head a.errno (length a.body) unique → body ≡ a.body
@@ -39,7 +40,7 @@ pub record AddsFirst (old new : List (Option Outcome)) (others whole : List (Opt
 pub adds_none : (old new : List (Option Outcome)) (whole : List (Option (List ℕ))) → new ≡ old → AddsFirst old new whole whole
 adds_none old new whole is = record { added = []; items = is ∙ sym (append-nil old); are = refl }
 
-pub adds_one : (V : OpcodeSet) (old new new' : List (Option Outcome)) (one : Option Outcome) (run : List Event) (i : ℕ) (e : Event) (answers answers' : List Said)
+pub adds_one : (V : Service) (old new new' : List (Option Outcome)) (one : Option Outcome) (run : List Event) (i : ℕ) (e : Event) (answers answers' : List Said)
     (whole : List (Option (List ℕ))) → i < length run → e ≡ get_or run i e
     → AddsFirst old new (outcomes_by V (drop i run) answers) whole → bytes_given one ≡ head_outcome V e answers → answers' ≡ left_by (class_for V e.bytes) answers
     → new' ≡ new ++ one ∷ []
@@ -59,7 +60,7 @@ adds_one V old new new' one run i e answers answers' whole lt at so_far is left 
           ∙ so_far.are;
     }
 
-pub adds_all : (V : OpcodeSet) (old new : List (Option Outcome)) (run : List Event) (i : ℕ) (answers : List Said) (whole : List (Option (List ℕ))) → drop i run ≡ []
+pub adds_all : (V : Service) (old new : List (Option Outcome)) (run : List Event) (i : ℕ) (answers : List Said) (whole : List (Option (List ℕ))) → drop i run ≡ []
     → AddsFirst old new (outcomes_by V (drop i run) answers) whole → Adds old new whole
 adds_all V old new run i answers whole end so_far = record {
   added = so_far.added;
@@ -68,7 +69,7 @@ adds_all V old new run i answers whole end so_far = record {
 }
 
 -- the ids that the events settle
-pub settled_one : (V : OpcodeSet) (new new' whole : List ℕ) (run : List Event) (i : ℕ) (e : Event) → i < length run → e ≡ get_or run i e
+pub settled_one : (V : Service) (new new' whole : List ℕ) (run : List Event) (i : ℕ) (e : Event) → i < length run → e ≡ get_or run i e
     → new ++ settles_in V (drop i run) ≡ whole → new' ≡ new ++ settles V e → new' ++ settles_in V (drop (i + 1) run) ≡ whole
 settled_one V new new' whole run i e lt at so_far is =
     let parts : drop i run ≡ e ∷ drop (suc i) run = drop-cons run i e lt ∙ ap (λ x. x ∷ drop (suc i) run) (sym at) in
@@ -76,30 +77,34 @@ settled_one V new new' whole run i e lt at so_far is =
     ap (λ (n : List ℕ). n ++ settles_in V (drop (i + 1) run)) is ∙ append_assoc new (settles V e) (settles_in V (drop (i + 1) run))
     ∙ ap (λ (r : List Event). new ++ (settles V e ++ settles_in V r)) next ∙ ap (λ (r : List Event). new ++ settles_in V r) (sym parts) ∙ so_far
 
-pub settled_all : (V : OpcodeSet) (new whole : List ℕ) (run : List Event) (i : ℕ) → drop i run ≡ [] → new ++ settles_in V (drop i run) ≡ whole → new ≡ whole
+pub settled_all : (V : Service) (new whole : List ℕ) (run : List Event) (i : ℕ) → drop i run ≡ [] → new ++ settles_in V (drop i run) ≡ whole → new ≡ whole
 settled_all V new whole run i end so_far = sym (append-nil new) ∙ ap (λ r. new ++ settles_in V r) (sym end) ∙ so_far
 
 -- the answers that are left are enough
-pub answers_here : (V : OpcodeSet) (run : List Event) (i : ℕ) (e : Event) (answers : List Said) → i < length run → e ≡ get_or run i e → HasAnswers V (drop i run) answers
+pub answers_here : (V : Service) (run : List Event) (i : ℕ) (e : Event) (answers : List Said) → i < length run → e ≡ get_or run i e → HasAnswers V (drop i run) answers
     → HasAnswers V (e ∷ drop (i + 1) run) answers
 answers_here V run i e answers lt at has =
     let parts : drop i run ≡ e ∷ drop (suc i) run = drop-cons run i e lt ∙ ap (λ x. x ∷ drop (suc i) run) (sym at) in
     let next : drop (suc i) run ≡ drop (i + 1) run = sym (next_place run i) in
     subst (λ r. HasAnswers V r answers) (parts ∙ ap (λ r. e ∷ r) next) has
 
-fewer_by : (taken : Bool) (class : Class) (id : ℕ) (answers : List Said) → (class ≡ Kept → 0 < length answers)
+fewer_by : (taken : Bool) (class : Class) (id : ℕ) (answers : List Said) → (is_performed_class class ≡ true → 0 < length answers)
     → length (settles_if taken class id) + length (left_by class answers) ≤ length answers
 fewer_by true Silent id answers has = omega arith
 fewer_by true (Bare errno) id answers has = omega arith
 fewer_by true Kept id [] has = has refl
 fewer_by true Kept id (a ∷ answers) has = omega arith
+fewer_by true Seen id [] has = omega arith
+fewer_by true Seen id (a ∷ answers) has = omega arith
 fewer_by false Silent id answers has = omega arith
 fewer_by false (Bare errno) id answers has = omega arith
 fewer_by false Kept id [] has = omega arith
 fewer_by false Kept id (a ∷ answers) has = omega arith
+fewer_by false Seen id [] has = omega arith
+fewer_by false Seen id (a ∷ answers) has = omega arith
 
 -- an id takes the place of its answer
-pub places_left : (V : OpcodeSet) (e : Event) (pending pending' : List Id) (answers answers' : List Done) (n : ℕ) → (class_for V e.bytes ≡ Kept → 0 < length (answers_in answers))
+pub places_left : (V : Service) (e : Event) (pending pending' : List Id) (answers answers' : List Done) (n : ℕ) → (is_performed_class (class_for V e.bytes) ≡ true → 0 < length (answers_in answers))
     → answers_in answers' ≡ left_by (class_for V e.bytes) (answers_in answers)
     → ids_of pending' ≡ ids_of pending ++ settles V e → length pending + length answers ≤ n → length pending' + length answers' ≤ n
 places_left V e pending pending' answers answers' n has left is few =

@@ -5,9 +5,9 @@ use Rattle.std.proofs.Math.Bool.{or-true}
 use Rattle.std.proofs.lemmas.Bool.{or_cases, false_from_ne_true, both_ways}
 use Rattle.std.proofs.lemmas.List.Folds.{list_any-append}
 use Rattle.fuse_keeper.specs.declared.keeper.Done.{Done}
-use Rattle.fuse_keeper.specs.History.{Entry, History, is_in, Includes, IsUnsettled}
+use Rattle.fuse_keeper.specs.History.{Entry, History, grown, kept_of, is_in, Includes, IsUnsettled}
 use Rattle.fuse_keeper.specs.Model.{Model}
-use Rattle.fuse_keeper.specs.KeeperState.{KeeperState, StandsFor, KeepsHeld, Performs, Performed}
+use Rattle.fuse_keeper.specs.KeeperState.{KeeperState, StandsFor, KeepsHeld, Performs}
 use Rattle.fuse_keeper.specs.Stands.{StillStands}
 use Rattle.fuse_keeper.specs.Group.{left_pending}
 
@@ -47,10 +47,10 @@ stands_kept M holds holds' s h t keeps so = record { rows = so.rows; records = s
 -- ids that are handed on with a group may be settled before it
 pub performs_later : (M : Model) → StillStands M → (holds holds' : KeeperState M) (handed : List ℕ) (es : List Entry) (dones : List Done)
     → Performs holds holds' handed es dones
-    → holds'.is_honest → (s : M.State) (h : History) (t : List ℕ) → StandsFor holds s h t → All (IsUnsettled (t ++ handed)) es
-    → Performed holds' s h (t ++ handed) es dones
+    → holds'.is_honest → (s : M.State) (h : History) (t : List ℕ) → StandsFor holds s h t → All (IsUnsettled (t ++ handed)) (kept_of M.service es)
+    → StandsFor holds' s (grown h (kept_of M.service es)) (t ++ handed)
 performs_later M still holds holds' handed es dones performs honest s h t so un =
-    performs honest s h (t ++ handed) (stands_later M still holds s h t (t ++ handed) (includes_left t handed) so) (includes_right t handed) un
+    (performs honest s h (t ++ handed) (stands_later M still holds s h t (t ++ handed) (includes_left t handed) so) (includes_right t handed) un).stands
 
 -- no more is pending than was
 pub left_short : (pending left : List ℕ) (es : List Entry) → left ≡ left_pending es pending → length left ≤ length pending

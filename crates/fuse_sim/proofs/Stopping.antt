@@ -4,6 +4,7 @@ use Rattle.std.proofs.Common.{None, IsSomeAnd, IfSome, slice_get, refl, sym, ap,
 use Rattle.std.proofs.Math.Seq.{take-append_seam}
 use Rattle.std.proofs.lemmas.List.{take-append-drop, take_all, length-take-le, length-drop, drop-drop}
 use Rattle.std.proofs.lemmas.List.Elements.{All-append, All-pop}
+use Rattle.fuse_request.specs.Opcodes.{Service}
 use Rattle.fuse_keeper.specs.declared.fault.StoreFault.{StoreFault}
 use Rattle.fuse_keeper.specs.History.{History}
 use Rattle.fuse_keeper.specs.Model.{Model}
@@ -14,9 +15,9 @@ use Rattle.fuse_sim.specs.declared.event.Event.{Event}
 use Rattle.fuse_sim.specs.declared.event.DriveFault.{DriveFault}
 use Rattle.fuse_sim.specs.declared.group.Group.{Group}
 use Rattle.fuse_sim.specs.declared.event.DriveFault.TheVariants.{NotAMessage, ZeroUnique, Store, Memory}
-use Rattle.fuse_sim.specs.Driving.{told_in, IsFit, event_of, StandsIn, became_in, CausedBy, is_store, IsStoreFault, LeftBy, dies, deaths, Calm}
+use Rattle.fuse_sim.specs.Driving.{told_in, IsFit, event_of, StandsIn, became_in, CausedBy, is_store, IsStoreFault, LeftBy, dies, dies_before, deaths, Calm}
 use Rattle.fuse_sim.specs.Twice.{Seen}
-use Rattle.fuse_sim.specs.inner.Running.{dies_before, IsGroupRun, BeginsGroup, GathersEvents, StopsAt, RefusesAfterDeath, StopsAtEvent}
+use Rattle.fuse_sim.specs.inner.Running.{IsGroupRun, BeginsGroup, GathersEvents, StopsAt, RefusesAfterDeath, StopsAtEvent}
 use Rattle.fuse_sim.proofs.Openings.{became_itself, deaths_first, deaths-append, medium_itself, medium_some}
 
 -- ---- places
@@ -210,12 +211,12 @@ group_read M events at count group same g =
     subst (λ n. GathersEvents M (take n (drop at events)) group) (sym same)
     (subst (λ x. GathersEvents M (take (length group.classes.items) x) group) (whole_rest events at) g)
 
-pub group_stops : (events : List Event) (at count : ℕ) (group : Group) → count ≡ length group.classes.items
-    → StopsAt group (drop (length group.classes.items) (take (length events - at) (drop at events))) → StopsAt group (drop (at + count) events)
-group_stops events at count group same stops =
-    subst (StopsAt group) (drop-drop count at events)
-    (subst (λ n. StopsAt group (drop n (drop at events))) (sym same)
-    (subst (λ x. StopsAt group (drop (length group.classes.items) x)) (whole_rest events at) stops))
+pub group_stops : (V : Service) (events : List Event) (at count : ℕ) (group : Group) → count ≡ length group.classes.items
+    → StopsAt V group (drop (length group.classes.items) (take (length events - at) (drop at events))) → StopsAt V group (drop (at + count) events)
+group_stops V events at count group same stops =
+    subst (StopsAt V group) (drop-drop count at events)
+    (subst (λ n. StopsAt V group (drop n (drop at events))) (sym same)
+    (subst (λ x. StopsAt V group (drop (length group.classes.items) x)) (whole_rest events at) stops))
 
 begins_some : (events : List Event) → BeginsGroup events → 0 < length events
 begins_some [] begins = absurd begins

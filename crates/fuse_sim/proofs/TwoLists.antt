@@ -21,14 +21,14 @@ use Rattle.fuse_sim.proofs.Endings.{clean_too}
 -- what `drive` says of a fault
 pub record FaultOf {M : Model} {K : Type 0} (k : Seen M K) (old new : Option K) (list : List Event) (fault : DriveFault) : Type 0 where
   pub named : Names fault list
-  pub stands : (s : M.State) (h : History) (t : List ℕ) → StandsIn k.told old s h t → NoneReused M.serves t (before fault list)
-      → LeftBy (told_in k.told new) (is_store fault) (StandsIn k.told new s (committed M.serves h (before fault list)) (settled_by M.serves t (before fault list)))
-  pub records : LeftBy (told_in k.told new) (is_store fault) (DeletesHanded k.told old new (performances M.serves (before fault list)) (before fault list))
+  pub stands : (s : M.State) (h : History) (t : List ℕ) → StandsIn k.told old s h t → NoneReused M.service t (before fault list)
+      → LeftBy (told_in k.told new) (is_store fault) (StandsIn k.told new s (committed M.service h (before fault list)) (settled_by M.service t (before fault list)))
+  pub records : LeftBy (told_in k.told new) (is_store fault) (DeletesHanded k.told old new (performances M.service (before fault list)) (before fault list))
   pub opened : (new ≡ None → ⊥) → Opened k.told k.became old new (before fault list)
   pub stood : (new ≡ None → ⊥) → StoodBefore k.told k.became old new (before fault list)
-  pub asked : (new ≡ None → ⊥) → AskedSome k.performed old new (AsksUpTo M.serves list fault)
+  pub asked : (new ≡ None → ⊥) → AskedSome k.performed old new (AsksUpTo M.service list fault)
   pub store : is_store fault ≡ true → (told_in k.told new).is_clean → (s : M.State) (h : History) (t : List ℕ) → StandsIn k.told old s h t
-      → NoneReused M.serves t (before fault list) → AnsweredBy k.told k.became old new (before fault list) fault
+      → NoneReused M.service t (before fault list) → AnsweredBy k.told k.became old new (before fault list) fault
   pub emptied : new ≡ None → OfRestart k.became k.may_refuse old (before fault list) list fault
   pub firm : is_store fault ≡ false → (told_in k.told new).is_honest → IsFirm (told_in k.told old) → IsFirm (told_in k.told new)
 
@@ -36,16 +36,16 @@ pub record FaultOf {M : Model} {K : Type 0} (k : Seen M K) (old new : Option K) 
 pub record WholeOf {M : Model} {K : Type 0} (k : Seen M K) (old new : Option K) (list : List Event) : Type 0 where
   pub fit : All IsFit list
   pub stands : StandsAfter k.told old new list
-  pub records : DeletesHanded k.told old new (performances M.serves list) list
+  pub records : DeletesHanded k.told old new (performances M.service list) list
   pub opened : Opened k.told k.became old new list
   pub stood : StoodBefore k.told k.became old new list
-  pub asked : performed_in k.performed old new (performances M.serves list)
+  pub asked : performed_in k.performed old new (performances M.service list)
   pub firm : (told_in k.told new).is_honest → IsFirm (told_in k.told old) → IsFirm (told_in k.told new)
 
 -- ---- at the first list
 
 then_none : (M : Model) → {K : Type 0} (performed : K → K → List Performance → Type 0) (old new : Option K) (list : List Event) (fault : DriveFault)
-    → AskedSome performed old new (AsksUpTo M.serves list fault) → AskedSome performed old new (AsksThen M.serves [] list fault)
+    → AskedSome performed old new (AsksUpTo M.service list fault) → AskedSome performed old new (AsksThen M.service [] list fault)
 then_none M performed old new list fault some = (some.0, (some.0, some.1, refl), some.2)
 
 pub stopped_first : (M : Model) → {K : Type 0} (k : Seen M K) (old new : Option K) (events more : List Event) (fault : DriveFault)
@@ -67,10 +67,10 @@ stopped_first M k old new events more fault one = inl (record {
 left_twice : (M : Model) → {K : Type 0} (told : K → KeeperState M) (old mid new : Option K) (xs ys : List Event) (b : Bool)
     → ((told_in told new).is_clean → (told_in told new).is_honest) → ((told_in told new).is_honest → (told_in told mid).is_honest)
     → StandsAfter told old mid xs
-    → ((s : M.State) (h : History) (t : List ℕ) → StandsIn told mid s h t → NoneReused M.serves t ys
-    → LeftBy (told_in told new) b (StandsIn told new s (committed M.serves h ys) (settled_by M.serves t ys)))
-    → (s : M.State) (h : History) (t : List ℕ) → StandsIn told old s h t → NoneReused M.serves t (xs ++ ys)
-    → LeftBy (told_in told new) b (StandsIn told new s (committed M.serves h (xs ++ ys)) (settled_by M.serves t (xs ++ ys)))
+    → ((s : M.State) (h : History) (t : List ℕ) → StandsIn told mid s h t → NoneReused M.service t ys
+    → LeftBy (told_in told new) b (StandsIn told new s (committed M.service h ys) (settled_by M.service t ys)))
+    → (s : M.State) (h : History) (t : List ℕ) → StandsIn told old s h t → NoneReused M.service t (xs ++ ys)
+    → LeftBy (told_in told new) b (StandsIn told new s (committed M.service h (xs ++ ys)) (settled_by M.service t (xs ++ ys)))
 left_twice M told old mid new xs ys true too was one two s h t so none = λ clean.
     stands_twice M told old mid new xs ys (one (was (too clean))) (λ s h t so none. two s h t so none clean) s h t so none
 left_twice M told old mid new xs ys false too was one two s h t so none = λ honest.
@@ -78,18 +78,18 @@ left_twice M told old mid new xs ys false too was one two s h t so none = λ hon
 
 records_twice : (M : Model) → {K : Type 0} (told : K → KeeperState M) (old mid new : Option K) (xs ys : List Event) (b : Bool)
     → ((told_in told new).is_honest → (told_in told mid).is_honest)
-    → DeletesHanded told old mid (performances M.serves xs) xs → LeftBy (told_in told new) b (DeletesHanded told mid new (performances M.serves ys) ys)
-    → LeftBy (told_in told new) b (DeletesHanded told old new (performances M.serves xs ++ performances M.serves ys) (xs ++ ys))
+    → DeletesHanded told old mid (performances M.service xs) xs → LeftBy (told_in told new) b (DeletesHanded told mid new (performances M.service ys) ys)
+    → LeftBy (told_in told new) b (DeletesHanded told old new (performances M.service xs ++ performances M.service ys) (xs ++ ys))
 records_twice M told old mid new xs ys true was one two = λ clean. records_in_a_row M told old mid new xs ys was one (two clean)
 records_twice M told old mid new xs ys false was one two = λ honest. records_in_a_row M told old mid new xs ys was one (two honest)
 
 asked_twice : (M : Model) → {K : Type 0} (performed : K → K → List Performance → Type 0) → IsPerformanceLog performed → (old mid new : Option K)
-    (first list : List Event) (fault : DriveFault) → performed_in performed old mid (performances M.serves first)
-    → AskedSome performed mid new (AsksUpTo M.serves list fault) → AskedSome performed old new (AsksThen M.serves first list fault)
+    (first list : List Event) (fault : DriveFault) → performed_in performed old mid (performances M.service first)
+    → AskedSome performed mid new (AsksUpTo M.service list fault) → AskedSome performed old new (AsksThen M.service first list fault)
 asked_twice M performed law old mid new first list fault asked some = (
-  performances M.serves first ++ some.0,
+  performances M.service first ++ some.0,
   (some.0, some.1, refl),
-  performed_then performed law old mid new (performances M.serves first) some.0 (performances M.serves first ++ some.0) asked some.2 refl,
+  performed_then performed law old mid new (performances M.service first) some.0 (performances M.service first ++ some.0) asked some.2 refl,
 )
 
 answered_twice : (M : Model) → {K : Type 0} (told : K → KeeperState M) (became : K → K → ℕ → Type 0) → IsCount became → (old mid new : Option K)
@@ -130,9 +130,9 @@ stopped_second M k law log old mid new events more fault too was one two =
             (two.stood there);
         asked = λ there. asked_twice M k.performed log old mid new events more fault one.asked (two.asked there);
         store = λ kind clean s h t so none.
-            let parts = reused-parts M.serves t events ys none in
+            let parts = reused-parts M.service t events ys none in
             answered_twice M k.told k.became law old mid new events ys fault one.opened.often
-            (two.store kind clean s (committed M.serves h events) (settled_by M.serves t events)
+            (two.store kind clean s (committed M.service h events) (settled_by M.service t events)
             (one.stands (was (honest clean)) s h t so parts.0) parts.1);
         emptied = λ none. emptied_twice k.became law k.may_refuse old mid events ys more fault one.opened.often (two.emptied none);
         firm = λ kind is so. two.firm kind is (one.firm (was is) so);

@@ -1,23 +1,23 @@
 -- The effect of events on a keeper, and the answers to them (defined by this project).
-use Rattle.std.specs.Prelude.{◌≡◌, ◌≤◌, ℕ, suc, Bool, true, false, if◌then◌else◌, List, [], ◌∷◌, ◌++◌, length, map, take, Option, Some, None, IsSomeAnd, IfSome}
+use Rattle.std.specs.Prelude.{◌≡◌, ◌≤◌, ℕ, suc, Bool, true, false, if◌then◌else◌, List, [], ◌∷◌, ◌++◌, length, take, Option, Some, None, IsSomeAnd, IfSome}
 use Rattle.std.specs.Prelude.{slice_get, All}
 use Rattle.std.specs.List.{flat_map}
 use Rattle.std.specs.Option.{option_map}
-use Rattle.fuse_wire.specs.Ids.{id_of}
+use Rattle.fuse_answer.specs.Said.{Said}
 use Rattle.fuse_answer.specs.Wire.{wire}
 use Rattle.fuse_request.specs.declared.class.Class.{Class}
-use Rattle.fuse_request.specs.declared.class.Class.TheVariants.{Silent, Bare, Kept}
+use Rattle.fuse_request.specs.declared.class.Class.TheVariants.{Silent, Bare, Kept, Seen}
 use Rattle.fuse_request.specs.Classes.{class_for, is_zero}
-use Rattle.fuse_request.specs.Opcodes.{OpcodeSet}
+use Rattle.fuse_request.specs.Opcodes.{Service}
 use Rattle.fuse_request.specs.Stream.{cut}
 use Rattle.fuse_keeper.specs.declared.fault.StoreFault.{StoreFault}
-use Rattle.fuse_keeper.specs.History.{Entry, History, grown, said}
+use Rattle.fuse_keeper.specs.History.{Entry, History, answer_to, after, grown, said}
 use Rattle.fuse_keeper.specs.Model.{Model}
 use Rattle.fuse_keeper.specs.Lots.{no_lots}
 use Rattle.fuse_keeper.specs.KeeperState.{KeeperState, StandsFor, KeepsHeld}
 use Rattle.fuse_keeper.specs.Bounds.{max_group_len}
 use Rattle.fuse_keeper.specs.Performance.{Performance}
-use Rattle.fuse_session.specs.Processed.{unique_of, message_id, message_entry, entry_if}
+use Rattle.fuse_session.specs.Processed.{unique_of, message_id, message_entry, entry_if, performed_if}
 use Rattle.fuse_session.specs.Settling.{settles_if, MayCome}
 use Rattle.fuse_sim.specs.declared.event.Fate.{Fate}
 use Rattle.fuse_sim.specs.declared.event.Fate.TheVariants.{Answered, AnswerLost, DiedBeforeCommit, DiedAfterCommit}
@@ -26,7 +26,7 @@ use Rattle.fuse_sim.specs.declared.event.Outcome.{Outcome}
 use Rattle.fuse_sim.specs.declared.event.DriveFault.{DriveFault}
 use Rattle.fuse_sim.specs.declared.event.DriveFault.TheVariants.{NotAMessage, ZeroUnique, Store, Memory}
 
--- `V` is the set of opcodes that the file system serves beside those of the profile
+-- `V` says which further opcodes the file system serves, and which requests it sees
 
 -- ---- what is committed
 
@@ -37,14 +37,21 @@ commits_by AnswerLost es = es
 commits_by DiedBeforeCommit es = []
 commits_by DiedAfterCommit es = es
 
-abbrev pub commits : OpcodeSet → Event → List Entry
+abbrev pub commits : Service → Event → List Entry
 commits V e = commits_by e.fate (entry_if (class_for V e.bytes) (message_entry e.bytes e.moment))
 
-abbrev pub commits_in : OpcodeSet → List Event → List Entry
+abbrev pub commits_in : Service → List Event → List Entry
 commits_in V events = flat_map (commits V) events
 
--- the history with each of them added, unless its id is there
-abbrev pub committed : OpcodeSet → History → List Event → History
+-- the kept or seen message of an event is performed, unless the server dies before that
+abbrev pub performs : Service → Event → List Entry
+performs V e = commits_by e.fate (performed_if (class_for V e.bytes) (message_entry e.bytes e.moment))
+
+abbrev pub performs_in : Service → List Event → List Entry
+performs_in V events = flat_map (performs V) events
+
+-- the history with each kept one added, unless its id is there
+abbrev pub committed : Service → History → List Event → History
 committed V h events = grown h (commits_in V events)
 
 -- the server dies at the event, and starts again
@@ -53,6 +60,13 @@ dies Answered = false
 dies AnswerLost = false
 dies DiedBeforeCommit = true
 dies DiedAfterCommit = true
+
+-- it dies before it commits
+abbrev pub dies_before : Fate → Bool
+dies_before Answered = false
+dies_before AnswerLost = false
+dies_before DiedBeforeCommit = true
+dies_before DiedAfterCommit = false
 
 abbrev pub Calm : Event → Type 0
 Calm e = dies e.fate ≡ false
@@ -64,11 +78,12 @@ deaths (e ∷ es) = if dies e.fate then suc (deaths es) else deaths es
 
 -- ---- what is answered
 
--- the answer to a message of this class and unique: none, the header with an error, or what was said of the id
-abbrev pub answer_in : (M : Model) → M.State → History → Class → ℕ → Option (List ℕ)
-answer_in M s h Silent unique = None
-answer_in M s h (Bare errno) unique = Some (wire errno.0 [] unique)
-answer_in M s h Kept unique = option_map (λ a. wire a.errno a.body unique) (said M s h (id_of unique))
+-- the answer of this class and unique: none, the header with an error, what was said of the id, or what the state answers
+abbrev pub answer_in : Class → Option Said → Said → ℕ → Option (List ℕ)
+answer_in Silent o a unique = None
+answer_in (Bare errno) o a unique = Some (wire errno.0 [] unique)
+answer_in Kept o a unique = option_map (λ known. wire known.errno known.body unique) o
+answer_in Seen o a unique = Some (wire a.errno a.body unique)
 
 -- whether the kernel takes the answer
 abbrev pub is_taken : Fate → Bool
@@ -81,13 +96,23 @@ abbrev pub where_taken : Bool → Option (List ℕ) → Option (List ℕ)
 where_taken true answer = answer
 where_taken false answer = None
 
-abbrev pub outcome_of : (M : Model) → M.State → History → Event → Option (List ℕ)
-outcome_of M s h e = where_taken (is_taken e.fate) (answer_in M s h (class_for M.serves e.bytes) (unique_of e.bytes))
+-- of an event that comes after the history h, where g is the history in the end
+abbrev pub outcome_of : (M : Model) → M.State → History → History → Event → Option (List ℕ)
+outcome_of M s g h e = where_taken (is_taken e.fate) (answer_in (class_for M.service e.bytes) (said M s g (message_id e.bytes))
+    (answer_to M (after M s h) (message_entry e.bytes e.moment)) (unique_of e.bytes))
 
--- the outcomes begin with those of these events, each the one that the history says which they lead to
+abbrev pub outcomes_after : (M : Model) → M.State → History → History → List Event → List (Option (List ℕ))
+outcomes_after M s g h [] = []
+outcomes_after M s g h (e ∷ es) = outcome_of M s g h e ∷ outcomes_after M s g (grown h (commits M.service e)) es
+
+-- where just these are committed
+abbrev pub outcomes_of : (M : Model) → M.State → History → List Event → List (Option (List ℕ))
+outcomes_of M s h events = outcomes_after M s (committed M.service h events) h events
+
+-- the outcomes begin with those of these events
 abbrev pub OutcomesBegin : (M : Model) → M.State → History → List Event → List (Option (List ℕ)) → Type 0
 OutcomesBegin M s h events outcomes =
-    (others : List (Option (List ℕ))) × (outcomes ≡ map (outcome_of M s (committed M.serves h events)) events ++ others)
+    (others : List (Option (List ℕ))) × (outcomes ≡ outcomes_of M s h events ++ others)
 
 -- the bytes of an outcome: the head, then the body
 abbrev pub bytes_given : Option Outcome → Option (List ℕ)
@@ -96,16 +121,19 @@ bytes_given o = option_map (λ x. x.head ++ x.body) o
 -- ---- what is settled
 
 -- the id of a kept message whose answer is taken
-abbrev pub settles : OpcodeSet → Event → List ℕ
+abbrev pub settles : Service → Event → List ℕ
 settles V e = settles_if (is_taken e.fate) (class_for V e.bytes) (message_id e.bytes)
 
+abbrev pub settles_in : Service → List Event → List ℕ
+settles_in V events = flat_map (settles V) events
+
 -- the ids that were settled before, and those that events settle
-abbrev pub settled_by : OpcodeSet → List ℕ → List Event → List ℕ
+abbrev pub settled_by : Service → List ℕ → List Event → List ℕ
 settled_by V t [] = t
 settled_by V t (e ∷ es) = settled_by V (t ++ settles V e) es
 
 -- no kept message has an id that was settled before, or by an earlier event
-abbrev pub NoneReused : OpcodeSet → List ℕ → List Event → Type 0
+abbrev pub NoneReused : Service → List ℕ → List Event → Type 0
 NoneReused V t [] = Unit {0}
 NoneReused V t (e ∷ es) = MayCome V t e.bytes × NoneReused V (t ++ settles V e) es
 
@@ -162,8 +190,8 @@ pub record OpenedAt {M : Model} {K : Type 0} (told : K → KeeperState M) (becam
   pub once : became_in became left opened 1
   pub after : became_in became opened new (deaths at.later)
   pub kept : (told_in told new).is_honest → KeepsHeld (told_in told left) (told_in told opened)
-  pub stood : (told_in told new).is_honest → (s : M.State) (h : History) (t : List ℕ) → StandsIn told old s h t → NoneReused M.serves t (up_to at)
-      → StandsIn told left s (committed M.serves h (up_to at)) (settled_by M.serves t (up_to at))
+  pub stood : (told_in told new).is_honest → (s : M.State) (h : History) (t : List ℕ) → StandsIn told old s h t → NoneReused M.service t (up_to at)
+      → StandsIn told left s (committed M.service h (up_to at)) (settled_by M.service t (up_to at))
 
 -- the keeper was opened again once for each event at which the server died, after what that event committed
 pub record Opened {M : Model} {K : Type 0} (told : K → KeeperState M) (became : K → K → ℕ → Type 0) (old new : Option K) (events : List Event) : Type 0 where
@@ -179,12 +207,12 @@ pub record StoodAt {M : Model} {K : Type 0} (told : K → KeeperState M) (became
   pub begun : List Event
   pub rest : List Event
   pub parts : earlier ≡ begun ++ rest
-  pub few : length (commits_in M.serves rest) ≤ max_group_len
+  pub few : length (commits_in M.service rest) ≤ max_group_len
   pub keeper : Option K
   pub before : became_in became old keeper (deaths begun)
   pub after : became_in became keeper new (deaths (rest ++ later))
-  pub stood : (s : M.State) (h : History) (t : List ℕ) → StandsIn told old s h t → NoneReused M.serves t begun
-      → StandsIn told keeper s (committed M.serves h begun) (settled_by M.serves t begun)
+  pub stood : (s : M.State) (h : History) (t : List ℕ) → StandsIn told old s h t → NoneReused M.service t begun
+      → StandsIn told keeper s (committed M.service h begun) (settled_by M.service t begun)
 
 -- so it was of the first events of these, however many, where the store gave back the bytes that were written
 abbrev pub StoodBefore : {M : Model} {K : Type 0} → (K → KeeperState M) → (K → K → ℕ → Type 0) → Option K → Option K → List Event → Type 0

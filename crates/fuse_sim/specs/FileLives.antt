@@ -1,7 +1,7 @@
 -- Runs of a server over files, one after another within a mount, each over what a crash left of the files of the one
 -- before (defined by this project).
 use Rattle.std.specs.Prelude.{◌≡◌, true, List, [], ◌∷◌, ◌++◌, ℕ}
-use Rattle.fuse_request.specs.Opcodes.{OpcodeSet}
+use Rattle.fuse_request.specs.Opcodes.{Service}
 use Rattle.fuse_request.specs.Stream.{cut, joined}
 use Rattle.fuse_keeper.specs.History.{History, Distinct, grown}
 use Rattle.fuse_keeper.specs.Model.{Model}
@@ -11,7 +11,7 @@ use Rattle.fuse_session.specs.Deeds.{Deeds}
 use Rattle.fuse_session.specs.declared.ended.Ended.{Ended}
 use Rattle.fuse_session.specs.Exchange.{Exchange}
 use Rattle.fuse_session.specs.Passage.{Passage}
-use Rattle.fuse_session.specs.Processed.{Timed, bytes_of, kept_in, answers_to}
+use Rattle.fuse_session.specs.Processed.{Timed, bytes_of, kept_in, own_answers}
 use Rattle.fuse_session.specs.Serving.{nothing_waits, Run, exchange}
 use Rattle.fuse_session.specs.Settling.{replies, settled_in, NoneComesAgain, SentUpTo}
 use Rattle.fuse_session.specs.Slices.{RestsOfSome}
@@ -48,11 +48,11 @@ no_run image = record {
 }
 
 -- the ids that its answers settled
-abbrev pub run_settled : {Image : Type 0} → OpcodeSet → FileRun Image → List ℕ
+abbrev pub run_settled : {Image : Type 0} → Service → FileRun Image → List ℕ
 run_settled V r = settled_in V r.exchange.confirms (bytes_of r.exchange.timed) r.exchange.marks
 
 -- no kept message comes again whose answer was settled before or by the run
-abbrev pub RunHasNew : {Image : Type 0} → OpcodeSet → List ℕ → FileRun Image → Type 0
+abbrev pub RunHasNew : {Image : Type 0} → Service → List ℕ → FileRun Image → Type 0
 RunHasNew V t r = NoneComesAgain V r.exchange.confirms t (bytes_of r.exchange.timed) r.exchange.marks
 
 -- it was this life: these bytes came to its port, the first messages of these were taken up and the first of those processed, with the
@@ -64,11 +64,11 @@ pub record LivedAs {Image : Type 0} (M : Model) (s : M.State) (h : History) (r :
   pub taken_up : (cut life.received).0 ≡ bytes_of r.exchange.timed ++ others
   pub unprocessed : List Timed
   pub parts : r.exchange.timed ≡ life.worked ++ unprocessed
-  pub moments : TimedFirst M.serves r.deeds.moments life.worked
+  pub moments : TimedFirst M.service r.deeds.moments life.worked
   pub sent : life.sent ≡ joined (replies r.exchange.marks) ++ r.part
-  pub up_to : SentUpTo (answers_to M s (grown h (kept_in M.serves life.worked)) life.worked) r.exchange.marks r.answer
+  pub up_to : SentUpTo (own_answers M s h life.worked) r.exchange.marks r.answer
   pub slices : RestsOfSome r.exchange.marks r.answer r.part (handed_in r.deeds.events)
-  pub settled : life.settled ≡ settled_in M.serves r.exchange.confirms (bytes_of life.worked) r.exchange.marks
+  pub settled : life.settled ≡ settled_in M.service r.exchange.confirms (bytes_of life.worked) r.exchange.marks
 
 -- ---- one run: `Stand` are the histories that files stand for
 
@@ -78,13 +78,13 @@ pub record RanFrom {M : Model} {Image : Type 0} (Stand : Image → Standing M �
   pub lived : LivedAs M at.state at.history r life
   pub left : Stand r.left (record {
     state = at.state;
-    history = grown at.history (kept_in M.serves life.worked);
-    settled = at.settled ++ run_settled M.serves r;
+    history = grown at.history (kept_in M.service life.worked);
+    settled = at.settled ++ run_settled M.service r;
   })
 
 -- so it is where no settled message comes again
 abbrev pub IsRunFrom : {M : Model} {Image : Type 0} → (Image → Standing M → Type 0) → Standing M → FileRun Image → Type 0
-IsRunFrom {M} Stand at r = RunHasNew M.serves at.settled r → RanFrom Stand at r
+IsRunFrom {M} Stand at r = RunHasNew M.service at.settled r → RanFrom Stand at r
 
 -- so it is from whatever history these files stood for
 abbrev pub IsRunOver : {M : Model} {Image : Type 0} → (Image → Standing M → Type 0) → M.State → Image → FileRun Image → Type 0
@@ -103,12 +103,12 @@ abbrev pub IsMount : {M : Model} {Image : Type 0} → (Image → Standing M → 
 IsMount Stand s r runs = IsRunFrom Stand (record { state = s; history = []; settled = [] }) r × AreRuns Stand s r.left runs
 
 -- no kept message comes again whose answer was settled before, by whichever run
-abbrev pub AllHaveNew : {Image : Type 0} → OpcodeSet → List ℕ → List (FileRun Image) → Type 0
+abbrev pub AllHaveNew : {Image : Type 0} → Service → List ℕ → List (FileRun Image) → Type 0
 AllHaveNew V t [] = Unit {0}
 AllHaveNew V t (r ∷ runs) = RunHasNew V t r × AllHaveNew V (t ++ run_settled V r) runs
 
 -- the ids that are settled in the end
-abbrev pub all_settled : {Image : Type 0} → OpcodeSet → List ℕ → List (FileRun Image) → List ℕ
+abbrev pub all_settled : {Image : Type 0} → Service → List ℕ → List (FileRun Image) → List ℕ
 all_settled V t [] = t
 all_settled V t (r ∷ runs) = all_settled V (t ++ run_settled V r) runs
 
@@ -122,19 +122,20 @@ abbrev pub LivedInTurn : {Image : Type 0} → (M : Model) → M.State → Histor
 LivedInTurn M s h [] [] = Unit {0}
 LivedInTurn M s h [] (life ∷ lives) = ⊥
 LivedInTurn M s h (r ∷ runs) [] = ⊥
-LivedInTurn M s h (r ∷ runs) (life ∷ lives) = LivedAs M s h r life × LivedInTurn M s (grown h (kept_in M.serves life.worked)) runs lives
+LivedInTurn M s h (r ∷ runs) (life ∷ lives) = LivedAs M s h r life × LivedInTurn M s (grown h (kept_in M.service life.worked)) runs lives
 
--- the runs were lives of one mount: the last history is that of all messages that they processed, in a row, in which no request stands
--- twice; the bytes that each run sent are a prefix of those to be sent by that history; and the files stand for it in the end
+-- the runs were lives of one mount: the last history is that of all kept messages that they processed, in a row, in which no request
+-- stands twice; each run sent a prefix of its answers, to a kept message by that history, to a seen one by the history before it; and the
+-- files stand for the last history in the end
 pub record FilesLived {M : Model} {Image : Type 0} (Stand : Image → Standing M → Type 0) (s : M.State) (r : FileRun Image) (runs : List (FileRun Image))
     : Type 0 where
   pub lives : List Lifetime
   pub lived : LivedInTurn M s [] (r ∷ runs) lives
-  pub in_a_row : after_lives M.serves [] lives ≡ grown [] (kept_in M.serves (all_processed lives))
-  pub once : Distinct (after_lives M.serves [] lives)
-  pub send : AllSend M s (after_lives M.serves [] lives) lives
+  pub in_a_row : after_lives M.service [] lives ≡ grown [] (kept_in M.service (all_processed lives))
+  pub once : Distinct (after_lives M.service [] lives)
+  pub send : AllSend M s (after_lives M.service [] lives) [] lives
   pub left : Stand (files_left_by r.left runs) (record {
     state = s;
-    history = after_lives M.serves [] lives;
-    settled = all_settled M.serves [] (r ∷ runs);
+    history = after_lives M.service [] lives;
+    settled = all_settled M.service [] (r ∷ runs);
   })

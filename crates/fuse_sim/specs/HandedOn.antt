@@ -1,62 +1,63 @@
 -- What a keeper is asked to perform as events are run: the groups, and the ids that are handed on with each, so that their
 -- records are deleted (defined by this project).
-use Rattle.std.specs.Prelude.{◌≡◌, ◌-◌, ℕ, zero, suc, Bool, true, false, if◌then◌else◌, List, [], ◌∷◌, ◌++◌, length, Option}
-use Rattle.fuse_request.specs.Opcodes.{OpcodeSet}
+use Rattle.std.specs.Prelude.{◌≡◌, ◌+◌, ◌||◌, nat_lt, ℕ, Bool, false, if◌then◌else◌, List, [], ◌∷◌, ◌++◌, length, Option}
+use Rattle.fuse_request.specs.Opcodes.{Service}
 use Rattle.fuse_keeper.specs.Bounds.{max_group_len}
-use Rattle.fuse_keeper.specs.History.{Entry}
-use Rattle.fuse_keeper.specs.Performance.{Performance}
+use Rattle.fuse_keeper.specs.Group.{handed_to, left_pending}
+use Rattle.fuse_keeper.specs.Performance.{Performance, performances_of}
 use Rattle.fuse_sim.specs.declared.event.Event.{Event}
 use Rattle.fuse_sim.specs.declared.event.DriveFault.{DriveFault}
-use Rattle.fuse_sim.specs.Driving.{commits, settles, dies, before, is_store, performed_in}
+use Rattle.fuse_sim.specs.Driving.{commits_in, performs, performs_in, settles_in, dies, dies_before, before, is_store, performed_in}
 
--- how many kept messages the group still takes, and which ids are to be handed on with the next one
-pub record Ledger : Type 0 where
-  pub room : ℕ
-  pub pending : List ℕ
+-- ---- the groups of events
 
--- at first, and after a crash, which forgets the pending ids
-abbrev pub empty_ledger : Ledger
-empty_ledger = record { room = 0; pending = [] }
+-- a group of these events, unless there is none
+abbrev pub one_run : List Event → List (List Event)
+one_run [] = []
+one_run (e ∷ es) = (e ∷ es) ∷ []
 
--- a kept message joins a group that has room; else it begins the next one, to which all pending ids are handed on
-abbrev pub after_one : ℕ → List ℕ → List ℕ → Ledger
-after_one zero pending settled = record { room = max_group_len - 1; pending = settled }
-after_one (suc room) pending settled = record { room = room; pending = pending ++ settled }
+-- an event doesn't join the group that was begun with these: the server dies before it commits, or 16 of their messages are performed,
+-- and the event's would be another one
+abbrev pub begins_next : Service → List Event → Event → Bool
+begins_next V begun e = dies_before e.fate || nat_lt max_group_len (length (performs_in V begun) + length (performs V e))
 
--- by what an event commits
-abbrev pub after_commit : List Entry → Ledger → List ℕ → Ledger
-after_commit [] l settled = l
-after_commit (x ∷ xs) l settled = after_one l.room l.pending settled
+-- the group that ends before the event, if one does, and that of the event, up to it
+abbrev pub ended_before : Service → List Event → Event → List (List Event)
+ended_before V begun e = if begins_next V begun e then one_run begun else []
 
-abbrev pub crashed_if : Bool → Ledger → Ledger
-crashed_if true l = empty_ledger
-crashed_if false l = l
+abbrev pub group_with : Service → List Event → Event → List Event
+group_with V begun e = if begins_next V begun e then e ∷ [] else begun ++ e ∷ []
 
-abbrev pub after_event : OpcodeSet → Ledger → Event → Ledger
-after_event V l e = crashed_if (dies e.fate) (after_commit (commits V e) l (settles V e))
+-- the groups of events, where the first one was begun with these: one ends after an event at which the server dies, too
+abbrev pub groups_from : Service → List Event → List Event → List (List Event)
+groups_from V begun [] = one_run begun
+groups_from V begun (e ∷ es) = ended_before V begun e
+    ++ (if dies e.fate then group_with V begun e ∷ groups_from V [] es else groups_from V (group_with V begun e) es)
 
--- one more entry joins the last group
-abbrev pub joined_by : Entry → List Performance → List Performance
-joined_by x [] = []
-joined_by x (p ∷ []) = record { group = p.group ++ x ∷ []; settled = p.settled } ∷ []
-joined_by x (p ∷ q ∷ ps) = p ∷ joined_by x (q ∷ ps)
+abbrev pub groups_of_events : Service → List Event → List (List Event)
+groups_of_events V events = groups_from V [] events
 
--- the performances with one more entry, or with those that an event commits
-abbrev pub with_one : ℕ → List ℕ → Entry → List Performance → List Performance
-with_one zero pending x ps = ps ++ record { group = x ∷ []; settled = pending } ∷ []
-with_one (suc room) pending x ps = joined_by x ps
+-- ---- the ids that are handed on
 
-abbrev pub with_commit : List Entry → Ledger → List Performance → List Performance
-with_commit [] l ps = ps
-with_commit (x ∷ xs) l ps = with_one l.room l.pending x ps
+-- the server dies at one of them
+abbrev pub dies_in : List Event → Bool
+dies_in [] = false
+dies_in (e ∷ es) = dies e.fate || dies_in es
 
-abbrev pub performed_after : OpcodeSet → Ledger → List Performance → List Event → List Performance
-performed_after V l ps [] = ps
-performed_after V l ps (e ∷ es) = performed_after V (after_event V l e) (with_commit (commits V e) l ps) es
+-- the ids that are pending after a group: those that its answers settled, and those that weren't handed on with it; a crash forgets
+-- all of them
+abbrev pub pending_then : Service → List ℕ → List Event → List ℕ
+pending_then V pending group = if dies_in group then [] else left_pending (commits_in V group) pending ++ settles_in V group
+
+-- what groups ask for: the kept and seen messages of each and, where one is kept, all ids that are pending then
+abbrev pub asked_by_groups : Service → List ℕ → List (List Event) → List Performance
+asked_by_groups V pending [] = []
+asked_by_groups V pending (group ∷ groups) =
+    performances_of (performs_in V group) (handed_to (commits_in V group) pending) ++ asked_by_groups V (pending_then V pending group) groups
 
 -- what events from a start ask for
-abbrev pub performances : OpcodeSet → List Event → List Performance
-performances V events = performed_after V empty_ledger [] events
+abbrev pub performances : Service → List Event → List Performance
+performances V events = asked_by_groups V [] (groups_of_events V events)
 
 -- all ids that are handed on with them
 abbrev pub handed_on_in : List Performance → List ℕ
@@ -65,7 +66,7 @@ handed_on_in (p ∷ ps) = p.settled ++ handed_on_in ps
 
 -- what was asked for up to a fault: what the events before it ask for and, where the store answered it, one group more, with
 -- which the next events begin
-pub record AsksUpTo (V : OpcodeSet) (events : List Event) (fault : DriveFault) (asked : List Performance) : Type 0 where
+pub record AsksUpTo (V : Service) (events : List Event) (fault : DriveFault) (asked : List Performance) : Type 0 where
   pub run : List Event
   pub rest : List Event
   pub parts : events ≡ before fault events ++ (run ++ rest)
@@ -75,7 +76,7 @@ pub record AsksUpTo (V : OpcodeSet) (events : List Event) (fault : DriveFault) (
   pub count : length last ≡ (if is_store fault then 1 else 0)
 
 -- the same after all of these
-abbrev pub AsksThen : OpcodeSet → List Event → List Event → DriveFault → List Performance → Type 0
+abbrev pub AsksThen : Service → List Event → List Event → DriveFault → List Performance → Type 0
 AsksThen V first events fault asked = (later : List Performance) × AsksUpTo V events fault later × (asked ≡ performances V first ++ later)
 
 -- a keeper was asked to perform such ones, and nothing else

@@ -27,16 +27,16 @@ seen_of told became performed refuses = record { told = told; became = became; p
 -- it is as after a fault of `drive`
 pub record StoppedInSecond {M : Model} {K : Type 0} (k : Seen M K) (old new : Option K) (first list : List Event) (fault : DriveFault) : Type 0 where
   pub named : Names fault list
-  pub stands : (s : M.State) (h : History) (t : List ℕ) → StandsIn k.told old s h t → NoneReused M.serves t (first ++ before fault list)
+  pub stands : (s : M.State) (h : History) (t : List ℕ) → StandsIn k.told old s h t → NoneReused M.service t (first ++ before fault list)
       → LeftBy (told_in k.told new) (is_store fault)
-      (StandsIn k.told new s (committed M.serves h (first ++ before fault list)) (settled_by M.serves t (first ++ before fault list)))
+      (StandsIn k.told new s (committed M.service h (first ++ before fault list)) (settled_by M.service t (first ++ before fault list)))
   pub records : LeftBy (told_in k.told new) (is_store fault)
-      (DeletesHanded k.told old new (performances M.serves first ++ performances M.serves (before fault list)) (first ++ before fault list))
+      (DeletesHanded k.told old new (performances M.service first ++ performances M.service (before fault list)) (first ++ before fault list))
   pub opened : ¬ (new ≡ None) → Opened k.told k.became old new (first ++ before fault list)
   pub stood : ¬ (new ≡ None) → StoodBefore k.told k.became old new (first ++ before fault list)
-  pub asked : ¬ (new ≡ None) → AskedSome k.performed old new (AsksThen M.serves first list fault)
+  pub asked : ¬ (new ≡ None) → AskedSome k.performed old new (AsksThen M.service first list fault)
   pub store : is_store fault ≡ true → (told_in k.told new).is_clean → (s : M.State) (h : History) (t : List ℕ) → StandsIn k.told old s h t
-      → NoneReused M.serves t (first ++ before fault list) → AnsweredBy k.told k.became old new (first ++ before fault list) fault
+      → NoneReused M.service t (first ++ before fault list) → AnsweredBy k.told k.became old new (first ++ before fault list) fault
   pub emptied : new ≡ None → OfRestart k.became k.may_refuse old (first ++ before fault list) list fault
   pub firm : is_store fault ≡ false → (told_in k.told new).is_honest → IsFirm (told_in k.told old) → IsFirm (told_in k.told new)
 

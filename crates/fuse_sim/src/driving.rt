@@ -16,15 +16,16 @@ ghost use Rattle.fuse_sim.specs.AfterEvents.{StandsAfter, AnswersAre, FirstAnswe
 ghost use Rattle.fuse_sim.specs.AfterEvents.{DeletesHanded, KeepsUnhanded};
 ghost use Rattle.fuse_sim.specs.HandedOn.{performances, AsksUpTo, AskedSome};
 ghost use Rattle.fuse_sim.specs.Twice.{seen_of, StoppedAt};
+ghost use Rattle.fuse_sim.specs.inner.HandedBy.{IsOneGroup};
 ghost use Rattle.fuse_sim.specs.inner.Running.{stage, GathersEvents, BeginsGroup, Worked, Moved};
-ghost use Rattle.fuse_sim.specs.inner.Running.{MayBegin, Opens, StopsAtEvent};
-ghost use Rattle.fuse_sim.specs.inner.Running.{AsksGroup, AsksFrom, StopsAsking};
+ghost use Rattle.fuse_sim.specs.inner.Running.{Opens, StopsAtEvent, AsksGroup, StopsAsking};
 
 use crate::event::{DriveFault, Event, Outcome};
 use crate::group::{Group, answer_group, gather, is_before_commit, test_event};
 use fuse_keeper::{
     Restart, StoreFault, histories_grow, kept_groups_grow, perform_group, still_stands,
 };
+use fuse_request::seen_by_class;
 use fuse_wire::Id;
 use std::alloc::{AllocError, Global};
 
@@ -128,12 +129,14 @@ fn work_group<K: Restart>(
     ensures called { Called (told_in K.told keeper.old) (told_in K.told keeper.new) result }
     ensures same { became_in K.became keeper.old keeper.new 0 }
     ensures failed { IsSomeAnd keeper.new (λ k. (K.told k).has_failed ≡ is_err result) }
-    ensures asked { AsksGroup K.model.serves K.performed keeper.old keeper.new
+    ensures asked { AsksGroup K.model.service K.performed keeper.old keeper.new
         (ids_of pending.old.items) run.now }
     ensures some { OnErr result (0 < length group.now.taken.items) }
 {
     kept_groups_grow::<K>();
+    histories_grow::<K>();
     still_stands::<K>();
+    seen_by_class();
     let inner = keeper.as_mut().unwrap();
     let dones = perform_group(alloc, inner, group.taken.as_slice(), pending)?;
     answer_group::<K>(
@@ -164,7 +167,7 @@ fn run_group<K: Restart>(
     ensures ok { IfOk result (λ n. Moved
         (stage (told_in K.told keeper.old) (ids_of pending.old.items) outcomes.old.items)
         (stage (told_in K.told keeper.new) (ids_of pending.new.items) outcomes.new.items)
-        0 (take n (drop at events.now)) (drop (at + n) events.now)) }
+        (take n (drop at events.now)) (drop (at + n) events.now)) }
     ensures opens { IfOk result (λ n. Opens K.told K.became keeper.old keeper.new
         (ids_of pending.old.items) (take n (drop at events.now))) }
     ensures few { OnOk result (length pending.new.items ≤ max_settled) }
@@ -172,14 +175,14 @@ fn run_group<K: Restart>(
     ensures honest { (told_in K.told keeper.new).is_honest → (told_in K.told keeper.old).is_honest }
     ensures err { IfErr result (StopsAtEvent (seen_of K.told K.became K.performed K.refuses)
         keeper.old keeper.new events.now at) }
-    ensures asks { IfOk result (λ n. AsksFrom K.model.serves (ids_of pending.old.items)
-        (take n (drop at events.now)) (drop at events.now)) }
-    ensures asked { IfOk result (λ n. AsksGroup K.model.serves K.performed keeper.old keeper.new
+    ensures one { IfOk result (λ n. IsOneGroup K.model.service (take n (drop at events.now))) }
+    ensures asked { IfOk result (λ n. AsksGroup K.model.service K.performed keeper.old keeper.new
         (ids_of pending.old.items) (take n (drop at events.now))) }
     ensures err_asked { IfErr result (StopsAsking (seen_of K.told K.became K.performed K.refuses)
         keeper.old keeper.new (ids_of pending.old.items) (drop at events.now)) }
 {
     still_stands::<K>();
+    seen_by_class();
     let Ok(group) = gather::<K>(alloc, &events[at..]) else {
         return Err(DriveFault::Memory { event: at });
     };
@@ -209,10 +212,10 @@ fn run_next<K: Restart>(
     requires going { IsSomeAnd keeper.old (λ k. (K.told k).has_failed ≡ false) }
     ensures moves { IfOk result (λ n. 0 < n) }
     ensures within { IfOk result (λ n. at + n ≤ length events.now) }
-    ensures ok { IfOk result (λ n. (room : ℕ) → MayBegin room (drop at events.now) → Moved
+    ensures ok { IfOk result (λ n. Moved
         (stage (told_in K.told keeper.old) (ids_of pending.old.items) outcomes.old.items)
         (stage (told_in K.told keeper.new) (ids_of pending.new.items) outcomes.new.items)
-        room (take n (drop at events.now)) (drop (at + n) events.now)) }
+        (take n (drop at events.now)) (drop (at + n) events.now)) }
     ensures opens { IfOk result (λ n. Opens K.told K.became keeper.old keeper.new
         (ids_of pending.old.items) (take n (drop at events.now))) }
     ensures few { OnOk result (length pending.new.items ≤ max_settled) }
@@ -220,9 +223,8 @@ fn run_next<K: Restart>(
     ensures honest { (told_in K.told keeper.new).is_honest → (told_in K.told keeper.old).is_honest }
     ensures err { IfErr result (StopsAtEvent (seen_of K.told K.became K.performed K.refuses)
         keeper.old keeper.new events.now at) }
-    ensures asks { IfOk result (λ n. AsksFrom K.model.serves (ids_of pending.old.items)
-        (take n (drop at events.now)) (drop at events.now)) }
-    ensures asked { IfOk result (λ n. AsksGroup K.model.serves K.performed keeper.old keeper.new
+    ensures one { IfOk result (λ n. IsOneGroup K.model.service (take n (drop at events.now))) }
+    ensures asked { IfOk result (λ n. AsksGroup K.model.service K.performed keeper.old keeper.new
         (ids_of pending.old.items) (take n (drop at events.now))) }
     ensures err_asked { IfErr result (StopsAsking (seen_of K.told K.became K.performed K.refuses)
         keeper.old keeper.new (ids_of pending.old.items) (drop at events.now)) }
@@ -243,10 +245,10 @@ fn run_next<K: Restart>(
 
 /// Runs events over a keeper, in groups, and returns the answer that the kernel takes for each.
 ///
-/// A group is a run of events with up to 16 kept messages, of which the last may be one after which
-/// the server dies. Room for its outcomes is made before it is performed. The keeper is opened
-/// again wherever the server dies. A fault leaves the keeper as the events before the one that it
-/// names left it; the fault of an opening leaves none.
+/// A group is a run of events with up to 16 kept and seen messages, of which the last may be one
+/// after which the server dies. Room for its outcomes is made before it is performed. The keeper is
+/// opened again wherever the server dies. A fault leaves the keeper as the events before the one
+/// that it names left it; the fault of an opening leaves none.
 pub fn drive<K: Restart>(
     alloc: Global,
     keeper: &mut Option<K>,
@@ -258,7 +260,8 @@ pub fn drive<K: Restart>(
     // in the order of their first commit.
     ensures tree_stands { OnOk result (StandsAfter K.told keeper.old keeper.new events.now) }
 
-    // Each answer, that to a resend too, is the one that this history says of its id.
+    // Each answer to a kept message, a resend too, is the one that this history says of its id. That
+    // to a seen one is the answer of the state after the kept ones before it.
     ensures outcomes { IfOk result (λ outcomes.
         AnswersAre K.told keeper.old keeper.new events.now outcomes.items) }
     ensures count { IfOk result (λ outcomes. length outcomes.items ≡ length events.now) }
@@ -274,10 +277,10 @@ pub fn drive<K: Restart>(
     // The keeper is opened again once for each event at which the server dies, after its commit.
     ensures opened { OnOk result (Opened K.told K.became keeper.old keeper.new events.now) }
 
-    // It is asked to perform just what the ledger of the events says: the groups, and with each the
-    // ids whose answers were taken before it.
+    // It is asked to perform just what the ledger of the events says: the groups, and with each that
+    // has a kept message the ids whose answers were taken before it.
     ensures asked { OnOk result
-        (performed_in K.performed keeper.old keeper.new (performances K.model.serves events.now)) }
+        (performed_in K.performed keeper.old keeper.new (performances K.model.service events.now)) }
 
     // Why it faults; and where it does not, each event can be run.
     ensures fault_causes { MatchResult result
@@ -287,15 +290,15 @@ pub fn drive<K: Restart>(
     ensures after_fault { IfErr result (λ fault.
         (start : K.model.State) (h : History) (settled : List ℕ)
         → StandsIn K.told keeper.old start h settled
-        → NoneReused K.model.serves settled (before fault events.now)
+        → NoneReused K.model.service settled (before fault events.now)
         → LeftBy (told_in K.told keeper.new) (is_store fault)
         (StandsIn K.told keeper.new start
-        (committed K.model.serves h (before fault events.now))
-        (settled_by K.model.serves settled (before fault events.now)))) }
+        (committed K.model.service h (before fault events.now))
+        (settled_by K.model.service settled (before fault events.now)))) }
     // has the records that these leave,
     ensures records_at_fault { IfErr result (λ fault. LeftBy (told_in K.told keeper.new)
         (is_store fault) (DeletesHanded K.told keeper.old keeper.new
-        (performances K.model.serves (before fault events.now)) (before fault events.now))) }
+        (performances K.model.service (before fault events.now)) (before fault events.now))) }
     // was opened again once for each of these at which the server died,
     ensures opened_before { IfErr result (λ fault. ¬ (keeper.new ≡ None)
         → Opened K.told K.became keeper.old keeper.new (before fault events.now)) }
@@ -305,13 +308,13 @@ pub fn drive<K: Restart>(
     // was asked for what these ask for and, where the store answered the fault, for one group more,
     ensures asked_before { IfErr result (λ fault. ¬ (keeper.new ≡ None)
         → AskedSome K.performed keeper.old keeper.new
-        (AsksUpTo K.model.serves events.now fault)) }
+        (AsksUpTo K.model.service events.now fault)) }
     // and a fault of the store is one that the keeper may answer which was in place.
     ensures store { IfErr result (λ fault. is_store fault ≡ true
         → (told_in K.told keeper.new).is_clean
         → (start : K.model.State) (h : History) (settled : List ℕ)
         → StandsIn K.told keeper.old start h settled
-        → NoneReused K.model.serves settled (before fault events.now)
+        → NoneReused K.model.service settled (before fault events.now)
         → AnsweredBy K.told K.became keeper.old keeper.new (before fault events.now) fault) }
     // No keeper is left only where the one in place refused with this fault to be opened again.
     ensures emptied { IfErr result (λ fault. keeper.new ≡ None
@@ -339,9 +342,9 @@ pub fn drive<K: Restart>(
     // whose answer was taken, those of the ids that the ledger hands on are deleted, and all others
     // stay.
     ensures records { OnOk result (DeletesHanded K.told keeper.old keeper.new
-        (performances K.model.serves events.now) events.now) }
+        (performances K.model.service events.now) events.now) }
     ensures kept { OnOk result (KeepsUnhanded K.told keeper.old keeper.new
-        (performances K.model.serves events.now) events.now) }
+        (performances K.model.service events.now) events.now) }
 {
     histories_grow::<K>();
     still_stands::<K>();
@@ -377,7 +380,7 @@ pub fn drive_twice<K: Restart>(
     ensures opened { OnOk result
         (Opened K.told K.became keeper.old keeper.new (events.now ++ more.now)) }
     ensures asked { OnOk result (performed_in K.performed keeper.old keeper.new
-        (performances K.model.serves events.now ++ performances K.model.serves more.now)) }
+        (performances K.model.service events.now ++ performances K.model.service more.now)) }
     ensures fit { OnOk result (All IsFit (events.now ++ more.now)) }
 
     // The fault came at the first list, or at the second one after all of the first.
@@ -391,10 +394,10 @@ pub fn drive_twice<K: Restart>(
     ensures firm { OnOk result ((told_in K.told keeper.new).is_honest
         → IsFirm (told_in K.told keeper.old) → IsFirm (told_in K.told keeper.new)) }
     ensures records { OnOk result (DeletesHanded K.told keeper.old keeper.new
-        (performances K.model.serves events.now ++ performances K.model.serves more.now)
+        (performances K.model.service events.now ++ performances K.model.service more.now)
         (events.now ++ more.now)) }
     ensures kept { OnOk result (KeepsUnhanded K.told keeper.old keeper.new
-        (performances K.model.serves events.now ++ performances K.model.serves more.now)
+        (performances K.model.service events.now ++ performances K.model.service more.now)
         (events.now ++ more.now)) }
 {
     histories_grow::<K>();

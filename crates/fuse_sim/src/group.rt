@@ -6,27 +6,28 @@ ghost use Rattle.std.specs.Vec.Iter.{into_iter_items};
 ghost use Rattle.fuse_answer.specs.Wire.{wire};
 ghost use Rattle.fuse_request.specs.Stream.{IsMessage};
 ghost use Rattle.fuse_request.specs.Classes.{class_for};
-ghost use Rattle.fuse_keeper.specs.Group.{entries_of, IsKept, ids_of};
-ghost use Rattle.fuse_session.specs.Processed.{entry_if, message_entry};
+ghost use Rattle.fuse_keeper.specs.Group.{entries_of, IsPerformed, ids_of};
+ghost use Rattle.fuse_session.specs.Grouping.{is_performed_class};
+ghost use Rattle.fuse_session.specs.Processed.{performed_if, message_entry};
 ghost use Rattle.fuse_session.specs.inner.Group.{as_list, left_by};
-ghost use Rattle.fuse_sim.specs.Driving.{IsFit, CausedBy, event_of, is_store, dies};
-ghost use Rattle.fuse_sim.specs.Driving.{bytes_given, settles, is_taken};
-ghost use Rattle.fuse_sim.specs.inner.Running.{dies_before, GathersEvents, EndsWith, StopsAt};
+ghost use Rattle.fuse_sim.specs.Driving.{IsFit, CausedBy, event_of, is_store, dies, dies_before};
+ghost use Rattle.fuse_sim.specs.Driving.{bytes_given, settles, settles_in, is_taken};
+ghost use Rattle.fuse_sim.specs.inner.Running.{GathersEvents, EndsWith, StopsAt};
 ghost use Rattle.fuse_sim.specs.inner.Running.{Joins};
-ghost use Rattle.fuse_sim.specs.inner.Running.{classes_of_events, settles_in};
+ghost use Rattle.fuse_sim.specs.inner.Running.{classes_of_events};
 ghost use Rattle.fuse_sim.specs.inner.Running.{answers_in, head_outcome, outcomes_by, HasAnswers, Adds};
 
 use crate::event::{DriveFault, Event, Fate, Outcome};
 use fuse_answer::{Answer, head_of};
 use fuse_keeper::{Done, Keeper, MAX_GROUP, classify};
 use fuse_request::{Class, Request, decode, has_zero_unique, is_message, one_cut, unique_of};
-use fuse_session::kept_have_ids;
+use fuse_session::performed_have_ids;
 use fuse_wire::{Id, Moment};
 use std::alloc::{AllocError, Global};
 use std::vec::IntoIter;
 
-/// A group of events: the class of each message, and the requests of the kept ones. `died` says
-/// that the server dies after the last of them.
+/// A group of events: the class of each message, and the requests of the kept and the seen ones.
+/// `died` says that the server dies after the last of them.
 #[derive(Drop)]
 pub(crate) struct Group<'a> {
     pub(crate) classes: Vec<Class>,
@@ -81,16 +82,18 @@ fn stands_apart(event: &Event) -> bool
     }
 }
 
-// The request of an event whose message is of this class, and its moment: only a kept one has it.
+// The request of an event whose message is of this class, and its moment: only a kept or a seen one
+// has it.
 fn read_one<'a, K: Keeper>(event: &'a Event, class: Class) -> Option<(Request<'a>, Moment)>
     requires message { IsMessage event.now.bytes }
-    requires class { class ≡ class_for K.model.serves event.now.bytes }
-    ensures entry { entries_of (as_list result) ≡ entry_if (class_for K.model.serves event.now.bytes)
+    requires class { class ≡ class_for K.model.service event.now.bytes }
+    ensures entry { entries_of (as_list result)
+        ≡ performed_if (class_for K.model.service event.now.bytes)
         (message_entry event.now.bytes event.now.moment) }
-    ensures kept { All (IsKept K.model) (entries_of (as_list result)) }
+    ensures kept { All (IsPerformed K.model) (entries_of (as_list result)) }
 {
     match class {
-        Class::Kept => match decode(event.bytes.as_slice()) {
+        Class::Kept | Class::Seen => match decode(event.bytes.as_slice()) {
             Ok(request) => Some((request, event.moment)),
             Err(_) => None,
         },
@@ -100,14 +103,14 @@ fn read_one<'a, K: Keeper>(event: &'a Event, class: Class) -> Option<(Request<'a
 }
 
 // Takes an event into a group. False where the group ends before it: the server died, the event
-// stands apart, or it is a kept one and the group is full.
+// stands apart, or it has a request and the group is full.
 fn take_in<'a, K: Keeper>(group: &mut Group<'a>, event: &'a Event) -> Result<bool, AllocError>
     ensures joins { IfOk result
         (λ joins. joins ≡ true → Joins K.model event.now group.old group.new) }
     ensures ends { IfOk result (λ joins. joins ≡ false
-        → (group.new ≡ group.old) × EndsWith group.old event.now) }
+        → (group.new ≡ group.old) × EndsWith K.model.service group.old event.now) }
 {
-    kept_have_ids();
+    performed_have_ids();
     if group.died || stands_apart(event) {
         return Ok(false);
     }
@@ -123,8 +126,8 @@ fn take_in<'a, K: Keeper>(group: &mut Group<'a>, event: &'a Event) -> Result<boo
     Ok(true)
 }
 
-/// Reads a group off the first events: at most 16 kept ones, up to one that stands apart, and none
-/// after a crash.
+/// Reads a group off the first events: at most 16 kept and seen ones, up to one that stands apart,
+/// and none after a crash.
 pub(crate) fn gather<'a, K: Keeper>(
     alloc: Global,
     events: &'a [Event],
@@ -132,7 +135,8 @@ pub(crate) fn gather<'a, K: Keeper>(
     ensures within { IfOk result (λ r. length r.classes.items ≤ length events.now) }
     ensures gathers { IfOk result
         (λ r. GathersEvents K.model (take (length r.classes.items) events.now) r) }
-    ensures stops { IfOk result (λ r. StopsAt r (drop (length r.classes.items) events.now)) }
+    ensures stops { IfOk result
+        (λ r. StopsAt K.model.service r (drop (length r.classes.items) events.now)) }
 {
     let mut group = Group {
         classes: Vec::new(alloc),
@@ -164,8 +168,8 @@ fn outcome_with(unique: u64, answer: Answer) -> Outcome
     }
 }
 
-// The answer that the kernel takes to an event whose message is of this class. A kept one uses
-// the next answer.
+// The answer that the kernel takes to an event whose message is of this class. A kept or a seen one
+// uses the next answer.
 fn outcome_of_event<K: Keeper>(
     alloc: Global,
     event: &Event,
@@ -173,18 +177,19 @@ fn outcome_of_event<K: Keeper>(
     answers: &mut IntoIter<Done>,
 ) -> Option<Outcome>
     requires message { IsMessage event.now.bytes }
-    requires class { class ≡ class_for K.model.serves event.now.bytes }
-    requires enough { class_for K.model.serves event.now.bytes ≡ Class.Kept
+    requires class { class ≡ class_for K.model.service event.now.bytes }
+    requires enough { is_performed_class (class_for K.model.service event.now.bytes) ≡ true
         → 0 < length (into_iter_items answers.old) }
     ensures outcome { bytes_given result
-        ≡ head_outcome K.model.serves event.now (answers_in (into_iter_items answers.old)) }
+        ≡ head_outcome K.model.service event.now (answers_in (into_iter_items answers.old)) }
     ensures left { answers_in (into_iter_items answers.new)
-        ≡ left_by (class_for K.model.serves event.now.bytes) (answers_in (into_iter_items answers.old)) }
+        ≡ left_by (class_for K.model.service event.now.bytes)
+        (answers_in (into_iter_items answers.old)) }
 {
     let answer = match class {
         Class::Silent => return None,
         Class::Bare(errno) => Answer::refusal(alloc, errno),
-        Class::Kept => answers.next().unwrap().answer,
+        Class::Kept | Class::Seen => answers.next().unwrap().answer,
     };
     if is_answered(event.fate) {
         Some(outcome_with(unique_of(event.bytes.as_slice()), answer))
@@ -196,11 +201,11 @@ fn outcome_of_event<K: Keeper>(
 // Adds the id that an event settles to the pending ones.
 fn settle<K: Keeper>(pending: &mut Vec<Id>, event: &Event, class: Class)
     requires message { IsMessage event.now.bytes }
-    requires class { class ≡ class_for K.model.serves event.now.bytes }
-    requires place { class_for K.model.serves event.now.bytes ≡ Class.Kept
+    requires class { class ≡ class_for K.model.service event.now.bytes }
+    requires place { class_for K.model.service event.now.bytes ≡ Class.Kept
         → length pending.old.items < vec_capacity pending.old }
     ensures settled { ids_of pending.new.items ≡ ids_of pending.old.items
-        ++ settles K.model.serves event.now }
+        ++ settles K.model.service event.now }
     ensures capacity { vec_capacity pending.new ≡ vec_capacity pending.old }
 {
     let taken = is_answered(event.fate);
@@ -210,12 +215,13 @@ fn settle<K: Keeper>(pending: &mut Vec<Id>, event: &Event, class: Class)
                 pending.push_reserved(Id::of(unique_of(event.bytes.as_slice())));
             }
         }
-        Class::Silent | Class::Bare(_) => {}
+        Class::Silent | Class::Bare(_) | Class::Seen => {}
     }
 }
 
 /// Gives the events of a group, whose messages are of these classes, their outcomes by the answers
-/// to the kept ones, and hands on the ids that they settle. Allocates nothing.
+/// to the kept and the seen ones, and adds the ids that they settle to the pending ones. Allocates
+/// nothing.
 pub(crate) fn answer_group<K: Keeper>(
     alloc: Global,
     run: &[Event],
@@ -225,14 +231,14 @@ pub(crate) fn answer_group<K: Keeper>(
     outcomes: &mut Vec<Option<Outcome>>,
 )
     requires fit { All IsFit run.now }
-    requires classes { classes.now ≡ classes_of_events K.model.serves run.now }
-    requires enough { HasAnswers K.model.serves run.now (answers_in dones.items) }
+    requires classes { classes.now ≡ classes_of_events K.model.service run.now }
+    requires enough { HasAnswers K.model.service run.now (answers_in dones.items) }
     requires room { length outcomes.old.items + length run.now ≤ vec_capacity outcomes.old }
     requires places { length pending.old.items + length dones.items ≤ vec_capacity pending.old }
     ensures outcomes { Adds outcomes.old.items outcomes.new.items
-        (outcomes_by K.model.serves run.now (answers_in dones.items)) }
+        (outcomes_by K.model.service run.now (answers_in dones.items)) }
     ensures pending { ids_of pending.new.items ≡ ids_of pending.old.items
-        ++ settles_in K.model.serves run.now }
+        ++ settles_in K.model.service run.now }
 {
     one_cut();
     let mut answers = dones.into_iter();

@@ -14,13 +14,13 @@ use fuse_session::{Clock, Port, answers_stay};
 /// and the first with none.
 pub fn lives<K: Keeper>()
     // The last history is that of all messages that they processed, in a row,
-    ensures in_a_row { (ls : List Lifetime) → after_lives K.model.serves [] ls
-        ≡ grown [] (kept_in K.model.serves (all_processed ls)) }
+    ensures in_a_row { (ls : List Lifetime) → after_lives K.model.service [] ls
+        ≡ grown [] (kept_in K.model.service (all_processed ls)) }
     // in which no request stands twice,
-    ensures once { (ls : List Lifetime) → Distinct (after_lives K.model.serves [] ls) }
+    ensures once { (ls : List Lifetime) → Distinct (after_lives K.model.service [] ls) }
     // and the bytes that each life sent are a prefix of those to be sent by that history.
     ensures send { (s : K.model.State) (ls : List Lifetime)
-        → AreLives K.model s [] ls → AllSend K.model s (after_lives K.model.serves [] ls) ls }
+        → AreLives K.model s [] ls → AllSend K.model s (after_lives K.model.service [] ls) [] ls }
 {
     histories_grow::<K>();
     answers_stay::<K>();

@@ -1,24 +1,27 @@
 -- A group, in the words of a keeper.
-use Rattle.std.proofs.Common.{◌≡◌, ◌++◌, ℕ, Bool, List, [], ◌∷◌, if◌then◌else◌, Option, Some, None, Result, Ok, inl, inr}
+use Rattle.std.proofs.Common.{◌≡◌, ◌++◌, ℕ, Bool, List, [], ◌∷◌, if◌then◌else◌, Option, Some, None, Result, Ok, Err, inl, inr}
 use Rattle.std.proofs.Common.{refl, sym, ap, subst, ◌∙◌}
-use Rattle.std.specs.Prelude.{false}
+use Rattle.std.specs.Prelude.{true, false}
 use Rattle.sqlite.specs.State.{State}
 use Rattle.fuse_tree.specs.Rowed.{rowed}
 use Rattle.fuse_tree.specs.State.{Tree, profile_of}
 use Rattle.fuse_keeper.specs.Model.{IsOfGoodState}
 use Rattle.fuse_keeper.specs.declared.keeper.Done.{Done}
 use Rattle.fuse_keeper.specs.declared.fault.StoreFault.{StoreFault}
-use Rattle.fuse_keeper.specs.History.{Entry, is_in, grown}
+use Rattle.fuse_keeper.specs.History.{Entry, is_in, grown, kept_of}
+use Rattle.fuse_keeper.specs.Group.{OnlySees}
 use Rattle.fuse_keeper.specs.Stands.{Records, KeeperContent, AreThese, PerformedBy, without}
 use Rattle.fuse_keeper.specs.Taking.{TakesAll}
 use Rattle.fuse_keeper.specs.KeeperState.{Performs, ActsOn, KeepsOthers, KeepsLots, LeavesGroup, LeavesActed, AreHeldOrTaken}
 use Rattle.fuse_keeper.specs.Lots.{Lots, SameLots, RecordsUnder, IsFree}
 use Rattle.fuse_init.specs.declared.profile.Profile.{Profile}
 use Rattle.fuse_tree.specs.Laws.{RowsTellState}
-use Rattle.fuse_store_tables.specs.Moves.{ServesAs}
+use Rattle.sqlite.proofs.StateLemmas.{survives_weaker}
+use Rattle.fuse_store_tables.specs.Content.{LeftAs}
+use Rattle.fuse_store_tables.specs.Moves.{RestsAs, ServesAs}
 use Rattle.fuse_store_tree.specs.Store.{records_of}
 use Rattle.fuse_store_tree.specs.Holding.{Holding, ReportsAfter, lots_of}
-use Rattle.fuse_store_tree.specs.Group.{performed, all_dones, lot_for}
+use Rattle.fuse_store_tree.specs.Group.{keeps_nothing, performed, all_dones, lot_after}
 use Rattle.fuse_store_tree.specs.declared.meta.Meta.{Meta}
 use Rattle.fuse_store_tree.specs.Knowing.{HeldForKnown, ReportsKnown}
 use Rattle.fuse_store_tree.specs.Lots.{lots_in, LotsAreSame}
@@ -30,20 +33,30 @@ use Rattle.fuse_store.proofs.Serving.{Settled, stands_on, moved, holds_at, known
 pub its_own : (y : Holding) → IsOf y (rowed y.tree) (records_of y.kept)
 its_own y = record { rows_are = refl; records_are = λ i. refl }
 
+-- what a call makes of a group, what it answers, and which lot it has then, by the profile
+abbrev pub ServesGroup : {X : Type 0} → (m n : Option Meta) → (lot : Option ℕ) → (ids : List ℕ) → (es : List Entry) → (a b : State) → Result X StoreFault → Profile → Type 0
+ServesGroup m n lot ids es a b r p = ServesAs (HeldForKnown m) (λ y. HeldForKnown n (performed (tree_of p).service lot ids es y)) a b r
+
+abbrev pub SaysGroup : (m : Option Meta) → (lot : Option ℕ) → (ids : List ℕ) → (es : List Entry) → (a b : State) → List Done → Profile → Type 0
+SaysGroup m lot ids es a b dones p = ReportsKnown m a b (λ y. dones ≡ all_dones (tree_of p).service lot ids es y)
+
+abbrev pub TakesLotFor : (lot : Option ℕ) → (ids : List ℕ) → (es : List Entry) → (a b : State) → Option ℕ → Profile → Type 0
+TakesLotFor lot ids es a b now p = ReportsAfter a b (λ y. now ≡ lot_after (tree_of p).service lot ids es y)
+
 -- a group keeps the profile
 keeps_profile : (p : Profile) → CallsPerform p → (lot : Option ℕ) (ids : List ℕ) (es : List Entry) (y : Holding) → Tree y.tree → profile_of y.tree ≡ p
-    → profile_of (performed lot ids es y).tree ≡ p
+    → profile_of (performed (tree_of p).service lot ids es y).tree ≡ p
 keeps_profile p law lot ids es y tree own = (law.good lot ids es y (record { tree = tree; profile = own })).profile
 
 module _ (p : Profile) (one : OneHolding) (law : CallsPerform p) (m n : Option Meta) (lot : Option ℕ) (ids : List ℕ) (es : List Entry) (a b : State)
-    {X : Type 0} (x : X) (serves : ServesAs {E = StoreFault} (HeldForKnown m) (λ y. HeldForKnown n (performed lot ids es y)) a b (Ok x)) where
-  pub performs : (now : Option ℕ) (was is : Bool) (dones : List Done) → ReportsKnown m a b (λ y. dones ≡ all_dones lot ids es y)
+    {X : Type 0} (x : X) (serves : ServesAs {E = StoreFault} (HeldForKnown m) (λ y. HeldForKnown n (performed (tree_of p).service lot ids es y)) a b (Ok x)) where
+  pub performs : (now : Option ℕ) (was is : Bool) (dones : List Done) → ReportsKnown m a b (λ y. dones ≡ all_dones (tree_of p).service lot ids es y)
       → Performs (table_told p ⊥ m a lot was) (table_told p ⊥ n b now is) ids es dones
   performs now was is dones told clean s h t so within each =
       let y = so.held.holding in
-      let z = performed lot ids es y in
+      let z = performed (tree_of p).service lot ids es y in
       let all = law.group lot ids es y s h t so.held.rests.holds.tree within each (stands_on p y so.rows so.records s h t so.held.is_of so.stands) in
-      let same : dones ≡ all_dones lot ids es y = told clean y (known_rests so.held) in
+      let same : dones ≡ all_dones (tree_of p).service lot ids es y = told clean y (known_rests so.held) in
       subst (λ ds. PerformedBy (tree_of p) (HoldsIn p n b) (record { state = s; history = h; settled = t }) es ds) (sym same) (record {
         stands = record {
           rows = all.stands.rows;
@@ -63,7 +76,7 @@ module _ (p : Profile) (one : OneHolding) (law : CallsPerform p) (m n : Option M
   others_so tell now was is clean rows records at is_rowed =
       let y = at.holding in
       let same = tell is_rowed.0 y.tree (sym is_rowed.2 ∙ at.is_of.rows_are) in
-      let z = performed lot ids es y in
+      let z = performed (tree_of p).service lot ids es y in
       let after = serves.done clean y (known_rests at) in
       record {
         rows = rowed z.tree;
@@ -74,12 +87,12 @@ module _ (p : Profile) (one : OneHolding) (law : CallsPerform p) (m n : Option M
         others = λ i off. law.others lot ids es y i off ∙ ap (λ o. if is_in ids i then None else o) (sym (at.is_of.records_are i));
       }
 
-  pub acts_so : {memory : Type 0} (now : Option ℕ) (was is : Bool) (dones : List Done) → ReportsKnown m a b (λ y. dones ≡ all_dones lot ids es y)
+  pub acts_so : {memory : Type 0} (now : Option ℕ) (was is : Bool) (dones : List Done) → ReportsKnown m a b (λ y. dones ≡ all_dones (tree_of p).service lot ids es y)
       → ActsOn (table_told p memory m a lot was) (table_told p memory n b now is) ids es dones
   acts_so now was is dones told clean rows records at rowed_so =
       let y = at.holding in
-      let z = performed lot ids es y in
-      let same : dones ≡ all_dones lot ids es y = told clean y (known_rests at) in
+      let z = performed (tree_of p).service lot ids es y in
+      let same : dones ≡ all_dones (tree_of p).service lot ids es y = told clean y (known_rests at) in
       record {
         rows = rowed z.tree;
         records = records_of z.kept;
@@ -91,18 +104,18 @@ module _ (p : Profile) (one : OneHolding) (law : CallsPerform p) (m n : Option M
 
 -- a crash leaves the group out or in
 pub leaves_group : (p : Profile) → OneHolding → CallsPerform p → (m n : Option Meta) (lot : Option ℕ) (ids : List ℕ) (es : List Entry) (a b : State) {X : Type 0} (r : Result X StoreFault)
-    → Settled a → ServesAs (HeldForKnown m) (λ y. HeldForKnown n (performed lot ids es y)) a b r → (now : Option ℕ) (was is : Bool)
+    → Settled a → ServesAs (HeldForKnown m) (λ y. HeldForKnown n (performed (tree_of p).service lot ids es y)) a b r → (now : Option ℕ) (was is : Bool)
     → LeavesGroup (table_told p ⊥ m a lot was) (table_told p ⊥ n b now is) ids es
 leaves_group p one law m n lot ids es a b r settled serves now was is s h t so within each firm =
     let y = so.held.holding in
-    let z = performed lot ids es y in
+    let z = performed (tree_of p).service lot ids es y in
     let before : HoldingStands p y s h t = stands_on p y so.rows so.records s h t so.held.is_of so.stands in
     let all = law.group lot ids es y s h t so.held.rests.holds.tree within each before in
-    let behind : HoldingStands p z s (grown h es) t =
-    moved p all.stands.rows (rowed z.tree) all.stands.records (records_of z.kept) s (grown h es) t (sym all.stands.held.0) (λ i. sym (all.stands.held.1 i))
+    let behind : HoldingStands p z s (grown h (kept_of (tree_of p).service es)) t =
+    moved p all.stands.rows (rowed z.tree) all.stands.records (records_of z.kept) s (grown h (kept_of (tree_of p).service es)) t (sym all.stands.held.0) (λ i. sym (all.stands.held.1 i))
     all.stands.stands in
-    leaves_either one m n (performed lot ids es) a b settled serves.survives y (known_rests so.held) p so.held.profile
-    (keeps_profile p law lot ids es y so.held.rests.holds.tree so.held.profile) now is s s h (grown h es) t t before behind
+    leaves_either one m n (performed (tree_of p).service lot ids es) a b settled serves.survives y (known_rests so.held) p so.held.profile
+    (keeps_profile p law lot ids es y so.held.rests.holds.tree so.held.profile) now is s s h (grown h (kept_of (tree_of p).service es)) t t before behind
 
 -- what is held after entries that are taken may be named anew
 led_same : (p : Profile) (before : KeeperContent (tree_of p)) (es : List Entry) (old new : KeeperContent (tree_of p)) (dones : List Done)
@@ -114,16 +127,16 @@ led_same p before (e ∷ es) old new (d ∷ dones) same (mid, took, rest) = (mid
 
 -- a crash leaves what was held, or what the group leads to
 pub leaves_acted : (p : Profile) → OneHolding → CallsPerform p → (m n : Option Meta) (lot : Option ℕ) (ids : List ℕ) (es : List Entry) (a b : State) {X : Type 0} (r : Result X StoreFault)
-    → Settled a → ServesAs (HeldForKnown m) (λ y. HeldForKnown n (performed lot ids es y)) a b r → (now : Option ℕ) (was is : Bool)
+    → Settled a → ServesAs (HeldForKnown m) (λ y. HeldForKnown n (performed (tree_of p).service lot ids es y)) a b r → (now : Option ℕ) (was is : Bool)
     → LeavesActed (table_told p ⊥ m a lot was) (table_told p ⊥ n b now is) ids es
 leaves_acted p one law m n lot ids es a b r settled serves now was is firm rows records at rowed_so =
     let y = at.holding in
-    let z = performed lot ids es y in
-    let dones = all_dones lot ids es y in
+    let z = performed (tree_of p).service lot ids es y in
+    let dones = all_dones (tree_of p).service lot ids es y in
     let before : KeeperContent (tree_of p) = record { rows = rows; records = without ids records } in
     let taken : TakesAll (tree_of p) before es (keeper_content_of p z) dones =
     law.acts lot ids es y rows records at.rests.holds.tree (at.is_of.rows_are, at.is_of.records_are) in
-    leaves_both one m n (performed lot ids es) a b settled serves.survives y (known_rests at) p at.profile
+    leaves_both one m n (performed (tree_of p).service lot ids es) a b settled serves.survives y (known_rests at) p at.profile
     (keeps_profile p law lot ids es y at.rests.holds.tree at.profile) now is
     (AreHeldOrTaken (tree_of p) (record { rows = rows; records = records }) ids es)
     (λ x q is_of. inl (is_of.rows_are ∙ sym at.is_of.rows_are, λ i. is_of.records_are i ∙ sym (at.is_of.records_are i)))
@@ -152,12 +165,41 @@ under_same old old' new new' records records' ids es o n r u = record {
   free_same i (inr on) = inr on
 
 pub lots_so : (p : Profile) → LotsAreSame → CallsPerform p → (m n : Option Meta) (lot : Option ℕ) (ids : List ℕ) (es : List Entry) (a b : State) {X : Type 0} (x : X)
-    → ServesAs {E = StoreFault} (HeldForKnown m) (λ y. HeldForKnown n (performed lot ids es y)) a b (Ok x) → (taken : ℕ) (was is : Bool)
-    → ReportsAfter a b (λ y. taken ≡ lot_for lot y) → KeepsLots (table_told p ⊥ m a lot was) (table_told p ⊥ n b (Some taken) is) ids es
-lots_so p told law m n lot ids es a b x serves taken was is says clean rows records at rowed_so =
+    → ServesAs {E = StoreFault} (HeldForKnown m) (λ y. HeldForKnown n (performed (tree_of p).service lot ids es y)) a b (Ok x) → (now : Option ℕ) (was is : Bool)
+    → ReportsAfter a b (λ y. now ≡ lot_after (tree_of p).service lot ids es y) → KeepsLots (table_told p ⊥ m a lot was) (table_told p ⊥ n b now is) ids es
+lots_so p told law m n lot ids es a b x serves now was is says clean rows records at rowed_so =
     let y = at.holding in
-    let z = performed lot ids es y in
-    let same : taken ≡ lot_for lot y = says clean y at.rests in
-    under_same (lots_of lot y) (lots_in lot a.now) (lots_of (Some (lot_for lot y)) z) (lots_in (Some taken) b.now) (records_of y.kept) records ids es
-    (told lot y a.now at.rests.holds) (subst (λ n. SameLots (lots_of (Some n) z) (lots_in (Some taken) b.now)) same
-    (told (Some taken) z b.now (serves.done clean y (known_rests at)).holds.0)) at.is_of.records_are (law.lots lot ids es y at.rests.holds.below)
+    let V = (tree_of p).service in
+    let z = performed V lot ids es y in
+    let same : now ≡ lot_after V lot ids es y = says clean y at.rests in
+    under_same (lots_of lot y) (lots_in lot a.now) (lots_of (lot_after V lot ids es y) z) (lots_in now b.now) (records_of y.kept) records ids (kept_of V es)
+    (told lot y a.now at.rests.holds) (subst (λ o. SameLots (lots_of o z) (lots_in now b.now)) same
+    (told now z b.now (serves.done clean y (known_rests at)).holds.0)) at.is_of.records_are (law.lots lot ids es y at.rests.holds.below)
+
+-- ---- where nothing is to be kept
+
+nothing_is : (kept : List Entry) (ids : List ℕ) → kept ≡ [] → ids ≡ [] → keeps_nothing kept ids ≡ true
+nothing_is kept ids none empty = ap (λ k. keeps_nothing k ids) none ∙ ap (λ l. keeps_nothing [] l) empty
+
+-- so it is by a profile that is this one
+pub nothing_for : (p q : Profile) → q ≡ p → (es : List Entry) (ids : List ℕ) → OnlySees (tree_of p).service es ids
+    → keeps_nothing (kept_of (tree_of q).service es) ids ≡ true
+nothing_for p q same es ids only =
+    ap (λ r. keeps_nothing (kept_of (tree_of r).service es) ids) same ∙ nothing_is (kept_of (tree_of p).service es) ids only.0 only.1
+
+-- a call that makes nothing of what is held
+pub serves_still : {X : Type 0} (m n : Option Meta) (f : Holding → Holding) (a b : State) (x : X) → ((y : Holding) → f y ≡ y)
+    → ServesAs {E = StoreFault} (HeldForKnown m) (λ y. HeldForKnown n (f y)) a b (Ok x) → ServesAs {E = StoreFault} (HeldForKnown m) (HeldForKnown n) a b (Ok x)
+serves_still m n f a b x same p = record {
+  survives = survives_weaker a b _ _ (λ _ db left y at. subst (λ (z : Holding). LeftAs (HeldForKnown n z) db) (same y) (left y at)) p.survives;
+  kept = tt;
+  done = λ clean y at. subst (λ (z : Holding). RestsAs (HeldForKnown n z) b) (same y) (p.done clean y at);
+}
+
+pub fails_still : {X : Type 0} (m n : Option Meta) (f : Holding → Holding) (a b : State) (e : StoreFault) → ((y : Holding) → f y ≡ y)
+    → ServesAs {X = X} (HeldForKnown m) (λ y. HeldForKnown n (f y)) a b (Err e) → ServesAs {X = X} (HeldForKnown m) (HeldForKnown n) a b (Err e)
+fails_still m n f a b e same p = record {
+  survives = survives_weaker a b _ _ (λ _ db left y at. subst (λ (z : Holding). LeftAs (HeldForKnown n z) db) (same y) (left y at)) p.survives;
+  kept = p.kept;
+  done = tt;
+}

@@ -1,5 +1,5 @@
 -- A look at what a keeper holds, and a fault of any call.
-use Rattle.std.proofs.Common.{◌≡◌, ◌≤◌, ◌⊎◌, ◌^◌, ℕ, Bool, true, false, Option, Some, None, Ok, Err, Result, inl, inr, refl, sym, ap}
+use Rattle.std.proofs.Common.{◌≡◌, ◌≢◌, ◌≤◌, ◌⊎◌, ◌^◌, ℕ, Bool, true, false, Option, Some, None, Ok, Err, Result, inl, inr, refl, sym, ap}
 use Rattle.std.proofs.lemmas.Bool.{cases_lt}
 use Rattle.std.proofs.Common.{subst, IsTrue}
 use Rattle.std.specs.Prelude.{◌||◌}
@@ -86,16 +86,23 @@ still_may m n lot a b was kept Damaged may =
     record { is_open = was may.is_open; none = may.none; used_up = λ y at. may.used_up y (kept may.is_open y at) }
 
 -- with a lot, damage is no answer
-lotted_may : (m n : Option Meta) (taken : ℕ) (lot : Option ℕ) (a b : State) (f : StoreFault) → MayAnswer n (Some taken) b f → MayAnswer m lot a f
-lotted_may m n taken lot a b Memory may = tt
-lotted_may m n taken lot a b (Sql e) may = tt
-lotted_may m n taken lot a b NotAStore may = absurd may
-lotted_may m n taken lot a b (Version v) may = absurd may
-lotted_may m n taken lot a b Damaged may = absurd (let none = may.none in cc)
+lotted_may : (m n : Option Meta) (now lot : Option ℕ) (a b : State) (f : StoreFault) → now ≢ None → MayAnswer n now b f → MayAnswer m lot a f
+lotted_may m n now lot a b Memory some may = tt
+lotted_may m n now lot a b (Sql e) some may = tt
+lotted_may m n now lot a b NotAStore some may = absurd may
+lotted_may m n now lot a b (Version v) some may = absurd may
+lotted_may m n now lot a b Damaged some may = absurd (some may.none)
 
-pub took_may : (p : Profile) (m n : Option Meta) (taken : ℕ) (lot : Option ℕ) (a b : State) (was is : Bool)
-    → AnswersNoMore (table_told p ⊥ m a lot was) (table_told p ⊥ n b (Some taken) is)
-took_may p m n taken lot a b was is clean f may = lotted_may m n taken lot a b f may
+-- a call that changes nothing, or has a lot then
+pub took_may : {X : Type 0} (p : Profile) (m n : Option Meta) (f : Holding → Holding) (nothing : Bool) (now lot : Option ℕ) (a b : State) (x : X)
+    → (nothing ≡ true → (now ≡ lot) × ((y : Holding) → f y ≡ y)) → (nothing ≡ false → now ≢ None)
+    → ServesAs {E = StoreFault} (HeldForKnown m) (λ y. HeldForKnown n (f y)) a b (Ok x) → StaysOpen {E = StoreFault} a b (Ok x) → (was is : Bool)
+    → AnswersNoMore (table_told p ⊥ m a lot was) (table_told p ⊥ n b now is)
+took_may p m n f false now lot a b x same some serves connection was is clean fault may = lotted_may m n now lot a b fault (some refl) may
+took_may p m n f true now lot a b x same some serves connection was is clean fault may =
+    still_may m n lot a b (λ is_open. connection.was clean is_open)
+    (λ is_open y at. subst (λ (z : Holding). RestsAs (HeldForKnown n z) b) ((same refl).1 y) (serves.done clean y at)) fault
+    (subst (λ (o : Option ℕ). MayAnswer n o b fault) (same refl).0 may)
 
 -- where what is known after a fault is right of what was held
 abbrev pub KnowsStill : Option Meta → Option Meta → Type 0
@@ -155,15 +162,15 @@ went_wrong p one told m n f a b e still serves lot may failed = record {
 
 -- ---- a look
 
-module _ (p : Profile) (one : OneHolding) (m : Option Meta) (a b : State) (settled : Settled a) (stays : IsTrue a.is_open
+module _ (p : Profile) (one : OneHolding) (m n : Option Meta) (a b : State) (settled : Settled a) (stays : IsTrue a.is_open
     → a.may_leave a.committed.trees) {X : Type 0} (r : Result X StoreFault)
-    (serves : ServesAs (HeldForKnown m) (HeldForKnown m) a b r) where
+    (serves : ServesAs (HeldForKnown m) (HeldForKnown n) a b r) where
   mid : HasCleanDisk b → HasCleanDisk a
   mid clean = earlier a b _ serves.survives clean
 
   -- what a crash may leave after it
   left_same : (y : Holding) → RestsAs (HeldForKnown m y) a → HasCleanDisk b → (db : Trees) → b.may_leave db → LeftAs (HeldFor y) db
-  left_same y rests clean db may = elim (left_either one m m (λ z. z) a b settled serves.survives y rests clean db may) [
+  left_same y rests clean db may = elim (left_either one m n (λ z. z) a b settled serves.survives y rests clean db may) [
     | inl old ↦ old
     | inr new ↦ new
   ]
@@ -190,39 +197,47 @@ module _ (p : Profile) (one : OneHolding) (m : Option Meta) (a b : State) (settl
         };
       }
 
-  pub still_held : (f : X) → r ≡ Ok f → HasCleanDisk b → (rows : Rows) (records : Records) → HoldsIn p m a rows records → HoldsIn p m b rows records
+  pub still_held : (f : X) → r ≡ Ok f → HasCleanDisk b → (rows : Rows) (records : Records) → HoldsIn p m a rows records → HoldsIn p n b rows records
   still_held f is clean rows records at =
-      let well : ServesAs {E = StoreFault} (HeldForKnown m) (HeldForKnown m) a b (Ok f) =
-      subst (λ q. ServesAs (HeldForKnown m) (HeldForKnown m) a b q) is serves in
-      holds_at one m b at.holding rows records at.profile (well.done clean at.holding (known_rests at)) at.is_of
+      let well : ServesAs {E = StoreFault} (HeldForKnown m) (HeldForKnown n) a b (Ok f) =
+      subst (λ q. ServesAs (HeldForKnown m) (HeldForKnown n) a b q) is serves in
+      holds_at one n b at.holding rows records at.profile (well.done clean at.holding (known_rests at)) at.is_of
 
 module _ (p : Profile) (one : OneHolding) (told : LotsAreSame) (m : Option Meta) (a b : State) (settled : Settled a) (stays : IsTrue a.is_open → a.may_leave a.committed.trees) where
+  -- a call that changes nothing, but may know more then
+  pub seen_well : {memory : Type 0} {A X : Type 0} → (n : Option Meta) (x : X) (y : A) → ServesAs {E = StoreFault} (HeldForKnown m) (HeldForKnown n) a b (Ok x)
+      → StaysOpen {E = StoreFault} a b (Ok x) → (lot : Option ℕ) (failed : Bool)
+      → Looked {A = A} (table_told p memory m a lot failed) (table_told p memory n b lot failed) (Ok y)
+  seen_well n x y serves connection lot failed = record {
+    called = went_well p m n (λ z. z) a b x y serves connection lot lot failed;
+    may = λ clean f is. still_may m n lot a b (λ is_open. connection.was clean is_open) (λ is_open y at. serves.done clean y at) f is;
+    same = λ clean rows records at. still_held p one m n a b settled stays (Ok x) serves x refl clean rows records at;
+    lots = λ clean rows records at.
+        let y = at.holding in
+        same_both (lots_of lot y) (lots_in lot a.now) (lots_in lot b.now) (told lot y a.now at.rests.holds) (told lot y b.now
+        (serves.done clean y (known_rests at)).holds.0);
+    whole = λ rows records at was. whole_still p one m n a b settled stays (Ok x) serves rows records at;
+    crash = λ x' q rows records at left. left_before p one m n a b settled stays (Ok x) serves x' q rows records at left;
+  }
+
+  pub seen_wrong : {memory : Type 0} {A X : Type 0} → (n : Option Meta) (e : StoreFault) → KnowsStill m n
+      → ServesAs {X = X} (HeldForKnown m) (HeldForKnown n) a b (Err e) → StaysOpen {X = X} a b (Err e) → (lot : Option ℕ) → MayWhere m lot a b e
+      → (failed : Bool) → Looked {A = A} (table_told p memory m a lot failed) (table_told p memory n b lot true) (Err e)
+  seen_wrong n e still serves connection lot may failed = record {
+    called = went_wrong p one told m n (λ z. z) a b e still serves lot may failed;
+    may = failed_may p m n (λ z. z) a b e still serves connection lot failed true;
+    same = tt;
+    lots = tt;
+    whole = λ rows records at was. whole_still p one m n a b settled stays (Err e) serves rows records at;
+    crash = λ x' q rows records at left. left_before p one m n a b settled stays (Err e) serves x' q rows records at left;
+  }
+
   pub looked_well : {memory : Type 0} {X : Type 0} → (x : X) → ServesAs {E = StoreFault} HeldFor HeldFor a b (Ok x) → StaysOpen {E = StoreFault} a b (Ok x)
       → (lot : Option ℕ) (failed : Bool) → Looked {A = X} (table_told p memory m a lot failed) (table_told p memory m b lot failed) (Ok x)
-  looked_well x serves connection lot failed =
-      let known = serves_known m m (λ z. z) a b (Ok x) (λ y k. k) serves in
-      record {
-        called = went_well p m m (λ z. z) a b x x known connection lot lot failed;
-        may = λ clean f is. still_may m m lot a b (λ is_open. connection.was clean is_open) (λ is_open y at. known.done clean y at) f is;
-        same = λ clean rows records at. still_held p one m a b settled stays (Ok x) known x refl clean rows records at;
-        lots = λ clean rows records at.
-            let y = at.holding in
-            same_both (lots_of lot y) (lots_in lot a.now) (lots_in lot b.now) (told lot y a.now at.rests.holds) (told lot y b.now
-            (serves.done clean y at.rests).holds);
-        whole = λ rows records at was. whole_still p one m a b settled stays (Ok x) known rows records at;
-        crash = λ x' q rows records at left. left_before p one m a b settled stays (Ok x) known x' q rows records at left;
-      }
+  looked_well x serves connection lot failed = seen_well m x x (serves_known m m (λ z. z) a b (Ok x) (λ y k. k) serves) connection lot failed
 
   pub looked_wrong : {memory : Type 0} {X : Type 0} → (e : StoreFault) → ServesAs {X = X} HeldFor HeldFor a b (Err e) → StaysOpen {X = X} a b (Err e)
       → (HasCleanDisk b → (y : Holding) → RestsAs (HeldFor y) a → IsOutside e) → (lot : Option ℕ) (failed : Bool)
       → Looked {A = X} (table_told p memory m a lot failed) (table_told p memory m b lot true) (Err e)
   looked_wrong e serves connection safe lot failed =
-      let known = serves_known m m (λ z. z) a b (Err e) (λ y k. k) serves in
-      record {
-        called = went_wrong p one told m m (λ z. z) a b e (λ y k. k) known lot (may_where m lot a b e safe) failed;
-        may = failed_may p m m (λ z. z) a b e (λ y k. k) known connection lot failed true;
-        same = tt;
-        lots = tt;
-        whole = λ rows records at was. whole_still p one m a b settled stays (Err e) known rows records at;
-        crash = λ x' q rows records at left. left_before p one m a b settled stays (Err e) known x' q rows records at left;
-      }
+      seen_wrong m e (λ y k. k) (serves_known m m (λ z. z) a b (Err e) (λ y k. k) serves) connection lot (may_where m lot a b e safe) failed

@@ -112,6 +112,11 @@ stands_of p y rows records s h t is so = moved p (rowed y.tree) rows (records_of
 pub left_now : (s : State) (y : Holding) (db : Trees) → Settled s → RestsAs (HeldFor y) s → s.may_leave db → LeftAs (HeldFor y) db
 left_now s y db settled rests may = (s.now, rests.holds, sym (settled db rests.is_open may ∙ ap (λ d. d.trees) rests.committed))
 
+-- what holds without a condition holds under one
+pub under_any : {X E : Type 0} (A B C : Type 0) (r : Result X E) → OnOk r (A → B) → OnOk r (A → C → B)
+under_any A B C (Ok x) so = λ a c. so a
+under_any A B C (Err e) so = tt
+
 pub firm : (p : Profile) → OneHolding → (m : Option Meta) (s : State) (lot : Option ℕ) (failed : Bool) → Settled s → IsFirm (table_told p ⊥ m s lot failed)
 firm p one m s lot failed settled rows records at = (
   λ clean db may. record { holding = at.holding; left = left_now s at.holding db settled at.rests may; profile = at.profile },

@@ -18,7 +18,7 @@ use fuse_store_tree::{
     TableLook, answer_at_rest, calls_perform, counts_at_rest, lots_are_read, one_holding, perform,
     room_at_rest, settings_at_rest, size_at_rest,
 };
-use fuse_tree::serves_further;
+use fuse_tree::{sees_requests, serves_further};
 use fuse_wire::{Id, Moment};
 use sqlite::{Alter, Connection};
 use std::alloc::Global;
@@ -264,7 +264,7 @@ impl<P: Profiled, S: Alter + Drop> Keeper for TableKeeper<P, S> {
     ghost use Rattle.fuse_keeper.specs.KeeperState.{ActsOn, IsFirm, Performs, Reports};
     ghost use Rattle.fuse_keeper.specs.KeeperState.{KeepsLots, KeepsOthers, LeavesGroup, LeavesActed};
     ghost use Rattle.fuse_keeper.specs.KeeperState.{BeginsMount, DropsLots, LeavesMount};
-    ghost use Rattle.fuse_keeper.specs.Group.{entries_of, ids_of};
+    ghost use Rattle.fuse_keeper.specs.Group.{entries_of, OnlySees, ids_of};
     ghost use Rattle.fuse_keeper.specs.Stands.{Records, CountsRecords};
     ghost use Rattle.fuse_store_tables.specs.Faults.{IsPlain};
     ghost use Rattle.fuse_store_tables.specs.Clearing.{cleared};
@@ -290,6 +290,10 @@ impl<P: Profiled, S: Alter + Drop> Keeper for TableKeeper<P, S> {
         serves_further(P::PROFILE, opcode)
     }
 
+    fn sees(opcode: u32) -> bool {
+        sees_requests(P::PROFILE, opcode)
+    }
+
     fn perform(
         &mut self,
         group: &[(Request<'_>, Moment)],
@@ -303,6 +307,10 @@ impl<P: Profiled, S: Alter + Drop> Keeper for TableKeeper<P, S> {
         ensures ok { IfOk result (λ dones. Performs (keeper_told P.PROFILE S.Store self.old)
             (keeper_told P.PROFILE S.Store self.new) (ids_of settled.now) (entries_of group.now)
             dones.items) }
+        // Where nothing is to be kept it only looks.
+        ensures looked { OnlySees (tree_of P.PROFILE).service (entries_of group.now)
+            (ids_of settled.now) → Looked (keeper_told P.PROFILE S.Store self.old)
+            (keeper_told P.PROFILE S.Store self.new) result }
         // The settled records go first: an id that is settled and in the group acts anew.
         ensures acts { IfOk result (λ dones. ActsOn (keeper_told P.PROFILE S.Store self.old)
             (keeper_told P.PROFILE S.Store self.new) (ids_of settled.now) (entries_of group.now)
@@ -331,11 +339,15 @@ impl<P: Profiled, S: Alter + Drop> Keeper for TableKeeper<P, S> {
         // Where the call fails, what was committed before is seen, whatever it is.
         ensures undone { OnErr result (RollsBack (state S.Store (conn_of S.Store self.old))
             (state S.Store (conn_of S.Store self.new))) }
+        // Where nothing is to be kept, nothing is changed or committed, whatever the store is.
+        ensures alone { OnlySees (tree_of P.PROFILE).service (entries_of group.now)
+            (ids_of settled.now) → LeavesAlone (state S.Store (conn_of S.Store self.old))
+            (state S.Store (conn_of S.Store self.new)) }
         // It commits once at most: after a crash all of it is seen, or nothing.
         ensures once { CommitsOnce (state S.Store (conn_of S.Store self.old))
             (state S.Store (conn_of S.Store self.new)) result }
         // The next lot has the number after the one that the call takes, if it takes one.
-        ensures held { TurnsHeld S.Store self.old self.new (performed
+        ensures held { TurnsHeld S.Store self.old self.new (performed (tree_of P.PROFILE).service
             (keeper_told P.PROFILE S.Store self.old).lots.current (ids_of settled.now)
             (entries_of group.now)) result }
     {
@@ -343,9 +355,16 @@ impl<P: Profiled, S: Alter + Drop> Keeper for TableKeeper<P, S> {
         calls_perform::<P>();
         lots_are_read();
         rows_tell_state();
-        match perform(self.look.alloc, &mut self.look, self.lot, group, settled) {
+        match perform(
+            self.look.alloc,
+            &mut self.look,
+            P::PROFILE,
+            self.lot,
+            group,
+            settled,
+        ) {
             Ok(performed) => {
-                self.lot = Some(performed.lot);
+                self.lot = performed.lot;
                 Ok(performed.dones)
             }
             Err(fault) => {

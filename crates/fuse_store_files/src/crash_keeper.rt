@@ -58,6 +58,10 @@ impl<P: Profiled, S: Alter + Drop> Keeper for CrashKeeper<P, S> {
         TableKeeper::<P, S>::serves(opcode)
     }
 
+    fn sees(opcode: u32) -> bool {
+        TableKeeper::<P, S>::sees(opcode)
+    }
+
     fn perform(
         &mut self,
         group: &[(Request<'_>, Moment)],

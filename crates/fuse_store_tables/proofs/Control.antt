@@ -18,9 +18,12 @@ use Rattle.sqlite.specs.Calls.{IsWrite}
 use Rattle.sqlite_resolve.specs.declared.compiled.Compiled.{Compiled}
 use Rattle.sqlite_resolve.specs.declared.error.CompileError.{CompileError}
 use Rattle.sqlite_schema.specs.declared.command.Returning.{Returning}
-use Rattle.sqlite.proofs.StateLemmas.{survives_weaker}
+use Rattle.sqlite.proofs.StateLemmas.{survives_weaker, survives_then}
+use Rattle.sqlite.proofs.InsideLemmas.{keeps_then}
 use Rattle.sqlite.proofs.Callers.{IsPlain, command_of, runs_as}
-use Rattle.fuse_store_tables.specs.Moves.{Begins, Ends, Undoes, IsEndedOrKept}
+use Rattle.fuse_store_tables.specs.Moves.{Begins, Ends, Undoes, IsEndedOrKept, CommitsNothing, GoesBack}
+use Rattle.std.specs.Result.{IsErr}
+use Rattle.fuse_store_tables.specs.inner.Following.{earlier}
 use Rattle.fuse_store_tables.specs.inner.Performing.{Ran}
 
 abbrev pub begin_text : List ℕ
@@ -282,4 +285,34 @@ undoes old new r inside runs survives = record {
   survives = survives_weaker old new _ _ (λ _ db. rollback_commits_none old db) survives;
   autocommit = λ clean. (rolls_back old new r inside (runs clean)).autocommit;
   undone = λ clean is_open. let back = rolls_back old new r inside (runs clean) in (back.was_open is_open, (back.undone is_open).0, (back.undone is_open).1);
+}
+
+-- what was undone is open where a text is compiled then
+
+keeps_undone : (old new : State) → Undoes old new → HasCleanDisk new → KeepsCommit old new
+keeps_undone old new u clean = record { was_open = λ is. (u.undone clean is).0; committed = λ is. (u.undone clean is).2 }
+
+pub goes_back : {X Y : Type 0} (a b d : State) (x : X) (y : Y) → Undoes a b → (HasCleanDisk d → IsUnchanged b d) → Survives b d (λ _. ⊥)
+    → GoesBack {E = Error} a d (Ok y)
+goes_back a b d x y u same survives = record {
+  commits = record {
+    survives = survives_then a b d _ _ _ (λ _ db none. none) (λ _ db none. none) u.survives survives;
+    kept = λ clean. keeps_then a b d (keeps_undone a b u (earlier b d _ survives clean)) (keeps_unchanged b d (same clean));
+  };
+  back = λ clean.
+      let mid = earlier b d _ survives clean in
+      let is = (same clean).0 in
+      let was = u.undone mid is.was_open in
+      (is.is_open, is.mode ∙ u.autocommit mid, is.now_is ∙ was.1, is.committed_is ∙ was.2);
+}
+
+pub goes_nowhere : {X F : Type 0} (a b d : State) (e : Error) (sql : List ℕ) (r : Result X F) → IsErr r → Undoes a b
+    → (HasCleanDisk d → (params : Row) → IsNotRun b d sql params e) → Survives b d (λ _. ⊥) → GoesBack a d r
+goes_nowhere a b d e sql (Ok x) is u failed survives = absurd (cc is)
+goes_nowhere a b d e sql (Err f) is u failed survives = record {
+  commits = record {
+    survives = survives_then a b d _ _ _ (λ _ db none. none) (λ _ db none. none) u.survives survives;
+    kept = λ clean. keeps_then a b d (keeps_undone a b u (earlier b d _ survives clean)) (keeps_not_run b d sql [] e (failed clean []));
+  };
+  back = tt;
 }

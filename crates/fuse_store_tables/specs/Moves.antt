@@ -93,6 +93,11 @@ pub record CommitsNothing (old new : State) : Type 0 where
   pub survives : Survives old new (λ _. ⊥)
   pub kept : HasCleanDisk new → KeepsCommit old new
 
+-- the transaction, if one is open, is rolled back, and the connection is open where the call succeeds
+pub record GoesBack {X E : Type 0} (old new : State) (result : Result X E) : Type 0 where
+  pub commits : CommitsNothing old new
+  pub back : OnOk result (HasCleanDisk new → IsTrue new.is_open × (new.in_transaction ≡ false) × (new.now ≡ old.committed) × (new.committed ≡ old.committed))
+
 -- A call that only reads. It begins no transaction; one that is open may be rolled back where the call fails.
 pub record OnlyReads {X E : Type 0} (old new : State) (result : Result X E) : Type 0 where
   pub commits : CommitsNothing old new

@@ -37,4 +37,4 @@ pub use records::{
 };
 pub use schema::is_empty;
 pub use setup::set_up;
-pub use statements::{begin, commit, undo};
+pub use statements::{begin, commit, go_back, undo};

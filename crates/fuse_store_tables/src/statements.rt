@@ -2,7 +2,7 @@
 ghost use Rattle.sqlite.specs.State.{HasCleanDisk, Survives, CommitsBy};
 ghost use Rattle.sqlite.specs.Held.{state};
 ghost use Rattle.sqlite.specs.Values.{bound};
-ghost use Rattle.fuse_store_tables.specs.Moves.{Begins, Ends, Undoes};
+ghost use Rattle.fuse_store_tables.specs.Moves.{Begins, Ends, GoesBack, Undoes};
 ghost use Rattle.fuse_store_tables.specs.inner.Performing.{Ran, RanAny};
 
 use sqlite::types::ValueRef;
@@ -59,4 +59,14 @@ pub fn undo<S: Alter>(conn: &mut Connection<S>)
     if !conn.is_autocommit() {
         let _ = conn.execute("ROLLBACK", &[]);
     }
+}
+
+/// Rolls the transaction back, if one is open. It fails where the connection is shut then.
+pub fn go_back<S: Alter>(conn: &mut Connection<S>) -> Result<(), Error>
+    ensures { GoesBack (state S.Store conn.old) (state S.Store conn.new) result }
+{
+    undo(conn);
+    // Only an open connection compiles a text, and it has kept this one.
+    let _ = conn.prepare("BEGIN")?;
+    Ok(())
 }

@@ -1,10 +1,11 @@
 -- A group, one request after another.
-use Rattle.std.proofs.Common.{◌≡◌, ◌<◌, ◌^◌, ◌+◌, ℕ, List, [], ◌∷◌, ◌++◌, length, take, get_or, Option, Some, None, refl, sym, ap, subst, ◌∙◌}
+use Rattle.std.proofs.Common.{◌≡◌, ◌<◌, ◌^◌, ◌+◌, ℕ, Bool, true, false, List, [], ◌∷◌, ◌++◌, length, take, get_or, Option, Some, None, refl, sym, ap, subst, ◌∙◌}
 use Rattle.std.proofs.lemmas.List.{take_more, map-append}
 use Rattle.sqlite.specs.State.{State, HasCleanDisk}
 use Rattle.fuse_wire.specs.declared.moment.Moment.{Moment}
 use Rattle.fuse_request.specs.declared.request.Request.{Request}
-use Rattle.fuse_keeper.specs.History.{Entry}
+use Rattle.fuse_request.specs.Opcodes.{Service}
+use Rattle.fuse_keeper.specs.History.{Entry, unless_seen, is_seen, kept_of}
 use Rattle.fuse_keeper.specs.Group.{entry_of, entries_of}
 use Rattle.fuse_keeper.specs.declared.keeper.Done.{Done}
 use Rattle.fuse_store_tables.specs.inner.Following.{earlier}
@@ -12,52 +13,78 @@ use Rattle.fuse_store_tree.specs.Holding.{Holding}
 use Rattle.fuse_store_tree.specs.declared.meta.Meta.{Meta}
 use Rattle.fuse_store_tree.specs.inner.Changing.{InsideFor, Turned}
 use Rattle.fuse_store_tree.specs.inner.Knowing.{InsideKnown, TurnedKnown}
-use Rattle.fuse_store_tree.specs.Group.{without_record, without_settled, lot_for, with_lot_for, taken, with_group, dones_of, prepared, performed, all_dones, HasLotLeft}
+use Rattle.fuse_store_tree.specs.Group.{without_record, without_settled, lot_for, with_lot_for, said_of, done_newly, taken_if, taken, with_group, dones_of, prepared, transacted, all_dones, HasLotLeft}
 use Rattle.fuse_store_tree.proofs.KnownSteps.{held_for, turned_so, turned_known_same, turned_known_then}
 use Rattle.fuse_store_tables.specs.Moves.{Stays}
 
 -- ---- one more request
 
-group_last : (lot : ℕ) (es : List Entry) (e : Entry) (y : Holding) → with_group lot (es ++ e ∷ []) y ≡ (taken lot e (with_group lot es y)).holding
-group_last lot [] e y = refl
-group_last lot (x ∷ es) e y = group_last lot es e (taken lot x y).holding
+group_last : (V : Service) (lot : ℕ) (es : List Entry) (e : Entry) (y : Holding)
+    → with_group V lot (es ++ e ∷ []) y ≡ (taken V lot e (with_group V lot es y)).holding
+group_last V lot [] e y = refl
+group_last V lot (x ∷ es) e y = group_last V lot es e (taken V lot x y).holding
 
-dones_last : (lot : ℕ) (es : List Entry) (e : Entry) (y : Holding) → dones_of lot (es ++ e ∷ []) y ≡ dones_of lot es y
-    ++ (taken lot e (with_group lot es y)).done ∷ []
-dones_last lot [] e y = refl
-dones_last lot (x ∷ es) e y = ap (λ l. (taken lot x y).done ∷ l) (dones_last lot es e (taken lot x y).holding)
+dones_last : (V : Service) (lot : ℕ) (es : List Entry) (e : Entry) (y : Holding)
+    → dones_of V lot (es ++ e ∷ []) y ≡ dones_of V lot es y ++ (taken V lot e (with_group V lot es y)).done ∷ []
+dones_last V lot [] e y = refl
+dones_last V lot (x ∷ es) e y = ap (λ l. (taken V lot x y).done ∷ l) (dones_last V lot es e (taken V lot x y).holding)
 
 -- the entries up to a place
 one_more : (group : List (Request × Moment)) (i : ℕ) (x : Request × Moment) → i < length group
     → entries_of (take (i + 1) group) ≡ entries_of (take i group) ++ entry_of (get_or group i x) ∷ []
 one_more group i x low = ap entries_of (take_more group i x low) ∙ map-append entry_of (take i group) (get_or group i x ∷ [])
 
-pub took_more : (m n o : Option Meta) (lot : ℕ) (group : List (Request × Moment)) (i : ℕ) (x : Request × Moment) (a b d : State) → i < length group
-    → TurnedKnown m n (with_group lot (entries_of (take i group))) a b
-    → TurnedKnown n o (λ y. (taken lot (entry_of (get_or group i x)) y).holding) b d
-    → TurnedKnown m o (with_group lot (entries_of (take (i + 1) group))) a d
-took_more m n o lot group i x a b d low p q =
+pub took_more : (V : Service) (m n o : Option Meta) (lot : ℕ) (group : List (Request × Moment)) (i : ℕ) (x : Request × Moment) (a b d : State) → i < length group
+    → TurnedKnown m n (with_group V lot (entries_of (take i group))) a b
+    → TurnedKnown n o (λ y. (taken V lot (entry_of (get_or group i x)) y).holding) b d
+    → TurnedKnown m o (with_group V lot (entries_of (take (i + 1) group))) a d
+took_more V m n o lot group i x a b d low p q =
     let es = entries_of (take i group) in
     let e = entry_of (get_or group i x) in
-    subst (λ l. TurnedKnown m o (with_group lot l) a d) (sym (one_more group i x low))
-    (turned_known_same m o (λ y. (taken lot e (with_group lot es y)).holding) (with_group lot (es ++ e ∷ [])) a d (λ clean y at. sym (group_last lot es e y))
-    (turned_known_then m n o (with_group lot es) (λ y. (taken lot e y).holding) a b d p q))
+    subst (λ l. TurnedKnown m o (with_group V lot l) a d) (sym (one_more group i x low))
+    (turned_known_same m o (λ y. (taken V lot e (with_group V lot es y)).holding) (with_group V lot (es ++ e ∷ [])) a d
+    (λ clean y at. sym (group_last V lot es e y))
+    (turned_known_then m n o (with_group V lot es) (λ y. (taken V lot e y).holding) a b d p q))
 
 -- the answers so far are these
-abbrev pub AreDones : Option Meta → ℕ → List Entry → State → State → List Done → Type 0
-AreDones m lot es a b dones = HasCleanDisk b → (y : Holding) → InsideKnown m y a → dones ≡ dones_of lot es y
+abbrev pub AreDones : Service → Option Meta → ℕ → List Entry → State → State → List Done → Type 0
+AreDones V m lot es a b dones = HasCleanDisk b → (y : Holding) → InsideKnown m y a → dones ≡ dones_of V lot es y
 
-pub dones_more : (m n o : Option Meta) (lot : ℕ) (group : List (Request × Moment)) (i : ℕ) (x : Request × Moment) (a b d : State) (so_far all : List Done)
-    (done : Done) → i < length group → TurnedKnown m n (with_group lot (entries_of (take i group))) a b
-    → AreDones m lot (entries_of (take i group)) a b so_far → TurnedKnown n o (λ y. (taken lot (entry_of (get_or group i x)) y).holding) b d
-    → (HasCleanDisk d → (y : Holding) → InsideKnown n y b → done ≡ (taken lot (entry_of (get_or group i x)) y).done) → all ≡ so_far ++ done ∷ []
-    → AreDones m lot (entries_of (take (i + 1) group)) a d all
-dones_more m n o lot group i x a b d so_far all done low p are q told is clean y at =
+pub dones_more : (V : Service) (m n o : Option Meta) (lot : ℕ) (group : List (Request × Moment)) (i : ℕ) (x : Request × Moment) (a b d : State) (so_far all : List Done)
+    (done : Done) → i < length group → TurnedKnown m n (with_group V lot (entries_of (take i group))) a b
+    → AreDones V m lot (entries_of (take i group)) a b so_far → TurnedKnown n o (λ y. (taken V lot (entry_of (get_or group i x)) y).holding) b d
+    → (HasCleanDisk d → (y : Holding) → InsideKnown n y b → done ≡ (taken V lot (entry_of (get_or group i x)) y).done) → all ≡ so_far ++ done ∷ []
+    → AreDones V m lot (entries_of (take (i + 1) group)) a d all
+dones_more V m n o lot group i x a b d so_far all done low p are q told is clean y at =
     let es = entries_of (take i group) in
     let e = entry_of (get_or group i x) in
     let mid = earlier b d _ q.stays.survives clean in
-    is ∙ ap (λ l. l ++ done ∷ []) (are mid y at) ∙ ap (λ k. dones_of lot es y ++ k ∷ []) (told clean (with_group lot es y) (p.turns mid y at))
-    ∙ sym (dones_last lot es e y) ∙ ap (λ l. dones_of lot l y) (sym (one_more group i x low))
+    is ∙ ap (λ l. l ++ done ∷ []) (are mid y at) ∙ ap (λ k. dones_of V lot es y ++ k ∷ []) (told clean (with_group V lot es y) (p.turns mid y at))
+    ∙ sym (dones_last V lot es e y) ∙ ap (λ l. dones_of V lot l y) (sym (one_more group i x low))
+
+-- ---- a group of seen requests alone
+
+seen_one : (b : Bool) (e : Entry) (rest : List Entry) → unless_seen b e ++ rest ≡ [] → (b ≡ true) × (rest ≡ [])
+seen_one true e rest none = (refl, none)
+seen_one false e rest none = absurd (cc none)
+
+-- it leaves what is held
+pub group_seen : (V : Service) (lot : ℕ) (es : List Entry) (y : Holding) → kept_of V es ≡ [] → with_group V lot es y ≡ y
+group_seen V lot [] y none = refl
+group_seen V lot (e ∷ es) y none =
+    let one = seen_one (is_seen V e) e (kept_of V es) none in
+    ap (λ b. with_group V lot es (taken_if b lot e y).holding) one.0 ∙ group_seen V lot es y one.1
+
+-- whatever the lot and the records, it is answered by the tree
+pub dones_seen : (V : Service) (lot other : ℕ) (es : List Entry) (y z : Holding) → kept_of V es ≡ [] → y.tree ≡ z.tree
+    → dones_of V lot es y ≡ dones_of V other es z
+dones_seen V lot other [] y z none same = refl
+dones_seen V lot other (e ∷ es) y z none same =
+    let one = seen_one (is_seen V e) e (kept_of V es) none in
+    ap (λ b. (taken_if b lot e y).done ∷ dones_of V lot es (taken_if b lot e y).holding) one.0
+    ∙ ap (λ t. done_newly (said_of e (record y { tree = t })) ∷ dones_of V lot es y) same
+    ∙ ap (λ ds. done_newly (said_of e z) ∷ ds) (dones_seen V lot other es y z one.1 same)
+    ∙ ap (λ b. (taken_if b other e z).done ∷ dones_of V other es (taken_if b other e z).holding) (sym one.0)
 
 -- ---- before the group
 
@@ -80,23 +107,26 @@ tree_with_lot : (lot : Option ℕ) (y : Holding) → (with_lot_for lot y).tree �
 tree_with_lot None y = refl
 tree_with_lot (Some n) y = refl
 
+pub prepared_tree : (lot : Option ℕ) (ids : List ℕ) (y : Holding) → (prepared lot ids y).tree ≡ y.tree
+prepared_tree lot ids y = tree_with_lot lot (without_settled ids y) ∙ tree_settled ids y
+
 -- the tree stays
 pub prepared_known : (m : Option Meta) (lot : Option ℕ) (ids : List ℕ) (a b : State) → Turned (prepared lot ids) a b → TurnedKnown m m (prepared lot ids) a b
-prepared_known m lot ids a b p = turned_so m (prepared lot ids) a b (λ y. tree_with_lot lot (without_settled ids y) ∙ tree_settled ids y) p
+prepared_known m lot ids a b p = turned_so m (prepared lot ids) a b (prepared_tree lot ids) p
 
 -- a group after it, under the lot that was allocated
-pub grouped : (m o : Option Meta) (lot : Option ℕ) (n : ℕ) (ids : List ℕ) (es : List Entry) (a b d : State) → Turned (prepared lot ids) a b
-    → (HasCleanDisk b → (y : Holding) → InsideFor y a → n ≡ lot_for lot y) → TurnedKnown m o (with_group n es) b d
-    → TurnedKnown m o (performed lot ids es) a d
-grouped m o lot n ids es a b d p value q =
-    turned_known_same m o (λ y. with_group n es (prepared lot ids y)) (performed lot ids es) a d
-    (λ clean y at. ap (λ k. with_group k es (prepared lot ids y)) (value (earlier b d _ q.stays.survives clean) y (held_for m y a at)))
-    (turned_known_then m m o (prepared lot ids) (with_group n es) a b d (prepared_known m lot ids a b p) q)
+pub grouped : (V : Service) (m o : Option Meta) (lot : Option ℕ) (n : ℕ) (ids : List ℕ) (es : List Entry) (a b d : State) → Turned (prepared lot ids) a b
+    → (HasCleanDisk b → (y : Holding) → InsideFor y a → n ≡ lot_for lot y) → TurnedKnown m o (with_group V n es) b d
+    → TurnedKnown m o (transacted V lot ids es) a d
+grouped V m o lot n ids es a b d p value q =
+    turned_known_same m o (λ y. with_group V n es (prepared lot ids y)) (transacted V lot ids es) a d
+    (λ clean y at. ap (λ k. with_group V k es (prepared lot ids y)) (value (earlier b d _ q.stays.survives clean) y (held_for m y a at)))
+    (turned_known_then m m o (prepared lot ids) (with_group V n es) a b d (prepared_known m lot ids a b p) q)
 
-pub dones_are : (m : Option Meta) (lot : Option ℕ) (n : ℕ) (ids : List ℕ) (es : List Entry) (a b d : State) (dones : List Done) → Turned (prepared lot ids) a b
-    → (HasCleanDisk b → (y : Holding) → InsideFor y a → n ≡ lot_for lot y) → Stays b d → AreDones m n es b d dones
-    → HasCleanDisk d → (y : Holding) → InsideKnown m y a → dones ≡ all_dones lot ids es y
-dones_are m lot n ids es a b d dones p value keeps are clean y at =
+pub dones_are : (V : Service) (m : Option Meta) (lot : Option ℕ) (n : ℕ) (ids : List ℕ) (es : List Entry) (a b d : State) (dones : List Done) → Turned (prepared lot ids) a b
+    → (HasCleanDisk b → (y : Holding) → InsideFor y a → n ≡ lot_for lot y) → Stays b d → AreDones V m n es b d dones
+    → HasCleanDisk d → (y : Holding) → InsideKnown m y a → dones ≡ all_dones V lot ids es y
+dones_are V m lot n ids es a b d dones p value keeps are clean y at =
     let mid = earlier b d _ keeps.survives clean in
     are clean (prepared lot ids y) ((prepared_known m lot ids a b p).turns mid y at)
-    ∙ ap (λ k. dones_of k es (prepared lot ids y)) (value mid y (held_for m y a at))
+    ∙ ap (λ k. dones_of V k es (prepared lot ids y)) (value mid y (held_for m y a at))

@@ -25,6 +25,7 @@ pub mod Records
 pub mod Groups
 pub mod Whole
 pub mod Finds
+pub mod KeptOnes
 pub mod Took
 pub mod Settled
 pub mod Sure

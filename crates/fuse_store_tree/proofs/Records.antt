@@ -1,5 +1,5 @@
 -- Records and lots, as steps on what is held.
-use Rattle.std.proofs.Common.{take, drop, Ok, Some, None, Option, ◌++◌, ◌≡◌, ◌≤◌, ◌<◌, ◌^◌, ◌+◌, ℕ, List, [], ◌∷◌, refl, sym, ap, subst, arith, ◌∙◌}
+use Rattle.std.proofs.Common.{take, drop, Ok, Some, None, Option, ◌++◌, ◌≡◌, ◌≤◌, ◌<◌, ◌^◌, ◌+◌, ℕ, true, false, List, [], ◌∷◌, refl, sym, ap, subst, arith, ◌∙◌}
 use Rattle.std.specs.List.{AllByRecursion}
 use Rattle.sqlite.specs.State.{State, HasCleanDisk}
 use Rattle.sqlite.specs.declared.error.Error.{Error}
@@ -10,7 +10,8 @@ use Rattle.fuse_rows.specs.declared.rows.Room.{Room}
 use Rattle.fuse_tree.specs.State.{State as TreeState, Tree}
 use Rattle.fuse_tree.specs.Do.{done}
 use Rattle.fuse_wire.specs.declared.id.Id.{Id}
-use Rattle.fuse_keeper.specs.History.{Entry, entry_id}
+use Rattle.fuse_request.specs.Opcodes.{Service}
+use Rattle.fuse_keeper.specs.History.{Entry, entry_id, is_seen}
 use Rattle.fuse_keeper.specs.Group.{ids_of}
 use Rattle.fuse_keeper.specs.declared.keeper.Done.{Done}
 use Rattle.fuse_store_tables.specs.Content.{Content, Kept, kept_key, put_by, without_by, put_kept, without_kept, without_four, with_lot, set_counter}
@@ -30,10 +31,14 @@ use Rattle.fuse_store_tree.proofs.Looks.{key_differs, all_map}
 use Rattle.fuse_store_tree.proofs.Orders.{all_put, all_filter}
 use Rattle.fuse_store_tree.proofs.Overlays.{take_plus}
 use Rattle.fuse_store_tree.specs.Holding.{Holding, AreBelow, store_of}
-use Rattle.fuse_store_tree.specs.Group.{without_record, without_settled, with_record, with_new_lot, with_act, said_of, acted_on, taken, taken_by, done_newly}
+use Rattle.fuse_store_tree.specs.Group.{without_record, without_settled, with_record, with_new_lot, with_act, said_of, acted_on, taken, taken_if, taken_by, done_newly}
 use Rattle.fuse_store_tree.specs.Group.{done_again}
 use Rattle.fuse_store_tree.proofs.Turning.{lifted, looked_for, turned_known, turned_then, turned_same, told_in, content_in}
-use Rattle.fuse_store_tree.proofs.KnownSteps.{held_for, looked_known, turned_so, turned_known_same, turned_known_then}
+use Rattle.fuse_store_tree.proofs.KnownSteps.{held_for, known_for, looked_known, turned_so, turned_known_same, turned_known_then}
+use Rattle.fuse_rows.specs.Rows.{Rows}
+use Rattle.fuse_tree.specs.Rowed.{rowed}
+use Rattle.fuse_store_tree.specs.Knowing.{Knows}
+use Rattle.fuse_store_tree.specs.Looking.{sees_in}
 
 -- ---- a record goes
 
@@ -204,36 +209,46 @@ IsKnown id a r = (c : Content) → Inside c a → Fits c → r ≡ records_of c.
 pub known_is : (id : ℕ) (a : State) (r : Option Said) → IsKnown id a r → (y : Holding) → InsideFor y a → r ≡ records_of y.kept id
 known_is id a r found y at = found at.holds.held.0 (content_in y a at) at.holds.held.2.fits ∙ ap (λ ks. records_of ks id) at.holds.held.2.kept
 
--- what was found, in the place of what is recorded
-abbrev pub IsFound : ℕ → Entry → State → Option Said → Option Said → Type 0
-IsFound id e a r o = IsKnown id a r × (id ≡ entry_id e) × (r ≡ o)
+-- what was found of a kept one, in the place of what is recorded
+pub record IsFound (V : Service) (id : ℕ) (e : Entry) (a : State) (r o : Option Said) : Type 0 where
+  pub known : IsKnown id a r
+  pub id_is : id ≡ entry_id e
+  pub is : r ≡ o
+  pub kept : is_seen V e ≡ false
 
-found_is : (id : ℕ) (e : Entry) (a : State) (r o : Option Said) → IsFound id e a r o → (y : Holding) → InsideFor y a → o ≡ records_of y.kept (entry_id e)
-found_is id e a r o f y at = sym f.2 ∙ known_is id a r f.0 y at ∙ ap (records_of y.kept) f.1
+found_is : (V : Service) (id : ℕ) (e : Entry) (a : State) (r o : Option Said) → IsFound V id e a r o → (y : Holding) → InsideFor y a
+    → o ≡ records_of y.kept (entry_id e)
+found_is V id e a r o f y at = sym f.is ∙ known_is id a r f.known y at ∙ ap (records_of y.kept) f.id_is
 
-pub took_known : (m : Option Meta) (id lot : ℕ) (e : Entry) (a b : State) (r : Option Said) (known : Said) → LookedInside a b
-    → (HasCleanDisk b → IsFound id e a r (Some known)) → TurnedKnown m m (λ y. (taken lot e y).holding) a b
-took_known m id lot e a b r known looks found = turned_known_same m m (λ y. y) (λ y. (taken lot e y).holding) a b
-    (λ clean y at. ap (λ o. (taken_by o lot e y).holding) (found_is id e a r (Some known) (found clean) y (held_for m y a at))) (looked_known m a b looks)
+-- it is taken by what was found
+taken_is : (V : Service) (id lot : ℕ) (e : Entry) (a : State) (r o : Option Said) → IsFound V id e a r o → (y : Holding) → InsideFor y a
+    → taken_by o lot e y ≡ taken V lot e y
+taken_is V id lot e a r o f y at =
+    ap (λ k. taken_by k lot e y) (found_is V id e a r o f y at) ∙ ap (λ b. taken_if b lot e y) (sym f.kept)
 
-pub done_known : (id lot : ℕ) (e : Entry) (a : State) (r : Option Said) (known : Said) → IsFound id e a r (Some known) → (y : Holding) → InsideFor y a
-    → done_again known ≡ (taken lot e y).done
-done_known id lot e a r known found y at = ap (λ o. (taken_by o lot e y).done) (found_is id e a r (Some known) found y at)
+pub took_known : (V : Service) (m : Option Meta) (id lot : ℕ) (e : Entry) (a b : State) (r : Option Said) (known : Said) → LookedInside a b
+    → (HasCleanDisk b → IsFound V id e a r (Some known)) → TurnedKnown m m (λ y. (taken V lot e y).holding) a b
+took_known V m id lot e a b r known looks found = turned_known_same m m (λ y. y) (λ y. (taken V lot e y).holding) a b
+    (λ clean y at. ap (λ t. t.holding) (taken_is V id lot e a r (Some known) (found clean) y (held_for m y a at))) (looked_known m a b looks)
 
-pub took_new : (m n : Option Meta) (id lot : ℕ) (e : Entry) (a b d : State) (r : Option Said) → LookedInside a b → (HasCleanDisk b → IsFound id e a r None)
-    → TurnedKnown m n (acted_on lot e) b d → TurnedKnown m n (λ y. (taken lot e y).holding) a d
-took_new m n id lot e a b d r looks found p = turned_known_same m n (acted_on lot e) (λ y. (taken lot e y).holding) a d
-    (λ clean y at. ap (λ o. (taken_by o lot e y).holding) (found_is id e a r None (found (earlier b d _ p.stays.survives clean)) y (held_for m y a at)))
+pub done_known : (V : Service) (id lot : ℕ) (e : Entry) (a : State) (r : Option Said) (known : Said) → IsFound V id e a r (Some known) → (y : Holding)
+    → InsideFor y a → done_again known ≡ (taken V lot e y).done
+done_known V id lot e a r known found y at = ap (λ t. t.done) (taken_is V id lot e a r (Some known) found y at)
+
+pub took_new : (V : Service) (m n : Option Meta) (id lot : ℕ) (e : Entry) (a b d : State) (r : Option Said) → LookedInside a b
+    → (HasCleanDisk b → IsFound V id e a r None) → TurnedKnown m n (acted_on lot e) b d → TurnedKnown m n (λ y. (taken V lot e y).holding) a d
+took_new V m n id lot e a b d r looks found p = turned_known_same m n (acted_on lot e) (λ y. (taken V lot e y).holding) a d
+    (λ clean y at. ap (λ t. t.holding) (taken_is V id lot e a r None (found (earlier b d _ p.stays.survives clean)) y (held_for m y a at)))
     (turned_known_then m m n (λ y. y) (acted_on lot e) a b d (looked_known m a b looks) p)
 
 -- the request that is executed comes after a read, whether it succeeds or not
-pub done_new : (m n : Option Meta) (id lot : ℕ) (e : Entry) (a b d : State) (r : Option Said) (done : Done) → LookedInside a b
-    → (HasCleanDisk b → IsFound id e a r None) → TurnedKnown m n (acted_on lot e) b d → HasCleanDisk d
-    → ((y : Holding) → InsideKnown m y b → done ≡ done_newly (said_of e y)) → (y : Holding) → InsideKnown m y a → done ≡ (taken lot e y).done
-done_new m n id lot e a b d r done looks found p clean told y at =
+pub done_new : (V : Service) (m n : Option Meta) (id lot : ℕ) (e : Entry) (a b d : State) (r : Option Said) (done : Done) → LookedInside a b
+    → (HasCleanDisk b → IsFound V id e a r None) → TurnedKnown m n (acted_on lot e) b d → HasCleanDisk d
+    → ((y : Holding) → InsideKnown m y b → done ≡ done_newly (said_of e y)) → (y : Holding) → InsideKnown m y a → done ≡ (taken V lot e y).done
+done_new V m n id lot e a b d r done looks found p clean told y at =
     let mid = earlier b d _ p.stays.survives clean in
     told y ((looked_known m a b looks).turns mid y at)
-    ∙ ap (λ o. (taken_by o lot e y).done) (found_is id e a r None (found mid) y (held_for m y a at))
+    ∙ ap (λ t. t.done) (taken_is V id lot e a r None (found mid) y (held_for m y a at))
 
 -- ---- a request that acted, and its record
 
@@ -257,3 +272,25 @@ pub answer_told : (m n : Option Meta) (id lot : ℕ) (e : Entry) (a b d : State)
     → ((s : TreeState) → Tree s → ActsInside (knowing m a) (knowing n b) s (done s e.asked e.moment) answer) → Turned (with_record id lot answer) b d → HasCleanDisk d
     → (y : Holding) → InsideKnown m y a → done_newly answer ≡ done_newly (said_of e y)
 answer_told m n id lot e a b d answer acted p clean y at = ap done_newly (said_is m n e a b answer acted (earlier b d _ p.stays.survives clean) y at)
+
+-- ---- a request that is seen
+
+-- a look by `plan`
+pub looked_on : (m n : Option Meta) (a b : State) → LookedInside a b
+    → (HasCleanDisk b → (rows : Rows) → sees_in a rows → Knows m rows → Knows n rows) → TurnedKnown m n (λ y. y) a b
+looked_on m n a b looked knows = record {
+  stays = looked.stays;
+  within = looked.within;
+  turns = λ clean y at.
+      let held = held_for m y a at in
+      known_for n y b ((looked_for a b looked).turns clean y held) (knows clean (rowed y.tree) (store_of y, told_in y a held, refl) at.holds.1);
+}
+
+-- a seen one leaves what is held
+pub took_seen : (V : Service) (m n : Option Meta) (lot : ℕ) (e : Entry) (a b : State) → is_seen V e ≡ true → TurnedKnown m n (λ y. y) a b
+    → TurnedKnown m n (λ y. (taken V lot e y).holding) a b
+took_seen V m n lot e a b seen p =
+    turned_known_same m n (λ y. y) (λ y. (taken V lot e y).holding) a b (λ clean y at. ap (λ b. (taken_if b lot e y).holding) (sym seen)) p
+
+pub done_seen : (V : Service) (lot : ℕ) (e : Entry) (y : Holding) → is_seen V e ≡ true → done_newly (said_of e y) ≡ (taken V lot e y).done
+done_seen V lot e y seen = ap (λ b. (taken_if b lot e y).done) (sym seen)

@@ -1,5 +1,5 @@
 -- A group as a whole transaction.
-use Rattle.std.proofs.Common.{◌≡◌, ◌∙◌, Option, None, Ok, Err, Bool, true, false, cond, sym, ap, subst}
+use Rattle.std.proofs.Common.{◌≡◌, ◌∙◌, Option, None, Ok, Err, Result, Bool, true, false, cond, refl, sym, ap, subst}
 use Rattle.sqlite.specs.State.{State, HasCleanDisk, KeepsCommit}
 use Rattle.sqlite.proofs.StateLemmas.{survives_then, survives_weaker}
 use Rattle.sqlite.proofs.InsideLemmas.{keeps_then}
@@ -7,15 +7,17 @@ use Rattle.sqlite.specs.declared.error.Error.{Error}
 use Rattle.fuse_keeper.specs.declared.fault.StoreFault.{StoreFault}
 use Rattle.fuse_keeper.specs.declared.fault.StoreFault.TheVariants.{Memory, Sql}
 use Rattle.fuse_keeper.specs.Faults.{fault_of, is_memory}
-use Rattle.fuse_store_tables.specs.Moves.{RestsAs, Begins, Ends, Takes, ServesAs, Undoes, LeavesAlone, RollsBack, Stays}
+use Rattle.fuse_store_tables.specs.Moves.{RestsAs, Begins, Ends, Takes, ServesAs, Undoes, LeavesAlone, RollsBack, Stays, GoesBack, StaysOpen, CommitsOnce}
 use Rattle.fuse_store_tables.specs.Saying.{IsRefusal}
-use Rattle.fuse_store_tables.specs.inner.Performing.{CommitsNothing}
+use Rattle.fuse_store_tables.specs.inner.Performing.{CommitsNothing, TransactsAs}
+use Rattle.fuse_store_tables.specs.Content.{LeftAs}
 use Rattle.fuse_store_tables.specs.inner.Following.{earlier}
 pub use Rattle.fuse_store_tables.specs.inner.Transaction.{begins_nothing, once_none, once_failed, once_committed, once_undone}
 use Rattle.sqlite.specs.Effect.{Database}
 use Rattle.fuse_store_tree.specs.Holding.{Holding, HeldFor, ReportsAfter}
 use Rattle.fuse_store_tree.specs.declared.meta.Meta.{Meta}
-use Rattle.fuse_store_tree.specs.Knowing.{HeldForKnown, ReportsKnown}
+use Rattle.fuse_store_tree.specs.Knowing.{Knows, HeldForKnown, ReportsKnown}
+use Rattle.fuse_tree.specs.Rowed.{rowed}
 use Rattle.fuse_store_tree.specs.inner.Changing.{InsideFor}
 use Rattle.fuse_store_tree.specs.inner.Knowing.{InsideKnown, TurnedKnown}
 
@@ -103,6 +105,101 @@ pub serves_forgot : {X : Type 0} (m n : Option Meta) (f : Holding → Holding) (
     → ServesAs {X = X} (HeldForKnown m) (λ y. HeldForKnown n (f y)) a b (Err e) → ServesAs {X = X} (HeldForKnown m) (λ y. HeldForKnown None (f y)) a b (Err e)
 serves_forgot m n f a b e p = record {
   survives = survives_weaker a b _ _ (λ _ db left y at. let (d, held, is) = left y at in (d, (held.0, tt), is)) p.survives;
+  kept = p.kept;
+  done = tt;
+}
+
+-- ---- a transaction that is rolled back
+
+pub nothing_then : (a b d : State) → CommitsNothing a b → CommitsNothing b d → CommitsNothing a d
+nothing_then a b d p q = record {
+  survives = survives_then a b d _ _ _ (λ _ db none. none) (λ _ db none. none) p.survives q.survives;
+  kept = λ clean. keeps_then a b d (p.kept (earlier b d _ q.survives clean)) (q.kept clean);
+}
+
+-- it leaves the store alone
+pub gone_back : {X : Type 0} (a d e : State) (x : X) → CommitsNothing a d → GoesBack {E = Error} d e (Ok x) → LeavesAlone a e
+gone_back a d e x p q = record {
+  survives = survives_then a d e _ _ _ (λ _ db none. none) (λ _ db none. none) p.survives q.commits.survives;
+  autocommit = λ clean. (q.back clean).1;
+  same = λ clean is_open.
+      let back = q.back clean in
+      let was = (q.commits.kept clean).was_open is_open in
+      let kept = p.kept (earlier d e _ q.commits.survives clean) in
+      (kept.was_open was, back.3 ∙ kept.committed was, back.2 ∙ sym back.3);
+}
+
+-- what is held stays, and what is known then is right of it
+pub seen_back : {X Y W : Type 0} (m n : Option Meta) (f : Holding → Holding) (a b d e : State) (x : X) (y : Y) (w : W) → ((z : Holding) → f z ≡ z)
+    → Begins {E = Error} a b (Ok x) → TurnedKnown m n f b d → GoesBack {E = Error} d e (Ok y)
+    → TransactsAs {E = StoreFault} (HeldForKnown m) (HeldForKnown n) a e (Ok w)
+seen_back m n f a b d e x y w same p turned q =
+    let nothing = nothing_for a b d x p turned.stays in
+    let whole = nothing_then a d e nothing q.commits in
+    record {
+      survives = survives_weaker a e _ _ (λ _ db none. absurd none) whole.survives;
+      kept = tt;
+      done = λ clean z at.
+          let back = q.back clean in
+          let mid = earlier d e _ q.commits.survives clean in
+          let was = (q.commits.kept clean).was_open back.0 in
+          let is = back.2 ∙ (nothing.kept mid).committed was ∙ at.committed in
+          let inside = turned.turns mid z (begun_for m a b x p (earlier b d _ turned.stays.survives mid) z at) in
+          record {
+            is_open = back.0;
+            autocommit = back.1;
+            holds = (subst (HeldFor z) (sym is) at.holds.0, subst (λ (u : Holding). Knows n (rowed u.tree)) (same z) inside.holds.1);
+            committed = back.3 ∙ sym back.2;
+          };
+    }
+
+-- what committed nothing and failed
+pub failed_nothing : {X : Type 0} (m n : Option Meta) (a b : State) (f : StoreFault) → CommitsNothing a b
+    → TransactsAs {X = X} (HeldForKnown m) (HeldForKnown n) a b (Err f)
+failed_nothing m n a b f p =
+    record { survives = survives_weaker a b _ _ (λ _ db none. absurd none) p.survives; kept = λ clean z at. p.kept clean; done = tt }
+
+pub open_back : {X Y : Type 0} (a d e : State) (x : X) (y : Y) → CommitsNothing a d → GoesBack {E = Error} d e (Ok x) → StaysOpen {E = StoreFault} a e (Ok y)
+open_back a d e x y p q = record {
+  was = λ clean is_open. ((nothing_then a d e p q.commits).kept clean).was_open is_open;
+  still = λ clean was. (q.back clean).0;
+}
+
+pub open_nothing : {X : Type 0} (a b : State) (f : StoreFault) → CommitsNothing a b → StaysOpen {X = X} a b (Err f)
+open_nothing a b f p = record { was = λ clean is_open. (p.kept clean).was_open is_open; still = tt }
+
+-- facts within it hold after it
+pub told_back : {X Y : Type 0} (m : Option Meta) (P : Holding → Type 0) (a b d e : State) (x : X) (y : Y) → Begins {E = Error} a b (Ok x) → Stays b d
+    → (HasCleanDisk d → (z : Holding) → InsideKnown m z b → P z) → GoesBack {E = Error} d e (Ok y) → ReportsKnown m a e P
+told_back m P a b d e x y p keeps told q clean z at =
+    let last = earlier d e _ q.commits.survives clean in
+    told last z (begun_for m a b x p (earlier b d _ keeps.survives last) z at)
+
+-- ---- what leaves the store alone
+
+pub alone_once : {X E : Type 0} (a b : State) (r : Result X E) → LeavesAlone a b → CommitsOnce a b r
+alone_once a b (Ok x) p = record { trees = b.now.trees; survives = survives_weaker a b _ _ (λ _ db none. absurd none) p.survives; made = λ clean. refl }
+alone_once a b (Err f) p = record { trees = b.now.trees; survives = survives_weaker a b _ _ (λ _ db none. absurd none) p.survives; made = tt }
+
+-- a rollback after a call that committed nothing serves what is held
+pub serves_nothing : {X : Type 0} (m n : Option Meta) (a b : State) (f : StoreFault) → ServesAs {X = X} (HeldForKnown m) (HeldForKnown n) a b (Err f)
+    → ServesAs {X = X} (HeldForKnown m) (HeldForKnown None) a b (Err f)
+serves_nothing m n a b f p = serves_forgot m n (λ y. y) a b f p
+
+-- what is made, in other words
+pub serves_as : {X Y : Type 0} (m n : Option Meta) (f g : Holding → Holding) (a b : State) (x : X) (y : Y) → ((z : Holding) → f z ≡ g z)
+    → ServesAs {E = StoreFault} (HeldForKnown m) (λ z. HeldForKnown n (f z)) a b (Ok x)
+    → ServesAs {E = StoreFault} (HeldForKnown m) (λ z. HeldForKnown n (g z)) a b (Ok y)
+serves_as m n f g a b x y same p = record {
+  survives = survives_weaker a b _ _ (λ _ db left z at. subst (λ (u : Holding). LeftAs (HeldForKnown n u) db) (same z) (left z at)) p.survives;
+  kept = tt;
+  done = λ clean z at. subst (λ (u : Holding). RestsAs (HeldForKnown n u) b) (same z) (p.done clean z at);
+}
+
+pub fails_as : {X Y : Type 0} (m n : Option Meta) (f g : Holding → Holding) (a b : State) (h : StoreFault) → ((z : Holding) → f z ≡ g z)
+    → ServesAs {X = X} (HeldForKnown m) (λ z. HeldForKnown n (f z)) a b (Err h) → ServesAs {X = Y} (HeldForKnown m) (λ z. HeldForKnown n (g z)) a b (Err h)
+fails_as m n f g a b h same p = record {
+  survives = survives_weaker a b _ _ (λ _ db left z at. subst (λ (u : Holding). LeftAs (HeldForKnown n u) db) (same z) (left z at)) p.survives;
   kept = p.kept;
   done = tt;
 }

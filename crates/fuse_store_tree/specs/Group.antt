@@ -1,8 +1,9 @@
 -- The effect of a group, and its answers (defined by this project).
-use Rattle.std.specs.Prelude.{◌≡◌, ◌<◌, ◌^◌, ◌+◌, ℕ, true, false, List, [], ◌∷◌, Option, Some, None}
+use Rattle.std.specs.Prelude.{◌≡◌, ◌<◌, ◌^◌, ◌+◌, ℕ, Bool, true, false, if◌then◌else◌, List, [], ◌∷◌, Option, Some, None}
+use Rattle.fuse_request.specs.Opcodes.{Service}
 use Rattle.fuse_answer.specs.Said.{Said}
 use Rattle.fuse_tree.specs.Do.{done}
-use Rattle.fuse_keeper.specs.History.{Entry, entry_id}
+use Rattle.fuse_keeper.specs.History.{Entry, entry_id, is_seen, kept_of}
 use Rattle.fuse_keeper.specs.declared.keeper.Done.{Done}
 use Rattle.fuse_store_tables.specs.Content.{kept_key, put_by, without_by}
 use Rattle.fuse_store_tree.specs.Store.{records_of}
@@ -67,25 +68,44 @@ abbrev pub taken_by : Option Said → ℕ → Entry → Holding → Taken
 taken_by (Some known) lot e y = record { holding = y; done = done_again known }
 taken_by None lot e y = record { holding = acted_on lot e y; done = done_newly (said_of e y) }
 
-abbrev pub taken : ℕ → Entry → Holding → Taken
-taken lot e y = taken_by (records_of y.kept (entry_id e)) lot e y
+-- a seen entry looks for no record and leaves all as it is
+abbrev pub taken_if : Bool → ℕ → Entry → Holding → Taken
+taken_if true lot e y = record { holding = y; done = done_newly (said_of e y) }
+taken_if false lot e y = taken_by (records_of y.kept (entry_id e)) lot e y
+
+abbrev pub taken : Service → ℕ → Entry → Holding → Taken
+taken V lot e y = taken_if (is_seen V e) lot e y
 
 -- ---- a group
 
-abbrev pub with_group : ℕ → List Entry → Holding → Holding
-with_group lot [] y = y
-with_group lot (e ∷ es) y = with_group lot es (taken lot e y).holding
+abbrev pub with_group : Service → ℕ → List Entry → Holding → Holding
+with_group V lot [] y = y
+with_group V lot (e ∷ es) y = with_group V lot es (taken V lot e y).holding
 
-abbrev pub dones_of : ℕ → List Entry → Holding → List Done
-dones_of lot [] y = []
-dones_of lot (e ∷ es) y = (taken lot e y).done ∷ dones_of lot es (taken lot e y).holding
+abbrev pub dones_of : Service → ℕ → List Entry → Holding → List Done
+dones_of V lot [] y = []
+dones_of V lot (e ∷ es) y = (taken V lot e y).done ∷ dones_of V lot es (taken V lot e y).holding
 
--- a whole call: settled records are deleted, a lot number is allocated, the group is replayed or executed
+-- a transaction: settled records are deleted, a lot number is allocated, the group is replayed, executed or seen
 abbrev pub prepared : Option ℕ → List ℕ → Holding → Holding
 prepared lot settled y = with_lot_for lot (without_settled settled y)
 
-abbrev pub performed : Option ℕ → List ℕ → List Entry → Holding → Holding
-performed lot settled es y = with_group (lot_for lot y) es (prepared lot settled y)
+abbrev pub transacted : Service → Option ℕ → List ℕ → List Entry → Holding → Holding
+transacted V lot settled es y = with_group V (lot_for lot y) es (prepared lot settled y)
 
-abbrev pub all_dones : Option ℕ → List ℕ → List Entry → Holding → List Done
-all_dones lot settled es y = dones_of (lot_for lot y) es (prepared lot settled y)
+-- nothing is to be kept: there is no kept entry, and no settled id
+abbrev pub keeps_nothing : List Entry → List ℕ → Bool
+keeps_nothing [] [] = true
+keeps_nothing [] (id ∷ ids) = false
+keeps_nothing (e ∷ es) settled = false
+
+-- a whole call: where nothing is to be kept, nothing changes
+abbrev pub performed : Service → Option ℕ → List ℕ → List Entry → Holding → Holding
+performed V lot settled es y = if keeps_nothing (kept_of V es) settled then y else transacted V lot settled es y
+
+-- the lot of this opening after it
+abbrev pub lot_after : Service → Option ℕ → List ℕ → List Entry → Holding → Option ℕ
+lot_after V lot settled es y = if keeps_nothing (kept_of V es) settled then lot else Some (lot_for lot y)
+
+abbrev pub all_dones : Service → Option ℕ → List ℕ → List Entry → Holding → List Done
+all_dones V lot settled es y = dones_of V (lot_for lot y) es (prepared lot settled y)

@@ -22,8 +22,8 @@ use fuse_wire::Moment;
 use sqlite::Alter;
 use std::alloc::Global;
 
-// The fault of a request without a plan.
-fn fault_of_plan(fault: PlanFault, looked: Option<StoreFault>) -> StoreFault
+/// The fault of a request without a plan.
+pub(crate) fn fault_of_plan(fault: PlanFault, looked: Option<StoreFault>) -> StoreFault
     ensures { result ≡ why_no_plan fault looked }
 {
     match fault {

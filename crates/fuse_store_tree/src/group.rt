@@ -13,30 +13,40 @@ ghost use Rattle.fuse_store_tree.specs.inner.Changing.{InsideFor, Turned, IsSure
 ghost use Rattle.fuse_store_tree.specs.inner.Knowing.{InsideKnown, TurnedKnown};
 ghost use Rattle.fuse_store_tree.specs.inner.Knowing.{IsSureKnown};
 ghost use Rattle.fuse_store_tree.specs.Group.{with_group, dones_of, prepared, lot_for};
-ghost use Rattle.fuse_store_tree.specs.Group.{performed, all_dones};
+ghost use Rattle.fuse_store_tree.specs.Group.{transacted, all_dones};
+ghost use Rattle.fuse_tree.specs.TheTree.{tree_of};
 ghost use Rattle.fuse_store_tables.specs.Moves.{Stays};
 
 use crate::look::TableLook;
 use crate::lots::take_lot;
 use crate::request::take_one;
 use crate::settled_ids::settle;
+use fuse_init::Profile;
 use fuse_keeper::{Done, StoreFault};
 use fuse_request::Request;
 use fuse_wire::{Id, Moment};
 use sqlite::{Alter, Connection};
 use std::alloc::Global;
 
-/// The answers of a group, and the lot of its records.
+/// The answers of a group, and the lot of this opening then.
 #[derive(Drop)]
 pub struct Performed {
-    pub lot: u64,
+    pub lot: Option<u64>,
     pub dones: Vec<Done>,
 }
 
-// Replays or executes the requests of a group, one after the other.
-fn take_all<S: Alter>(
+/// The answers of a group whose records went under this lot.
+#[derive(Drop)]
+pub(crate) struct Transacted {
+    pub(crate) lot: u64,
+    pub(crate) dones: Vec<Done>,
+}
+
+/// Takes the requests of a group, one after the other: kept ones are replayed or executed.
+pub(crate) fn take_all<S: Alter>(
     alloc: Global,
     look: &mut TableLook<S>,
+    profile: Profile,
     lot: u64,
     group: &[(Request<'_>, Moment)],
 ) -> Result<Vec<Done>, StoreFault>
@@ -44,11 +54,11 @@ fn take_all<S: Alter>(
     requires lot { lot < 2 ^ 62 }
     ensures count { IfOk result (λ dones. length dones.items ≡ length group.now) }
     ensures turned { OnOk result (TurnedKnown look.old.known look.new.known
-        (with_group lot (entries_of group.now)) (state S.Store look.old.conn)
+        (with_group (tree_of profile).service lot (entries_of group.now)) (state S.Store look.old.conn)
         (state S.Store look.new.conn)) }
     ensures dones { HasCleanDisk (state S.Store look.new.conn) → IfOk result (λ dones.
         (y : Holding) → InsideKnown look.old.known y (state S.Store look.old.conn)
-        → dones.items ≡ dones_of lot (entries_of group.now) y) }
+        → dones.items ≡ dones_of (tree_of profile).service lot (entries_of group.now) y) }
     ensures fails { OnErr result (Stays (state S.Store look.old.conn)
         (state S.Store look.new.conn)) }
     ensures ready { as_look_fault look.new.fault ≡ None }
@@ -58,7 +68,7 @@ fn take_all<S: Alter>(
 {
     let mut dones = Vec::new(alloc);
     for one in group {
-        let done = match take_one(alloc, look, lot, &one.0, one.1) {
+        let done = match take_one(alloc, look, profile, lot, &one.0, one.1) {
             Ok(done) => done,
             Err(fault) => return Err(fault),
         };
@@ -90,26 +100,28 @@ fn prepare<S: Alter>(
 }
 
 /// Performs a group in the open transaction: deletes settled records, allocates this opening's lot
-/// number, then replays or executes each request.
+/// number, then takes each request.
 pub(crate) fn perform_in<S: Alter>(
     alloc: Global,
     look: &mut TableLook<S>,
+    profile: Profile,
     lot: Option<u64>,
     group: &[(Request<'_>, Moment)],
     settled: &[Id],
-) -> Result<Performed, StoreFault>
+) -> Result<Transacted, StoreFault>
     requires ready { as_look_fault look.old.fault ≡ None }
     requires lot { IfSome lot (λ n. n < 2 ^ 62) }
     ensures count { IfOk result (λ p. length p.dones.items ≡ length group.now) }
     ensures turned { OnOk result (TurnedKnown look.old.known look.new.known
-        (performed lot (ids_of settled.now) (entries_of group.now))
+        (transacted (tree_of profile).service lot (ids_of settled.now) (entries_of group.now))
         (state S.Store look.old.conn) (state S.Store look.new.conn)) }
     ensures lot { HasCleanDisk (state S.Store look.new.conn) → IfOk result (λ p. (y : Holding)
         → InsideFor y (state S.Store look.old.conn) → p.lot ≡ lot_for lot y) }
     ensures low { IfOk result (λ p. p.lot < 2 ^ 62) }
     ensures dones { HasCleanDisk (state S.Store look.new.conn) → IfOk result (λ p. (y : Holding)
         → InsideKnown look.old.known y (state S.Store look.old.conn)
-        → p.dones.items ≡ all_dones lot (ids_of settled.now) (entries_of group.now) y) }
+        → p.dones.items ≡ all_dones (tree_of profile).service lot (ids_of settled.now)
+        (entries_of group.now) y) }
     // Nothing is committed, whether it succeeds or not.
     ensures fails { OnErr result (Stays (state S.Store look.old.conn)
         (state S.Store look.new.conn)) }
@@ -123,8 +135,8 @@ pub(crate) fn perform_in<S: Alter>(
         Ok(lot) => lot,
         Err(fault) => return Err(fault),
     };
-    match take_all(alloc, look, lot, group) {
-        Ok(dones) => Ok(Performed { lot, dones }),
+    match take_all(alloc, look, profile, lot, group) {
+        Ok(dones) => Ok(Transacted { lot, dones }),
         Err(fault) => Err(fault),
     }
 }

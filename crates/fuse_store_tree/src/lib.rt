@@ -20,6 +20,7 @@ mod reads;
 mod removal;
 mod request;
 mod rows;
+mod seeing;
 mod settled_ids;
 mod transaction;
 mod truncation;

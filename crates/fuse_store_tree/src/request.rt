@@ -1,9 +1,10 @@
 // One request of a group, within the open transaction.
-ghost use Rattle.std.specs.Prelude.{◌≡◌, ◌<◌, ◌^◌, None, IfOk, IfErr, OnOk, OnErr};
+ghost use Rattle.std.specs.Prelude.{◌≡◌, ◌<◌, ◌^◌, false, None, IfOk, IfErr, OnOk, OnErr};
 ghost use Rattle.sqlite.specs.State.{HasCleanDisk};
 ghost use Rattle.sqlite.specs.Held.{state};
 ghost use Rattle.fuse_answer.specs.Said.{FitsAnswer};
 ghost use Rattle.fuse_keeper.specs.Group.{entry_of};
+ghost use Rattle.fuse_keeper.specs.History.{is_seen};
 ghost use Rattle.fuse_store_tables.specs.Faults.{IsOutside, IsPlain};
 ghost use Rattle.fuse_store_tables.specs.inner.Performing.{IsSure};
 ghost use Rattle.fuse_store_tree.specs.Looking.{as_look_fault};
@@ -13,16 +14,20 @@ ghost use Rattle.fuse_store_tree.specs.inner.Changing.{Turned};
 ghost use Rattle.fuse_store_tree.specs.inner.Knowing.{InsideKnown, TurnedKnown};
 ghost use Rattle.fuse_store_tree.specs.Group.{acted_on, done_newly, taken, with_record};
 ghost use Rattle.fuse_store_tree.specs.Group.{said_of};
+ghost use Rattle.fuse_tree.specs.TheTree.{tree_of};
 ghost use Rattle.fuse_store_tables.specs.Moves.{Stays};
 
-use crate::action::act;
+use crate::action::{act, fault_of_plan};
 use crate::look::TableLook;
 use crate::rows::find_answer;
 use crate::updates::narrow;
 use fuse_answer::Answer;
+use fuse_init::Profile;
 use fuse_keeper::{Done, StoreFault};
+use fuse_plan::plan;
 use fuse_request::Request;
 use fuse_store_tables::insert_kept;
+use fuse_tree::sees_requests;
 use fuse_wire::{Id, Moment};
 use sqlite::{Alter, Connection};
 use std::alloc::Global;
@@ -94,22 +99,55 @@ fn act_and_record<S: Alter>(
     }
 }
 
-/// Replays or executes one request: a request whose id has a record is a repeat.
-pub(crate) fn take_one<S: Alter>(
+// Sees a request: it looks for no record and leaves none, and its plan has no changes.
+fn see_one<S: Alter>(
     alloc: Global,
     look: &mut TableLook<S>,
+    request: &Request<'_>,
+    now: Moment,
+) -> Result<Done, StoreFault>
+    requires ready { as_look_fault look.old.fault ≡ None }
+    ensures turned { OnOk result (TurnedKnown look.old.known look.new.known (λ y. y)
+        (state S.Store look.old.conn) (state S.Store look.new.conn)) }
+    ensures done { HasCleanDisk (state S.Store look.new.conn) → IfOk result (λ done.
+        (y : Holding) → InsideKnown look.old.known y (state S.Store look.old.conn)
+        → done ≡ done_newly (said_of (entry_of (request.now, now)) y)) }
+    ensures fails { OnErr result (Stays (state S.Store look.old.conn)
+        (state S.Store look.new.conn)) }
+    ensures ready { as_look_fault look.new.fault ≡ None }
+    ensures fault { IsSure (HeldForKnown look.old.known) (state S.Store look.old.conn)
+        (state S.Store look.new.conn) result }
+    ensures plain { IfErr result IsPlain }
+{
+    // The look for a node of the request before may be out of date.
+    look.last = None;
+    match plan(alloc, look, request, now) {
+        Ok(planned) => Ok(Done {
+            answer: planned.answer,
+            repeated: false,
+        }),
+        Err(fault) => Err(fault_of_plan(fault, look.take_fault())),
+    }
+}
+
+// Replays or executes a request that is kept.
+fn keep_one<S: Alter>(
+    alloc: Global,
+    look: &mut TableLook<S>,
+    profile: Profile,
     lot: u64,
     request: &Request<'_>,
     now: Moment,
 ) -> Result<Done, StoreFault>
     requires ready { as_look_fault look.old.fault ≡ None }
     requires lot { lot < 2 ^ 62 }
+    requires kept { is_seen (tree_of profile).service (entry_of (request.now, now)) ≡ false }
     ensures turned { OnOk result (TurnedKnown look.old.known look.new.known
-        (λ y. (taken lot (entry_of (request.now, now)) y).holding)
+        (λ y. (taken (tree_of profile).service lot (entry_of (request.now, now)) y).holding)
         (state S.Store look.old.conn) (state S.Store look.new.conn)) }
     ensures done { HasCleanDisk (state S.Store look.new.conn) → IfOk result (λ done.
         (y : Holding) → InsideKnown look.old.known y (state S.Store look.old.conn)
-        → done ≡ (taken lot (entry_of (request.now, now)) y).done) }
+        → done ≡ (taken (tree_of profile).service lot (entry_of (request.now, now)) y).done) }
     ensures fails { OnErr result (Stays (state S.Store look.old.conn)
         (state S.Store look.new.conn)) }
     ensures ready { as_look_fault look.new.fault ≡ None }
@@ -127,5 +165,36 @@ pub(crate) fn take_one<S: Alter>(
             repeated: true,
         }),
         None => act_and_record(alloc, look, lot, request, now),
+    }
+}
+
+/// Takes one request: a kept one whose id has a record is a repeat.
+pub(crate) fn take_one<S: Alter>(
+    alloc: Global,
+    look: &mut TableLook<S>,
+    profile: Profile,
+    lot: u64,
+    request: &Request<'_>,
+    now: Moment,
+) -> Result<Done, StoreFault>
+    requires ready { as_look_fault look.old.fault ≡ None }
+    requires lot { lot < 2 ^ 62 }
+    ensures turned { OnOk result (TurnedKnown look.old.known look.new.known
+        (λ y. (taken (tree_of profile).service lot (entry_of (request.now, now)) y).holding)
+        (state S.Store look.old.conn) (state S.Store look.new.conn)) }
+    ensures done { HasCleanDisk (state S.Store look.new.conn) → IfOk result (λ done.
+        (y : Holding) → InsideKnown look.old.known y (state S.Store look.old.conn)
+        → done ≡ (taken (tree_of profile).service lot (entry_of (request.now, now)) y).done) }
+    ensures fails { OnErr result (Stays (state S.Store look.old.conn)
+        (state S.Store look.new.conn)) }
+    ensures ready { as_look_fault look.new.fault ≡ None }
+    ensures fault { IsSure (HeldForKnown look.old.known) (state S.Store look.old.conn)
+        (state S.Store look.new.conn) result }
+    ensures plain { IfErr result IsPlain }
+{
+    if sees_requests(profile, request.op.opcode()) {
+        see_one(alloc, look, request, now)
+    } else {
+        keep_one(alloc, look, profile, lot, request, now)
     }
 }

@@ -11,7 +11,7 @@ use Rattle.fuse_answer.specs.Bodies.{entry_bytes, attr_out_bytes}
 use Rattle.fuse_init.specs.Agree.{agree}
 use Rattle.fuse_rows.specs.declared.rows.EntryRow.{EntryRow}
 use Rattle.fuse_tree.specs.State.{State, Node, profile_of, node_at}
-use Rattle.fuse_tree.specs.Keeping.{agreement_of, keeps, valid_of, attr_valid_of, absent_entry}
+use Rattle.fuse_tree.specs.Keeping.{agreement_of, keeps, valid_of, absent_entry}
 use Rattle.fuse_rows.specs.Rows.{entry_at}
 use Rattle.fuse_tree.specs.Done.{Done, refuse, refuse_by, name_checks, answer, attr_of, entry_out_of, attr_out_of}
 use Rattle.fuse_tree.specs.Making.{asker, asked_node, mkdir, mknod}
@@ -44,7 +44,7 @@ lookup s name n = refuse_by s (name_checks s name n) (lookup_entry s (entry_at s
 -- ---- GETATTR
 
 abbrev pub getattr : State → Node → Done
-getattr s n = answer s (attr_out_bytes (attr_out_of (attr_valid_of (agreement_of s) n.number) (attr_of s n)))
+getattr s n = answer s (attr_out_bytes (attr_out_of (valid_of (agreement_of s)) (attr_of s n)))
 
 -- ---- all requests
 

@@ -7,7 +7,7 @@ use Rattle.fuse_answer.specs.Said.{Said}
 use Rattle.fuse_answer.specs.declared.records.Attr.{Attr}
 use Rattle.fuse_answer.specs.declared.records.EntryOut.{EntryOut}
 use Rattle.fuse_answer.specs.declared.records.AttrOut.{AttrOut}
-use Rattle.fuse_rows.specs.Bounds.{block_bytes, sector_bytes}
+use Rattle.fuse_rows.specs.Bounds.{block_bytes, sector_bytes, valid_seconds}
 use Rattle.fuse_tree.specs.Checks.{Check, Where, Part, first_error}
 use Rattle.fuse_tree.specs.State.{State, Node, links_of, is_dir, is_named, name_tests}
 
@@ -59,22 +59,27 @@ attr_of s n = record {
   flags = 0;
 }
 
--- an entry's answer, valid for so many seconds
+-- for how many seconds the attributes of a node of this mode are valid, where its entry is valid for so many: those of a directory for the
+-- shorter time, since an answer of READDIRPLUS may bring older ones after a change
+abbrev pub attr_valid_of : ℕ → ℕ → ℕ
+attr_valid_of valid mode = if is_dir mode then valid_seconds else valid
+
+-- an entry's answer, where the entry is valid for so many seconds
 abbrev pub entry_out_of : ℕ → Attr → EntryOut
 entry_out_of valid attr =
     record {
       nodeid = attr.ino;
       generation = 0;
       entry_valid = valid;
-      attr_valid = valid;
+      attr_valid = attr_valid_of valid attr.mode;
       entry_valid_nsec = 0;
       attr_valid_nsec = 0;
       attr = attr;
     }
 
--- an attribute answer, valid for so many seconds
+-- an attribute answer, where an entry is valid for so many seconds
 abbrev pub attr_out_of : ℕ → Attr → AttrOut
-attr_out_of valid attr = record { attr_valid = valid; attr_valid_nsec = 0; attr = attr }
+attr_out_of valid attr = record { attr_valid = attr_valid_of valid attr.mode; attr_valid_nsec = 0; attr = attr }
 
 -- ---- times
 

@@ -1,9 +1,9 @@
 -- How long a kernel may keep what it is answered (defined by this project).
-use Rattle.std.specs.Prelude.{◌==◌, ℕ, Bool, if◌then◌else◌}
+use Rattle.std.specs.Prelude.{ℕ, Bool, if◌then◌else◌}
 use Rattle.fuse_answer.specs.declared.records.Attr.{Attr}
 use Rattle.fuse_answer.specs.declared.records.EntryOut.{EntryOut}
-use Rattle.fuse_init.specs.Profile.{keeps_for}
-use Rattle.fuse_rows.specs.Bounds.{fuse_root_id, valid_seconds, kept_seconds}
+use Rattle.fuse_init.specs.Profile.{terms}
+use Rattle.fuse_rows.specs.Bounds.{valid_seconds, kept_seconds, absent_seconds}
 use Rattle.fuse_tree.specs.declared.agreement.Agreement.{Agreement}
 use Rattle.fuse_tree.specs.State.{State, profile_of}
 use Rattle.fuse_rows.specs.Rows.{Rows, profile_at}
@@ -18,17 +18,13 @@ agreement_at rows = record { profile = profile_at rows; settings = rows.settings
 
 -- the kernel keeps names and their absence
 abbrev pub keeps : Agreement → Bool
-keeps a = keeps_for a.profile a.settings
+keeps a = (terms a.profile).keeps
 
 -- for how many seconds it may keep an entry
 abbrev pub valid_of : Agreement → ℕ
 valid_of a = if keeps a then kept_seconds else valid_seconds
 
--- and the attributes of a node that it asks for: those of the root are asked for anew
-abbrev pub attr_valid_of : Agreement → ℕ → ℕ
-attr_valid_of a number = if number == fuse_root_id then valid_seconds else valid_of a
-
--- the absence of a name, which the kernel keeps
+-- the absence of a name: a change whose request was dropped with its caller may have made it, so the kernel keeps it for a short time
 abbrev pub no_attr : Attr
 no_attr = record {
   ino = 0;
@@ -50,4 +46,4 @@ no_attr = record {
 }
 
 abbrev pub absent_entry : EntryOut
-absent_entry = record { nodeid = 0; generation = 0; entry_valid = kept_seconds; attr_valid = 0; entry_valid_nsec = 0; attr_valid_nsec = 0; attr = no_attr }
+absent_entry = record { nodeid = 0; generation = 0; entry_valid = absent_seconds; attr_valid = 0; entry_valid_nsec = 0; attr_valid_nsec = 0; attr = no_attr }

@@ -1,11 +1,12 @@
 -- The laws on requests, new stores and rows (defined by this project).
-use Rattle.std.specs.Prelude.{◌≡◌, ◌<◌, ℕ}
+use Rattle.std.specs.Prelude.{◌≡◌, ◌<◌, ℕ, true}
 use Rattle.fuse_wire.specs.declared.moment.Moment.{Moment}
 use Rattle.fuse_request.specs.Act.{Asked, opcode_of}
 use Rattle.fuse_request.specs.AskedSize.{size_asked}
 use Rattle.fuse_answer.specs.Replies.{IsRead}
 use Rattle.fuse_answer.specs.Said.{FitsAnswer}
 use Rattle.fuse_init.specs.declared.profile.Profile.{Profile}
+use Rattle.fuse_init.specs.Profile.{only_looks}
 use Rattle.fuse_rows.specs.Bounds.{capacity_end}
 use Rattle.fuse_rows.specs.declared.origin.Origin.{Origin}
 use Rattle.fuse_tree.specs.State.{State, Tree, new_store}
@@ -31,3 +32,7 @@ AnswersFit = (s : State) (request : Asked) (now : Moment) → FitsAnswer (done s
 -- an answer in a tree is read as one to the request
 abbrev pub AnswersAreRead : Type 0
 AnswersAreRead = (s : State) (request : Asked) (now : Moment) → Tree s → IsRead (opcode_of request.act) (size_asked request.act) (done s request now).said
+
+-- requests that only look change nothing
+abbrev pub LooksStay : Type 0
+LooksStay = (s : State) (request : Asked) (now : Moment) → only_looks (opcode_of request.act) ≡ true → (done s request now).state ≡ s

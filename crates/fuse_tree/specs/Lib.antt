@@ -19,6 +19,7 @@ pub mod Renaming
 pub mod Opening
 pub mod Listing
 pub mod Statfs
+pub mod Syncing
 pub mod Linking
 pub mod Symlinking
 pub mod Creating

@@ -13,7 +13,7 @@ use Rattle.fuse_tree.specs.Modes.{type_unit}
 use Rattle.fuse_tree.specs.State.{State, Node, terms_of, is_dir, is_file}
 use Rattle.fuse_tree.specs.Space.{room_of, has_room}
 use Rattle.fuse_rows.specs.Rows.{sized}
-use Rattle.fuse_tree.specs.Keeping.{agreement_of, attr_valid_of}
+use Rattle.fuse_tree.specs.Keeping.{agreement_of, valid_of}
 use Rattle.fuse_tree.specs.Done.{Done, refuse, refuse_for, answer, attr_of, attr_out_of}
 use Rattle.fuse_tree.specs.Changing.{with_changed}
 
@@ -87,7 +87,7 @@ abbrev pub with_set : State → SetattrIn → Moment → ℕ → State
 with_set s set now number = with_changed number (set_attributes set now) s
 
 abbrev pub set_answer : State → SetattrIn → Moment → Node → List ℕ
-set_answer s set now n = attr_out_bytes (attr_out_of (attr_valid_of (agreement_of s) n.number) (attr_of (with_set s set now n.number) (set_attributes set now n)))
+set_answer s set now n = attr_out_bytes (attr_out_of (valid_of (agreement_of s)) (attr_of (with_set s set now n.number) (set_attributes set now n)))
 
 -- where there is room for the size
 abbrev pub set_with_room : State → SetattrIn → Moment → Node → Done

@@ -19,4 +19,6 @@ pub use mode::{
 pub use new_node::NewNode;
 pub use rename_mode::RenameMode;
 pub use space::blocks_of;
-pub use terms::{inherits, max_file, max_nodes, open_flags, removes, serves_further};
+pub use terms::{
+    inherits, max_file, max_nodes, open_flags, removes, sees_requests, serves_further,
+};

@@ -58,6 +58,26 @@ pub fn inherits(profile: Profile) -> bool
     }
 }
 
+/// Whether this profile sees the requests of an opcode: they change nothing and leave no record.
+pub fn sees_requests(profile: Profile, number: u32) -> bool
+    ensures { result ≡ (terms profile).seen number }
+{
+    match profile {
+        Profile::Plain => false,
+        Profile::Everyday => {
+            number == opcode::LOOKUP
+                || number == opcode::GETATTR
+                || number == opcode::READLINK
+                || number == opcode::READ
+                || number == opcode::STATFS
+                || number == opcode::FSYNC
+                || number == opcode::READDIR
+                || number == opcode::FSYNCDIR
+                || number == opcode::READDIRPLUS
+        }
+    }
+}
+
 /// Whether this profile serves an opcode that isn't of the protocol's profile.
 pub fn serves_further(profile: Profile, number: u32) -> bool
     ensures { result ≡ (terms profile).further number }
@@ -68,6 +88,8 @@ pub fn serves_further(profile: Profile, number: u32) -> bool
             number == opcode::READLINK
                 || number == opcode::SYMLINK
                 || number == opcode::STATFS
+                || number == opcode::FSYNC
+                || number == opcode::FSYNCDIR
                 || number == opcode::CREATE
                 || number == opcode::READDIRPLUS
         }

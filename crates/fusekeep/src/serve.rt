@@ -1,6 +1,6 @@
 //! The command `serve`: standard input and standard output are a FUSE device.
 use crate::companion::{missing_log, remove_log};
-use fuse_commands::{Begin, CountLine, Ending};
+use fuse_commands::{Begin, CountLine, Ending, shows_seen};
 use fuse_files::{StoreRun, serve_store};
 use fuse_session::{Clock, DevicePort, Fixed, System};
 use fuse_store::StoreKind;
@@ -29,8 +29,8 @@ pub(crate) fn serve_as_asked<S: Start>(
     }
 }
 
-// Serves, and prints the counts. The two sides have no buffers: one read is one message, and one
-// write one answer.
+// Serves, and prints the line of counts that the store's profile has. The two sides have no buffers:
+// one read is one message, and one write one answer.
 fn serve_on_files<S: Start, C: Clock>(
     rt: &HostRuntime,
     file: &str,
@@ -45,13 +45,18 @@ fn serve_on_files<S: Start, C: Clock>(
     let mut port = DevicePort::new(rt.stdin(), rt.stdout());
     let StoreRun {
         ending,
+        profile,
         counts,
         left,
     } = serve_store(alloc, files, &mut port, clock, begin, kind);
-    if let Some(counts) = counts
+    if let Some(profile) = profile
+        && let Some(counts) = counts
         && ending.is_of_stream()
     {
-        let _ = rt.eprintln(CountLine(counts));
+        let _ = rt.eprintln(CountLine {
+            counts,
+            shows_seen: shows_seen(profile),
+        });
     }
     if let Some(left) = left {
         remove_log(rt, made, ending);

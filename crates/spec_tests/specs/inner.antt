@@ -6,4 +6,3 @@ pub mod Hex
 pub mod Links
 pub mod WireCases
 pub mod TreeInLists
-pub mod OnlySettings

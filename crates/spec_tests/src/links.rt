@@ -58,6 +58,10 @@ impl FileSystem for Links {
         opcode == READLINK || opcode == STATFS
     }
 
+    fn sees(_opcode: u32) -> bool {
+        false
+    }
+
     fn start(_alloc: Global, _now: Moment) -> Result<Links, Memory> {
         Ok(Links)
     }

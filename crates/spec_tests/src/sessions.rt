@@ -10,7 +10,6 @@ use std::alloc::{AllocError, Global};
 
 mod clocks;
 mod devices;
-mod epochs;
 mod everyday;
 mod mounts;
 mod opcodes;

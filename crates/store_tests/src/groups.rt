@@ -1,8 +1,8 @@
 //! Groups that a keeper performs.
 ghost use Rattle.std.specs.Prelude.{◌≡◌, ◌≢◌, ◌≤◌, true, length, All};
 ghost use Rattle.fuse_wire.specs.Ids.{id_of};
-ghost use Rattle.fuse_request.specs.Act.{act, IsKeptFor};
-ghost use Rattle.fuse_request.specs.Opcodes.{no_others};
+ghost use Rattle.fuse_request.specs.Act.{act, IsPerformedFor};
+ghost use Rattle.fuse_request.specs.Opcodes.{profile_alone};
 ghost use Rattle.fuse_keeper.specs.Group.{entry_of, HasId};
 ghost use Rattle.fuse_keeper.specs.declared.keeper.TheConstants.{MAX_GROUP as MOST_OF_GROUP};
 ghost use Rattle.fuse_keeper.specs.declared.keeper.TheConstants.{MAX_SETTLED as MOST_SETTLED};
@@ -14,7 +14,7 @@ use fuse_wire::{Id, Moment};
 // Whether a keeper can perform the request: the tests use these kinds.
 fn is_kept(request: &Request<'_>) -> bool
     ensures id { result ≡ true → id_of request.now.header.unique ≢ 0 }
-    ensures kept { result ≡ true → IsKeptFor no_others (act request.now.op) }
+    ensures performed { result ≡ true → IsPerformedFor profile_alone (act request.now.op) }
 {
     if Id::of(request.header.unique).0 == 0 {
         return false;
@@ -38,7 +38,8 @@ fn is_kept(request: &Request<'_>) -> bool
 // Whether a keeper can perform these.
 fn are_kept(group: &[(Request<'_>, Moment)]) -> bool
     ensures ids { result ≡ true → All (λ p. HasId (entry_of p)) group.now }
-    ensures kept { result ≡ true → All (λ p. IsKeptFor no_others (entry_of p).asked.act) group.now }
+    ensures performed { result ≡ true
+        → All (λ p. IsPerformedFor profile_alone (entry_of p).asked.act) group.now }
 {
     for one in group {
         if !is_kept(&one.0) {
@@ -56,7 +57,7 @@ fn ask_all<K: Keeper>(
     requires short { length group.now ≤ MOST_OF_GROUP }
     requires few { length settled.now ≤ MOST_SETTLED }
     requires ids { All (λ p. HasId (entry_of p)) group.now }
-    requires kept { All (λ p. IsKeptFor no_others (entry_of p).asked.act) group.now }
+    requires performed { All (λ p. IsPerformedFor profile_alone (entry_of p).asked.act) group.now }
 {
     keeper.perform(group, settled)
 }

@@ -221,3 +221,49 @@ module _ {F : Type 0} (M : Model) (held : F → M.Rows) where
     medium = λ memory. memory;
     going = rw (closed, going) refl;
   }
+
+  -- ---- a group of seen requests alone, after which its working copy holds what it held
+
+  module _ (old new : TwoCopies F) (committed : new.committed ≡ old.committed) (alike : new.in_doubt ≡ old.in_doubt)
+      (keeps : KeepsHeld (plain_told M held old.working) (plain_told M held new.working)) where
+    pub still_both : (x y : M.Rows) (r q : Records) → (two_told M held old).holds x r → (plain_told M held new.working).holds y q
+        → (two_told M held new).holds y q
+    still_both x y r q so there =
+        let here = keeps x r so.1 in (
+          subst (λ p. (plain_told M held p).holds y q) (sym committed)
+              (there.0 ∙ sym here.0 ∙ so.0.0, λ i. there.1 i ∙ sym (here.1 i) ∙ so.0.1 i),
+          there,
+          alike ∙ so.2,
+        )
+
+    pub seen_performed : (s : M.State) (h : History) (t : List ℕ) (es : List Entry) (dones : List Done) → StandsFor (two_told M held old) s h t
+        → Performed (plain_told M held new.working) s h t es dones → Performed (two_told M held new) s h t es dones
+    seen_performed s h t es dones so does = record {
+      stands = record {
+        rows = does.stands.rows;
+        records = does.stands.records;
+        held = still_both so.rows does.stands.rows so.records does.stands.records so.held does.stands.held;
+        stands = does.stands.stands;
+      };
+      answers = does.answers;
+      repeated = does.repeated;
+    }
+
+    pub seen_taken : (rows : M.Rows) (records others : Records) (es : List Entry) (dones : List Done) → (two_told M held old).holds rows records
+        → HoldsTaken (plain_told M held new.working) rows others es dones → HoldsTaken (two_told M held new) rows others es dones
+    seen_taken rows records others es dones so does = record {
+      rows = does.rows;
+      records = does.records;
+      held = still_both rows does.rows records does.records so does.held;
+      taken = does.taken;
+    }
+
+    pub seen_others : (rows : M.Rows) (records : Records) (settled : List ℕ) (es : List Entry) → (two_told M held old).holds rows records
+        → HoldsOthers (plain_told M held new.working) records settled es → HoldsOthers (two_told M held new) records settled es
+    seen_others rows records settled es so does = record {
+      rows = does.rows;
+      records = does.records;
+      held = still_both rows does.rows records does.records so does.held;
+      rowed = does.rowed;
+      others = does.others;
+    }

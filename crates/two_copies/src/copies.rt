@@ -3,7 +3,7 @@ ghost use Rattle.std.specs.Prelude.{◌≡◌, ◌+◌, ◌^◌, ◌≤◌, ◌�
 ghost use Rattle.std.specs.Prelude.{None, IfOk, IfErr, OnOk, OnErr, is_err};
 ghost use Rattle.fuse_keeper.specs.History.{History};
 ghost use Rattle.fuse_keeper.specs.Stands.{Records, CountsRecords};
-ghost use Rattle.fuse_keeper.specs.Group.{entries_of, HasId, IsKept, ids_of};
+ghost use Rattle.fuse_keeper.specs.Group.{entries_of, HasId, IsPerformed, OnlySees, ids_of};
 ghost use Rattle.fuse_keeper.specs.KeeperState.{StandsFor, IsFirm, Reports, Reopened};
 ghost use Rattle.fuse_keeper.specs.KeeperState.{AnswersNoMore, Called, Looked, Performs};
 ghost use Rattle.fuse_keeper.specs.KeeperState.{ActsOn, KeepsOthers, KeepsLots, LeavesGroup, LeavesActed};
@@ -15,7 +15,7 @@ ghost use Rattle.two_copies.specs.TwoCopies.{FailedAsPlanned, Follows, IsLater, 
 use fuse_answer::Answer;
 use fuse_init::Settings;
 use fuse_keeper::{
-    Done, FileSystem, Keeper, PlainKeeper, Restart, StoreCounts, StoreFault, still_stands,
+    Done, FileSystem, Keeper, PlainKeeper, Restart, StoreCounts, StoreFault, has_kept, still_stands,
 };
 use fuse_request::Request;
 use fuse_wire::{Id, Memory, Moment};
@@ -114,6 +114,15 @@ impl<F: FileSystem> TwoCopies<F> {
     }
 }
 
+// Whether nothing is to be kept.
+fn only_sees<F: FileSystem>(group: &[(Request<'_>, Moment)], settled: &[Id]) -> bool
+    ensures some { result ≡ true → OnlySees F.model.service (entries_of group.now) (ids_of settled.now) }
+    ensures none { result ≡ false
+        → ¬ (OnlySees F.model.service (entries_of group.now) (ids_of settled.now)) }
+{
+    settled.is_empty() && !has_kept::<PlainKeeper<F>>(group)
+}
+
 impl<F: FileSystem> Keeper for TwoCopies<F> {
     ghost use Rattle.std.proofs.Common.{refl, sym, ◌∙◌, arith};
     ghost use Rattle.fuse_keeper.specs.declared.keeper.TheConstants.{MAX_GROUP as max_group};
@@ -131,6 +140,10 @@ impl<F: FileSystem> Keeper for TwoCopies<F> {
         F::serves(opcode)
     }
 
+    fn sees(opcode: u32) -> bool {
+        F::sees(opcode)
+    }
+
     /// Where the commit is refused the group is in the working copy alone: a crash then loses it.
     fn perform(
         &mut self,
@@ -140,12 +153,17 @@ impl<F: FileSystem> Keeper for TwoCopies<F> {
         requires short { length group.now ≤ max_group }
         requires few { length settled.now ≤ max_settled }
         requires named { All HasId (entries_of group.now) }
-        requires kept { All (IsKept F.model) (entries_of group.now) }
+        requires performed { All (IsPerformed F.model) (entries_of group.now) }
         ensures count { IfOk result (λ dones. length dones.items ≡ length group.now) }
         ensures called { Called (two_told F.model F.held self.old) (two_told F.model F.held self.new) result }
         ensures may { AnswersNoMore (two_told F.model F.held self.old) (two_told F.model F.held self.new) }
         ensures ok { IfOk result (λ dones. Performs (two_told F.model F.held self.old)
             (two_told F.model F.held self.new) (ids_of settled.now) (entries_of group.now) dones.items) }
+        // Where nothing is to be kept, no commit is tried.
+        ensures looked { OnlySees F.model.service (entries_of group.now) (ids_of settled.now)
+            → Looked (two_told F.model F.held self.old) (two_told F.model F.held self.new) result }
+        ensures unplanned { OnlySees F.model.service (entries_of group.now) (ids_of settled.now)
+            → plan_of self.new ≡ plan_of self.old }
         ensures acts { IfOk result (λ dones. ActsOn (two_told F.model F.held self.old)
             (two_told F.model F.held self.new) (ids_of settled.now) (entries_of group.now) dones.items) }
         ensures others { OnOk result (KeepsOthers (two_told F.model F.held self.old)
@@ -164,7 +182,8 @@ impl<F: FileSystem> Keeper for TwoCopies<F> {
         // Its working copy is asked, unless the last commit failed.
         ensures asks { (two_told F.model F.held self.old).is_clean → WorkingAsked F.model F.held
             self.old self.new (ids_of settled.now) (entries_of group.now) }
-        ensures follows { Follows F.model F.held self.old self.new result }
+        ensures follows { ¬ (OnlySees F.model.service (entries_of group.now) (ids_of settled.now))
+            → Follows F.model F.held self.old self.new result }
         // Where it stands, a fault is out of memory, or that of a commit that was planned to fail.
         ensures by_plan { (s : F.model.State) (h : History) (t : List ℕ)
             → StandsFor (two_told F.model F.held self.old) s h t
@@ -177,6 +196,9 @@ impl<F: FileSystem> Keeper for TwoCopies<F> {
         }
         match self.working.perform(group, settled) {
             Ok(dones) => {
+                if only_sees::<F>(group, settled) {
+                    return Ok(dones);
+                }
                 self.commit()?;
                 Ok(dones)
             }

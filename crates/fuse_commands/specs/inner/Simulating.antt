@@ -3,7 +3,7 @@ use Rattle.std.specs.Prelude.{◌≡◌, ℕ, List, [], map, length, Option}
 use Rattle.fuse_keeper.specs.Model.{Model}
 use Rattle.fuse_keeper.specs.KeeperState.{KeeperState, IsFirm}
 use Rattle.fuse_sim.specs.declared.event.Event.{Event}
-use Rattle.fuse_sim.specs.Driving.{bytes_given, NoneReused, told_in, performed_in, StandsIn, Opened}
+use Rattle.fuse_sim.specs.Driving.{outcomes_of, bytes_given, NoneReused, told_in, performed_in, StandsIn, Opened}
 use Rattle.fuse_sim.specs.HandedOn.{performances}
 use Rattle.fuse_sim.specs.Twice.{Seen}
 use Rattle.fuse_commands.specs.declared.ending.Ending.{Ending}
@@ -11,12 +11,12 @@ use Rattle.fuse_commands.specs.declared.ending.Ending.TheVariants.{Done}
 use Rattle.fuse_commands.specs.declared.simulate.Simulation.{Simulation}
 use Rattle.fuse_commands.specs.Scripts.{lines_of, WritesAll}
 pub use Rattle.fuse_commands.specs.Simulating.{SimulatedFrom}
-use Rattle.fuse_commands.specs.Simulating.{state_after, outcomes_of, StandsFromStart, BeginSo, CountsAre, Simulated}
+use Rattle.fuse_commands.specs.Simulating.{state_after, StandsFromStart, BeginSo, CountsAre, Simulated}
 
 -- events from a start had these outcomes and counts, and the keeper stands for them and is as firm as before
 pub record Went {M : Model} {K : Type 0} (told : K → KeeperState M) (old new : Option K) (s : M.State) (events : List Event) (simulation : Simulation)
     : Type 0 where
-  pub outcomes : map bytes_given simulation.outcomes.items ≡ outcomes_of M s events
+  pub outcomes : map bytes_given simulation.outcomes.items ≡ outcomes_of M s [] events
   pub nodes : simulation.counts.nodes ≡ M.nodes (M.held_for (state_after M s events))
   pub handles : simulation.counts.handles ≡ M.handles (M.held_for (state_after M s events))
   pub stands : StandsFromStart told new s events
@@ -29,10 +29,10 @@ pub record RanScript {M : Model} {K : Type 0} (k : Seen M K) (old new : Option K
   pub described : WritesAll (lines_of script) events
   pub count : length simulation.outcomes.items ≡ length events
   pub begin : BeginSo k.told old new events (map bytes_given simulation.outcomes.items)
-  pub asked : performed_in k.performed old new (performances M.serves events)
+  pub asked : performed_in k.performed old new (performances M.service events)
   pub opened : Opened k.told k.became old new events
   pub counts : CountsAre k.told old new simulation.counts.nodes simulation.counts.handles
-  pub went : (told_in k.told new).is_honest → (s : M.State) → StandsIn k.told old s [] [] → NoneReused M.serves [] events
+  pub went : (told_in k.told new).is_honest → (s : M.State) → StandsIn k.told old s [] [] → NoneReused M.service [] events
       → Went k.told old new s events simulation
 
 -- Simulated implies SimulatedFrom for a keeper that stands for the start and whose storage returned what was written

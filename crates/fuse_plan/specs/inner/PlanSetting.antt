@@ -14,7 +14,7 @@ use Rattle.fuse_rows.specs.declared.rows.Change.{Change}
 use Rattle.fuse_rows.specs.declared.rows.Change.TheVariants as changes
 use Rattle.fuse_plan.specs.declared.planned.Planned.{Planned}
 use Rattle.fuse_tree.specs.Setting.{has_valid_bit, mode_after, uid_after, gid_after, atime_after, mtime_after, ctime_after, set_fault}
-use Rattle.fuse_tree.specs.Keeping.{attr_valid_of}
+use Rattle.fuse_tree.specs.Keeping.{valid_of}
 use Rattle.fuse_tree.specs.Space.{has_room}
 use Rattle.fuse_rows.specs.Rows.{Rows}
 use Rattle.fuse_plan.specs.inner.PlanSpace.{counters_for, room_in, room_changes}
@@ -51,4 +51,4 @@ set_counters p set rows = if has_valid_bit set fattr_size then counters_for p ro
 abbrev pub plan_setattr : Agreement → SetattrIn → Moment → NodeRow → Rows → Planned
 plan_setattr a set now row rows =
     refused_for (set_fault (terms a.profile).file_limit set row.mode)
-    (plan_set (attr_valid_of a row.node) set now row (set_counters a.profile set rows))
+    (plan_set (valid_of a) set now row (set_counters a.profile set rows))

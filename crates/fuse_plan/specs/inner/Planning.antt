@@ -14,7 +14,7 @@ use Rattle.fuse_rows.specs.declared.rows.NodeRow.{NodeRow}
 use Rattle.fuse_plan.specs.declared.planned.Planned.{Planned}
 use Rattle.fuse_tree.specs.declared.agreement.Agreement.{Agreement}
 use Rattle.fuse_rows.specs.Rows.{Rows, row_at}
-use Rattle.fuse_tree.specs.Keeping.{agreement_at, keeps, valid_of, attr_valid_of, absent_entry}
+use Rattle.fuse_tree.specs.Keeping.{agreement_at, keeps, valid_of, absent_entry}
 use Rattle.fuse_tree.specs.Do.{names_node, offer_of}
 use Rattle.fuse_tree.specs.Making.{asker, asked_node}
 use Rattle.fuse_plan.specs.inner.Reading.{refused, refused_by, row_name_checks, told, entry_body, attr_body, child_at}
@@ -57,7 +57,7 @@ tells_name _ = false
 -- the operation, at the node of the header; the last line is of requests that aren't performed here
 abbrev pub plan_act : Agreement → InHeader → Act → Moment → NodeRow → Rows → Planned
 plan_act a header (acts.Lookup name) now row rows = plan_lookup a name row rows
-plan_act a header (acts.Getattr flags fh) now row rows = told (attr_body (attr_valid_of a row.node) row)
+plan_act a header (acts.Getattr flags fh) now row rows = told (attr_body (valid_of a) row)
 plan_act a header (acts.Setattr set) now row rows = plan_setattr a set now row rows
 plan_act a header (acts.Mkdir mode umask name) now row rows = plan_mkdir a (asked_node (asker header now) mode 0) name row rows
 plan_act a header (acts.Mknod mode rdev umask name) now row rows = plan_mknod a (asked_node (asker header now) mode rdev) name row rows

@@ -5,10 +5,10 @@ ghost use Rattle.fuse_tree.specs.Keeping.{absent_entry};
 ghost use Rattle.fuse_plan.specs.inner.Reading as planning;
 ghost use Rattle.fuse_plan.specs.inner.Reading.{IsWithin, entry_body, row_attr, attr_body, told};
 
-use super::attributes::attributes_of;
+use super::attributes::{attributes_of, is_directory};
 use crate::planned::Planned;
 use fuse_answer::{Answer, Attr, AttrOut, EntryOut};
-use fuse_rows::{ChangeList, KEPT_SECS, NodeRow};
+use fuse_rows::{ABSENT_SECS, ChangeList, NodeRow, VALID_SECS};
 use fuse_wire::{ByteList, Errno, Memory};
 use std::alloc::Global;
 
@@ -39,6 +39,17 @@ pub(crate) fn done_nothing(alloc: Global) -> Planned
     unchanged(alloc, Answer::success(ByteList::from_vec(Vec::new(alloc))))
 }
 
+// For how many seconds the attributes of a node of this mode are valid, where its entry is valid for so many.
+fn attr_valid(valid: u64, mode: u32) -> u64
+    ensures { result ≡ done.attr_valid_of valid mode }
+{
+    if is_directory(mode) {
+        VALID_SECS
+    } else {
+        valid
+    }
+}
+
 // The entry of a node, valid for so many seconds.
 pub(crate) fn entry_of(valid: u64, row: &NodeRow) -> EntryOut
     requires { IsWithin row.now }
@@ -49,7 +60,7 @@ pub(crate) fn entry_of(valid: u64, row: &NodeRow) -> EntryOut
         nodeid: attr.ino,
         generation: 0,
         entry_valid: valid,
-        attr_valid: valid,
+        attr_valid: attr_valid(valid, row.mode),
         entry_valid_nsec: 0,
         attr_valid_nsec: 0,
         attr,
@@ -90,7 +101,7 @@ pub(crate) fn absent_answer(alloc: Global) -> Result<Answer, Memory>
     let entry = EntryOut {
         nodeid: 0,
         generation: 0,
-        entry_valid: KEPT_SECS,
+        entry_valid: ABSENT_SECS,
         attr_valid: 0,
         entry_valid_nsec: 0,
         attr_valid_nsec: 0,
@@ -100,13 +111,13 @@ pub(crate) fn absent_answer(alloc: Global) -> Result<Answer, Memory>
     Ok(Answer::success(ByteList::from_vec(body)))
 }
 
-// The attributes of a node, valid for so many seconds, as GETATTR and SETATTR answer them.
+// The attributes of a node, as GETATTR and SETATTR answer them where its entry is valid for so many seconds.
 pub(crate) fn attr_answer(alloc: Global, valid: u64, row: &NodeRow) -> Result<Answer, Memory>
     requires { IsWithin row.now }
     ensures { IfOk result (λ answer. answer ≡ (told (attr_body valid row.now)).answer) }
 {
     let attributes = AttrOut {
-        attr_valid: valid,
+        attr_valid: attr_valid(valid, row.mode),
         attr_valid_nsec: 0,
         attr: attributes_of(row),
     };

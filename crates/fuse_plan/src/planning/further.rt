@@ -8,6 +8,7 @@ ghost use Rattle.fuse_plan.specs.inner.Reading.{IsWithin, LooksUp, view};
 use super::answers::refused;
 use super::create::plan_create;
 use super::fault::PlanFault;
+use super::fsync::plan_fsync;
 use super::make::asked_node;
 use super::read_dir_plus::plan_read_dir_plus;
 use super::readlink::plan_readlink;
@@ -62,6 +63,7 @@ fn plan_body<L: Look>(
     match body {
         Body::Readlink => plan_readlink(alloc, look, row),
         Body::Statfs => plan_statfs(alloc, look),
+        Body::Fsync { fh, .. } | Body::FsyncDir { fh, .. } => plan_fsync(alloc, look, *fh, row),
         Body::Symlink { name, target } => {
             plan_symlink(alloc, look, agreement, from, target, name, row)
         }

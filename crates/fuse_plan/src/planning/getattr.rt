@@ -1,5 +1,5 @@
 ghost use Rattle.std.specs.Prelude.{◌≡◌, IfOk};
-ghost use Rattle.fuse_tree.specs.Keeping.{attr_valid_of};
+ghost use Rattle.fuse_tree.specs.Keeping.{valid_of};
 ghost use Rattle.fuse_plan.specs.inner.Reading.{IsWithin, attr_body, told};
 
 use super::answers::{attr_answer, unchanged};
@@ -17,8 +17,8 @@ pub(crate) fn plan_getattr(
 ) -> Result<Planned, Memory>
     requires { IsWithin row.now }
     ensures { IfOk result (λ p. p ≡ told (attr_body
-        (attr_valid_of agreement.now row.now.node) row.now)) }
+        (valid_of agreement.now) row.now)) }
 {
-    let valid = agreement.attr_valid_secs(row.node);
+    let valid = agreement.valid_secs();
     Ok(unchanged(alloc, attr_answer(alloc, valid, row)?))
 }

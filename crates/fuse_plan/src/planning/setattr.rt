@@ -44,7 +44,7 @@ pub(crate) fn plan_setattr<L: Look>(
     if has(set, SetattrValid::SIZE) && !is_room_for(&counters, row.size, set.size) {
         return Ok(refused(alloc, Errno::ENOSPC));
     }
-    let valid = agreement.attr_valid_secs(row.node);
+    let valid = agreement.valid_secs();
     Ok(set_with_room(alloc, valid, set, now, row, &counters)?)
 }
 

@@ -13,6 +13,7 @@ pub record IsBelow (c : SessionCounts) (n : ℕ) : Type 0 where
   pub messages : c.messages ≤ n
   pub kept : c.kept ≤ n
   pub repeated : c.repeated ≤ n
+  pub seen : c.seen ≤ n
   pub bare : c.bare ≤ n
   pub silent : c.silent ≤ n
   pub interrupts : c.interrupts ≤ n

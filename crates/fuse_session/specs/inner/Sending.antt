@@ -1,6 +1,6 @@
 -- How the answers of a group are sent (defined by this project).
 use Rattle.std.specs.Prelude.{◌≡◌, ℕ, Bool, true, false, List, [], ◌++◌, length}
-use Rattle.fuse_request.specs.Opcodes.{OpcodeSet}
+use Rattle.fuse_request.specs.Opcodes.{Service}
 use Rattle.fuse_session.specs.declared.fault.Fault.{Fault}
 use Rattle.fuse_session.specs.declared.fault.Fault.TheVariants.{PortFailed, Store, Memory}
 use Rattle.fuse_session.specs.declared.port.Passed.{Passed}
@@ -43,7 +43,7 @@ abbrev pub sending : (List PortEvent → Type 0) → PortState → PortState →
 sending became port port' pending pending' = record { became = became; port = port; port' = port'; pending = pending; pending' = pending' }
 
 -- what is to be sent for a message was sent, and the id that it settles is pending
-pub record SentNext (V : OpcodeSet) (x : Sending) (message bytes : List ℕ) : Type 0 where
+pub record SentNext (V : Service) (x : Sending) (message bytes : List ℕ) : Type 0 where
   pub mark : Mark
   pub reply : mark.reply ≡ bytes
   pub sent : SentWhole x.port x.port' mark.reply mark.gone
@@ -51,7 +51,7 @@ pub record SentNext (V : OpcodeSet) (x : Sending) (message bytes : List ℕ) : T
   pub handed : x.pending' ≡ x.pending ++ settles_by_mark V x.port.confirms message mark
 
 -- so it was for messages, whose answers were these
-pub record SentAll (V : OpcodeSet) (x : Sending) (messages answers : List (List ℕ)) : Type 0 where
+pub record SentAll (V : Service) (x : Sending) (messages answers : List (List ℕ)) : Type 0 where
   pub marks : List Mark
   pub whole : replies marks ≡ answers
   pub full : length marks ≡ length messages

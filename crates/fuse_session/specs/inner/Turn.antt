@@ -2,7 +2,7 @@
 use Rattle.std.specs.Prelude.{◌≡◌, ◌⊎◌, ◌^◌, ℕ, Bool, true, false, List, [], ◌∷◌, ◌++◌}
 use Rattle.fuse_request.specs.Act.{Asked}
 use Rattle.fuse_request.specs.Framing.{HeldBytes}
-use Rattle.fuse_request.specs.Opcodes.{OpcodeSet}
+use Rattle.fuse_request.specs.Opcodes.{Service}
 use Rattle.fuse_request.specs.Stream.{cut}
 use Rattle.fuse_keeper.specs.Performance.{Performance}
 use Rattle.fuse_keeper.specs.Model.{Model}
@@ -30,10 +30,10 @@ pub record Mute (did : Deeds → Type 0) (deeds : Deeds) : Type 0 where
   pub events : deeds.events ≡ sends_of slices
 
 -- it was asked to perform groups of these messages, and these are left of them
-abbrev pub Grouped : OpcodeSet → List (List ℕ) → List (List Asked) → (List Performance → Type 0) → List Performance → Type 0
+abbrev pub Grouped : Service → List (List ℕ) → List (List Asked) → (List Performance → Type 0) → List Performance → Type 0
 Grouped V messages later performed list = performed list × (groups_of V messages ≡ groups_asked list ++ later)
 
-abbrev pub GroupedSome : OpcodeSet → List (List ℕ) → (List Performance → Type 0) → List Performance → Type 0
+abbrev pub GroupedSome : Service → List (List ℕ) → (List Performance → Type 0) → List Performance → Type 0
 GroupedSome V messages performed list = (later : List (List Asked)) × Grouped V messages later performed list
 
 abbrev pub muted : {M : Model} → Passage M → Passage M
@@ -41,7 +41,7 @@ muted p = record p { did = Mute p.did }
 
 -- it received once, and then handed over slices, but none where that reported an end or a failure; and it asked for the groups of what
 -- came, or the first of them, where these bytes waited
-pub record OneTurn (V : OpcodeSet) (held : List ℕ) (all : Bool) (did : Deeds → Type 0) (deeds : Deeds) : Type 0 where
+pub record OneTurn (V : Service) (held : List ℕ) (all : Bool) (did : Deeds → Type 0) (deeds : Deeds) : Type 0 where
   pub done : did deeds
   pub result : ReceiveResult
   pub bytes : List ℕ
@@ -53,7 +53,7 @@ pub record OneTurn (V : OpcodeSet) (held : List ℕ) (all : Bool) (did : Deeds �
   pub none_later : all ≡ true → later ≡ []
 
 abbrev pub in_one_turn : {M : Model} → Passage M → List ℕ → Passage M
-in_one_turn {M} p held = record p { did = OneTurn M.serves held true p.did }
+in_one_turn {M} p held = record p { did = OneTurn M.service held true p.did }
 
 -- what waits between two turns
 abbrev pub waits : List ℕ → HeldBytes → Waiting
@@ -74,7 +74,7 @@ pub record TurnPassed {M : Model} (p : Passage M) (before after : Waiting) (coun
 -- the session ended
 pub record TurnEnded {M : Model} (p : Passage M) (before : Waiting) (served : Served) : Type 0 where
   pub deeds : Deeds
-  pub done : OneTurn M.serves before.bytes false p.did deeds
+  pub done : OneTurn M.service before.bytes false p.did deeds
   pub life : Run (doing p deeds) before served.ended
   pub counts : SessionCounts
   pub below : IsBelow counts (2 ^ 20)

@@ -1,7 +1,7 @@
 -- Runs over files are lives of one mount, by the law of lives (defined by this project).
 use Rattle.std.proofs.Common.{◌≡◌, inl, ℕ, Bool, true, false, ◌==◌, List, [], ◌∷◌, ◌++◌, refl, sym, ap, subst, ◌∙◌, ◌||◌}
 use Rattle.std.proofs.lemmas.List.{append-nil, map-append}
-use Rattle.fuse_request.specs.Opcodes.{OpcodeSet}
+use Rattle.fuse_request.specs.Opcodes.{Service}
 use Rattle.fuse_request.specs.Stream.{cut}
 use Rattle.fuse_keeper.specs.History.{History, Distinct, grown, is_in, Includes}
 use Rattle.fuse_keeper.specs.Model.{Model}
@@ -46,7 +46,7 @@ includes_after : (xs ys zs : List ℕ) → Includes zs ys → Includes (xs ++ zs
 includes_after [] ys zs all i is = all i is
 includes_after (x ∷ xs) ys zs all i is = if_more (x == i) (is_in (xs ++ ys) i) (is_in (xs ++ zs) i) (includes_after xs ys zs all i) is
 
-settled_first : (V : OpcodeSet) (c : Bool) (ms others : List (List ℕ)) (marks : List Mark) → Includes (settled_in V c (ms ++ others) marks) (settled_in V c ms marks)
+settled_first : (V : Service) (c : Bool) (ms others : List (List ℕ)) (marks : List Mark) → Includes (settled_in V c (ms ++ others) marks) (settled_in V c ms marks)
 settled_first V c [] others marks i is = absurd (no_true is)
 settled_first V c (m ∷ ms) others [] i is = absurd (no_true is)
 settled_first V c (m ∷ ms) others (mark ∷ marks) i is =
@@ -63,10 +63,10 @@ ran_from {M} Stand more {p} run at image ran =
     let w = run.broken.work in
     let bytes : bytes_of w.timed ≡ bytes_of ran.life.worked ++ bytes_of ran.unprocessed =
     ap bytes_of ran.parts ∙ map-append (λ (x : Timed). x.bytes) ran.life.worked ran.unprocessed in
-    let settled : Includes (run_settled M.serves (run_over run image)) ran.life.settled =
-    subst (λ (x : List ℕ). Includes (run_settled M.serves (run_over run image)) x) (sym ran.settled_are)
-    (subst (λ (x : List (List ℕ)). Includes (settled_in M.serves p.port.confirms x w.marks) (settled_in M.serves p.port.confirms (bytes_of ran.life.worked) w.marks)) (sym bytes)
-    (settled_first M.serves p.port.confirms (bytes_of ran.life.worked) (bytes_of ran.unprocessed) w.marks)) in
+    let settled : Includes (run_settled M.service (run_over run image)) ran.life.settled =
+    subst (λ (x : List ℕ). Includes (run_settled M.service (run_over run image)) x) (sym ran.settled_are)
+    (subst (λ (x : List (List ℕ)). Includes (settled_in M.service p.port.confirms x w.marks) (settled_in M.service p.port.confirms (bytes_of ran.life.worked) w.marks)) (sym bytes)
+    (settled_first M.service p.port.confirms (bytes_of ran.life.worked) (bytes_of ran.unprocessed) w.marks)) in
     record {
       life = ran.life;
       lived = record {
@@ -82,8 +82,8 @@ ran_from {M} Stand more {p} run at image ran =
         slices = ran.slices;
         settled = ran.settled_are;
       };
-      left = more image at.state (grown at.history (kept_in M.serves ran.life.worked)) (at.settled ++ ran.life.settled) (at.settled ++ run_settled M.serves (run_over run image))
-          (includes_after at.settled ran.life.settled (run_settled M.serves (run_over run image)) settled) ran.stands;
+      left = more image at.state (grown at.history (kept_in M.service ran.life.worked)) (at.settled ++ ran.life.settled) (at.settled ++ run_settled M.service (run_over run image))
+          (includes_after at.settled ran.life.settled (run_settled M.service (run_over run image)) settled) ran.stands;
     }
 
 -- of a life, more is known of what it left
@@ -133,35 +133,35 @@ record RanInTurn {M : Model} {Image : Type 0} (Stand : Image → Standing M → 
   lived : LivedInTurn M at.state at.history runs lives
   left : Stand (files_left_by first runs) (record {
     state = at.state;
-    history = after_lives M.serves at.history lives;
-    settled = all_settled M.serves at.settled runs;
+    history = after_lives M.service at.history lives;
+    settled = all_settled M.service at.settled runs;
   })
 
 in_turn : {M : Model} {Image : Type 0} (Stand : Image → Standing M → Type 0) (s : M.State) (h : History) (t : List ℕ) (first : Image) (runs : List (FileRun Image))
-    → Stand first (record { state = s; history = h; settled = t }) → AreRuns Stand s first runs → AllHaveNew M.serves t runs
+    → Stand first (record { state = s; history = h; settled = t }) → AreRuns Stand s first runs → AllHaveNew M.service t runs
     → RanInTurn Stand (record { state = s; history = h; settled = t }) first runs
 in_turn Stand s h t first [] stood are none = record { lives = []; lived = tt; left = stood }
 in_turn {M} Stand s h t first (r ∷ runs) stood are none =
     let one = are.0 h t stood none.0 in
-    let more = in_turn Stand s (grown h (kept_in M.serves one.life.worked)) (t ++ run_settled M.serves r) r.left runs one.left are.1 none.1 in
+    let more = in_turn Stand s (grown h (kept_in M.service one.life.worked)) (t ++ run_settled M.service r) r.left runs one.left are.1 none.1 in
     record { lives = one.life ∷ more.lives; lived = (one.lived, more.lived); left = more.left }
 
 are_lives : {Image : Type 0} (M : Model) (s : M.State) (h : History) (runs : List (FileRun Image)) (lives : List Lifetime) → LivedInTurn M s h runs lives → AreLives M s h lives
 are_lives M s h [] [] lived = tt
 are_lives M s h [] (life ∷ lives) lived = absurd lived
 are_lives M s h (r ∷ runs) [] lived = absurd lived
-are_lives M s h (r ∷ runs) (life ∷ lives) lived = (lived.0.lived, are_lives M s (grown h (kept_in M.serves life.worked)) runs lives lived.1)
+are_lives M s h (r ∷ runs) (life ∷ lives) lived = (lived.0.lived, are_lives M s (grown h (kept_in M.service life.worked)) runs lives lived.1)
 
 -- the clauses of `lives` come first
 pub files_lived : {M : Model} {Image : Type 0}
-    → ((ls : List Lifetime) → after_lives M.serves [] ls ≡ grown [] (kept_in M.serves (all_processed ls)))
-    → ((ls : List Lifetime) → Distinct (after_lives M.serves [] ls))
-    → ((s : M.State) (ls : List Lifetime) → AreLives M s [] ls → AllSend M s (after_lives M.serves [] ls) ls)
+    → ((ls : List Lifetime) → after_lives M.service [] ls ≡ grown [] (kept_in M.service (all_processed ls)))
+    → ((ls : List Lifetime) → Distinct (after_lives M.service [] ls))
+    → ((s : M.State) (ls : List Lifetime) → AreLives M s [] ls → AllSend M s (after_lives M.service [] ls) [] ls)
     → (Stand : Image → Standing M → Type 0) (s : M.State) (r : FileRun Image) (runs : List (FileRun Image))
-    → IsMount Stand s r runs → AllHaveNew M.serves [] (r ∷ runs) → FilesLived Stand s r runs
+    → IsMount Stand s r runs → AllHaveNew M.service [] (r ∷ runs) → FilesLived Stand s r runs
 files_lived {M} in_a_row once send Stand s r runs mount none =
     let one = mount.0 none.0 in
-    let more = in_turn Stand s (grown [] (kept_in M.serves one.life.worked)) ([] ++ run_settled M.serves r) r.left runs one.left mount.1 none.1 in
+    let more = in_turn Stand s (grown [] (kept_in M.service one.life.worked)) ([] ++ run_settled M.service r) r.left runs one.left mount.1 none.1 in
     let lives = one.life ∷ more.lives in
     let lived : LivedInTurn M s [] (r ∷ runs) lives = (one.lived, more.lived) in
     record {

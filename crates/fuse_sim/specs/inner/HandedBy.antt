@@ -1,30 +1,30 @@
--- The ids that are handed on as the groups of events step (defined by this project).
-use Rattle.std.specs.Prelude.{◌≡◌, ℕ, zero, suc, List, [], ◌∷◌, ◌++◌}
-use Rattle.fuse_request.specs.Opcodes.{OpcodeSet}
-use Rattle.fuse_keeper.specs.History.{Entry}
-use Rattle.fuse_keeper.specs.Performance.{Performance, performances_of}
+-- The ids that are handed on and pending as the groups of events step (defined by this project).
+use Rattle.std.specs.Prelude.{◌≡◌, ℕ, List, [], ◌∷◌, ◌++◌, All}
+use Rattle.fuse_request.specs.Opcodes.{Service}
 use Rattle.fuse_sim.specs.declared.event.Event.{Event}
-use Rattle.fuse_sim.specs.Driving.{commits, commits_in}
-use Rattle.fuse_sim.specs.HandedOn.{Ledger, after_event, performed_after}
+use Rattle.fuse_sim.specs.Driving.{IsFit}
+use Rattle.fuse_sim.specs.HandedOn.{one_run, groups_of_events, pending_then, asked_by_groups, handed_on_in}
 
--- those that are handed on where a kept message comes
-abbrev pub handed_by : ℕ → List ℕ → List ℕ
-handed_by zero pending = pending
-handed_by (suc room) pending = []
+-- the ids that are pending after groups, and after events
+abbrev pub pending_over : Service → List ℕ → List (List Event) → List ℕ
+pending_over V pending [] = pending
+pending_over V pending (group ∷ groups) = pending_over V (pending_then V pending group) groups
 
-abbrev pub handed_at : List Entry → Ledger → List ℕ
-handed_at [] l = []
-handed_at (x ∷ xs) l = handed_by l.room l.pending
-
-abbrev pub ledger_after : OpcodeSet → Ledger → List Event → Ledger
-ledger_after V l [] = l
-ledger_after V l (e ∷ es) = ledger_after V (after_event V l e) es
+abbrev pub pending_by : Service → List ℕ → List Event → List ℕ
+pending_by V pending es = pending_over V pending (groups_of_events V es)
 
 -- all ids that are handed on during events
-abbrev pub handed_on : OpcodeSet → Ledger → List Event → List ℕ
-handed_on V l [] = []
-handed_on V l (e ∷ es) = handed_at (commits V e) l ++ handed_on V (after_event V l e) es
+abbrev pub handed_on : Service → List ℕ → List Event → List ℕ
+handed_on V pending es = handed_on_in (asked_by_groups V pending (groups_of_events V es))
 
--- these events are performed as one group, to which all pending ids are handed on
-abbrev pub AsksOne : OpcodeSet → Ledger → List Event → Type 0
-AsksOne V l run = (ps : List Performance) → performed_after V l ps run ≡ ps ++ performances_of (commits_in V run) l.pending
+-- these events are one group
+abbrev pub IsOneGroup : Service → List Event → Type 0
+IsOneGroup V run = groups_of_events V run ≡ one_run run
+
+-- no group has events of both
+abbrev pub IsCutAt : Service → List Event → List Event → Type 0
+IsCutAt V es es' = groups_of_events V (es ++ es') ≡ groups_of_events V es ++ groups_of_events V es'
+
+-- wherever the others are run up to
+abbrev pub EndsGroup : Service → List Event → List Event → Type 0
+EndsGroup V es others = (run rest : List Event) → others ≡ run ++ rest → All IsFit run → IsCutAt V es run

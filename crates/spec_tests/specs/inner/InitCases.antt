@@ -13,7 +13,7 @@ use Rattle.fuse_answer.specs.Wire.{wire}
 use Rattle.fuse_init.specs.declared.negotiation.Negotiated.TheVariants.{Agreed, Again, Refused}
 use Rattle.fuse_init.specs.declared.settings.Settings.{Settings}
 use Rattle.fuse_init.specs.declared.profile.Profile.TheVariants.{Plain, Everyday}
-use Rattle.fuse_init.specs.Profile.{keeps_for}
+use Rattle.fuse_init.specs.Profile.{terms}
 use Rattle.fuse_init.specs.Agree.{agree}
 
 abbrev pub offer : ℕ → ℕ → ℕ → ℕ → Option ℕ → InitIn
@@ -102,7 +102,7 @@ kernel_offer = offer 7 45 0x20000 0x73fffffb (Some 0x5fd)
 abbrev pub InitKernel : Type 0
 InitKernel =
     (form (parts (Init kernel_offer)) ≡ hex (codes "07000000 2d000000 00000200 fbffff73 fd050000") ++ replicate 44 0)
-    × (agree Everyday kernel_offer ≡ Agreed (out 0x20000 0x40846021 0x80) (settled 44 0x20000 0x8040846021))
+    × (agree Everyday kernel_offer ≡ Agreed (out 0x20000 0x40846021 0x80) (settled 40 0x20000 0x8040846021))
     × (wire 0 (init_bytes (out 0x20000 0x40846021 0x80)) 2
     ≡ hex (codes "50000000 00000000 0200000000000000 07000000 28000000 00000200 21608440 0c000900 00000200 01000000 00000000 80000000 00000000")
     ++ replicate 24 0)
@@ -112,11 +112,11 @@ InitKernel =
 abbrev pub InitOffered : Type 0
 InitOffered = agree Everyday (offer 7 40 0x20000 0x40002021 (Some 0x80)) ≡ Agreed (out 0x20000 0x40002021 0x80) (settled 40 0x20000 0x8040002021)
 
--- by the minor of the settings, under each profile
+-- the settings keep the minor up to 40, and what the kernel keeps doesn't depend on it
 abbrev pub OlderKernel : Type 0
 OlderKernel =
-    ((max_readahead flags : ℕ) → keeps_for Everyday (Some (settled 44 max_readahead flags)) ≡ true)
-    × ((max_readahead flags : ℕ) → keeps_for Everyday (Some (settled 43 max_readahead flags)) ≡ false)
-    × ((max_readahead flags : ℕ) → keeps_for Everyday (Some (settled 40 max_readahead flags)) ≡ false)
-    × (keeps_for Everyday None ≡ false)
-    × ((max_readahead flags : ℕ) → keeps_for Plain (Some (settled 40 max_readahead flags)) ≡ false)
+    (agree Everyday (offer 7 44 0x20000 0x40002021 (Some 0x80)) ≡ Agreed (out 0x20000 0x40002021 0x80) (settled 40 0x20000 0x8040002021))
+    × (agree Everyday (offer 7 43 0x20000 0x40002021 (Some 0x80)) ≡ Agreed (out 0x20000 0x40002021 0x80) (settled 40 0x20000 0x8040002021))
+    × (agree Everyday (offer 7 23 0x20000 0x2021 None) ≡ Agreed (out 0x20000 0x2021 0) (settled 23 0x20000 0x2021))
+    × ((terms Everyday).keeps ≡ true)
+    × ((terms Plain).keeps ≡ false)

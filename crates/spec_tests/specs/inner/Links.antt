@@ -2,7 +2,7 @@
 use Rattle.std.specs.Prelude.{◌==◌, ◌||◌, ℕ, if◌then◌else◌, List, [], ◌∷◌, None, codes}
 use Rattle.fuse_wire.specs.declared.errno.Errno.{Errno}
 use Rattle.fuse_wire.specs.Errnos.{einval, enosys}
-use Rattle.fuse_request.specs.Opcodes.{OpcodeSet}
+use Rattle.fuse_request.specs.Opcodes.{OpcodeSet, no_others}
 use Rattle.fuse_request.specs.Act.{Act}
 use Rattle.fuse_request.specs.Act as acts
 use Rattle.fuse_answer.specs.Said.{Said}
@@ -41,7 +41,7 @@ abbrev pub links : Model
 links = record {
   State = Unit {0};
   Rows = Unit {0};
-  serves = links_serve;
+  service = record { serves = links_serve; sees = no_others };
   start = λ now. tt;
   next = λ s a now. tt;
   answer = λ s a now. said a.act;

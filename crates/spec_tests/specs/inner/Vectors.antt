@@ -1,12 +1,12 @@
--- Worked cases (defined by this project): `committed`, `outcome_of` and `settled_by` of a short list of events, over the store of case
+-- Worked cases (defined by this project): `committed`, `outcomes_of` and `settled_by` of a short list of events, over the store of case
 -- first-run.
-use Rattle.std.specs.Prelude.{◌≡◌, ◌+◌, ◌^◌, ℕ, List, [], ◌∷◌, map, codes, Some, None}
+use Rattle.std.specs.Prelude.{◌≡◌, ◌+◌, ◌^◌, ℕ, List, [], ◌∷◌, codes, Some, None}
 use Rattle.spec_tests.specs.inner.Hex.{hex}
 use Rattle.fuse_wire.specs.Errnos.{eexist, enosys}
 use Rattle.fuse_answer.specs.Wire.{wire}
 use Rattle.fuse_request.specs.Act as acts
 use Rattle.fuse_request.specs.Canon.{canon}
-use Rattle.fuse_request.specs.Opcodes.{no_others}
+use Rattle.fuse_request.specs.Opcodes.{profile_alone}
 use Rattle.fuse_init.specs.declared.profile.Profile.TheVariants.{Plain}
 use Rattle.fuse_tree.specs.TheTree.{tree_of}
 use Rattle.fuse_keeper.specs.History.{Entry}
@@ -14,7 +14,7 @@ use Rattle.fuse_tree.specs.inner.Vectors.{at, asks, first, mkdir_a, entry_a}
 use Rattle.fuse_sim.specs.declared.event.Fate.{Fate}
 use Rattle.fuse_sim.specs.declared.event.Fate.TheVariants.{Answered, DiedBeforeCommit, DiedAfterCommit}
 use Rattle.fuse_sim.specs.declared.event.Event.{Event}
-use Rattle.fuse_sim.specs.Driving.{committed, outcome_of, settled_by}
+use Rattle.fuse_sim.specs.Driving.{committed, outcomes_of, settled_by}
 
 abbrev pub mkdir_event : ℕ → Fate → Event
 mkdir_event unique fate = record { bytes = canon (asks unique 1 mkdir_a); moment = at 1000; fate = fate }
@@ -28,9 +28,9 @@ events = mkdir_event 6 DiedAfterCommit ∷ mkdir_event (2 ^ 63 + 6) Answered ∷
 
 abbrev pub Resent : Type 0
 Resent =
-    (committed no_others [] events ≡ entry 6 ∷ entry 10 ∷ [])
-    × (map (outcome_of (tree_of Plain) first (committed no_others [] events)) events ≡ None ∷ Some (wire 0 entry_a (2 ^ 63 + 6)) ∷ None ∷ Some (wire eexist.0 [] 10) ∷ [])
-    × (settled_by no_others [] events ≡ 6 ∷ 10 ∷ [])
+    (committed profile_alone [] events ≡ entry 6 ∷ entry 10 ∷ [])
+    × (outcomes_of (tree_of Plain) first [] events ≡ None ∷ Some (wire 0 entry_a (2 ^ 63 + 6)) ∷ None ∷ Some (wire eexist.0 [] 10) ∷ [])
+    × (settled_by profile_alone [] events ≡ 6 ∷ 10 ∷ [])
 
 -- a message with an opcode outside the profile, and FORGET
 abbrev pub bare_and_silent : List Event
@@ -45,6 +45,6 @@ bare_and_silent =
 
 abbrev pub NotKept : Type 0
 NotKept =
-    (committed no_others [] bare_and_silent ≡ [])
-    × (map (outcome_of (tree_of Plain) first []) bare_and_silent ≡ Some (wire enosys.0 [] 4) ∷ None ∷ [])
-    × (settled_by no_others [] bare_and_silent ≡ [])
+    (committed profile_alone [] bare_and_silent ≡ [])
+    × (outcomes_of (tree_of Plain) first [] bare_and_silent ≡ Some (wire enosys.0 [] 4) ∷ None ∷ [])
+    × (settled_by profile_alone [] bare_and_silent ≡ [])

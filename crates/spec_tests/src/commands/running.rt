@@ -14,7 +14,14 @@ fn begun(alloc: Global) -> Result<TreeKeeper, Fail> {
     let init = hex(alloc, INIT_AGREED)?;
     let mut printed = Vec::new(alloc);
     if !keeper.failed() {
-        run_replay(alloc, &mut keeper, init.as_slice(), &mut printed, AT_1000);
+        run_replay(
+            alloc,
+            &mut keeper,
+            init.as_slice(),
+            &mut printed,
+            AT_1000,
+            false,
+        );
     }
     Ok(keeper)
 }
@@ -29,5 +36,5 @@ pub(crate) fn printed_to<R: Read + Drop, W: Write>(
     if keeper.failed() {
         return Err("the keeper failed".into());
     }
-    Ok(run_replay(alloc, &mut keeper, reader, writer, AT_1000))
+    Ok(run_replay(alloc, &mut keeper, reader, writer, AT_1000, false))
 }

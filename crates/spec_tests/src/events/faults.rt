@@ -31,6 +31,10 @@ impl Keeper for Closed {
         TreeKeeper::serves(opcode)
     }
 
+    fn sees(opcode: u32) -> bool {
+        TreeKeeper::sees(opcode)
+    }
+
     fn perform(
         &mut self,
         group: &[(Request<'_>, Moment)],

@@ -21,7 +21,7 @@ fn begun(alloc: Global, commits: u64) -> Result<Copies, Memory> {
     TwoCopies::new(alloc, NOW, commits)
 }
 
-// Performs a request with this `unique`.
+// Performs a request with this `unique`. It is kept.
 fn ask(keeper: &mut Copies, unique: u64) -> Result<Option<Done>, StoreFault>
     requires { id_of unique ≢ 0 }
 {
@@ -33,7 +33,10 @@ fn ask(keeper: &mut Copies, unique: u64) -> Result<Option<Done>, StoreFault>
             gid: 1000,
             pid: 77,
         },
-        op: Op::Getattr { flags: 0, fh: 0 },
+        op: Op::OpenDir {
+            flags: 0,
+            open_flags: 0,
+        },
         ext: b"".as_slice(),
     };
     let mut dones = keeper.perform(&[(request, NOW)], &[])?;

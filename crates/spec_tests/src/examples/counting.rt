@@ -20,14 +20,14 @@ fn begun(alloc: Global, commits: u64) -> Result<Counted, Memory> {
     Ok(CountingKeeper::new(alloc, TwoCopies::new(alloc, NOW, commits)?))
 }
 
-// A GETATTR of the directory has 56 bytes.
-const MESSAGE: usize = 56;
+// An OPENDIR of the directory, which is kept, has 48 bytes.
+const MESSAGE: usize = 48;
 
 fn put_message(out: &mut Vec<u8>, unique: u64) -> Result<(), AllocError> {
-    out.extend_from_slice(b"\x38\0\0\0\x03\0\0\0")?;
+    out.extend_from_slice(b"\x30\0\0\0\x1b\0\0\0")?;
     out.extend_from_slice(&unique.to_le_bytes())?;
     out.extend_from_slice(b"\x01\0\0\0\0\0\0\0\xe8\x03\0\0\xe8\x03\0\0\x4d\0\0\0\0\0\0\0")?;
-    out.extend_from_slice(b"\0\0\0\0\0\0\0\0\0\0\0\0\0\0\0\0")
+    out.extend_from_slice(b"\0\0\0\0\0\0\0\0")
 }
 
 fn messages(alloc: Global, uniques: &[u64]) -> Result<Vec<u8>, AllocError> {

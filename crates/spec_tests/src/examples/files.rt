@@ -36,12 +36,13 @@ fn session_of(alloc: Global, pairs: &[Pair]) -> Result<Session, AllocError> {
     Ok(session)
 }
 
-// The counts of `messages` kept messages, some of them repeated.
-fn counts_of(kept: u64, repeated: u64) -> SessionCounts {
+// The counts of kept messages, some of them repeated, and of seen ones.
+fn counts_of(kept: u32, repeated: u32, seen: u32) -> SessionCounts {
     SessionCounts {
-        messages: kept,
-        kept,
-        repeated,
+        messages: u64::from(kept) + u64::from(seen),
+        kept: u64::from(kept),
+        repeated: u64::from(repeated),
+        seen: u64::from(seen),
         ..SessionCounts::NONE
     }
 }
@@ -79,22 +80,30 @@ fn serves_new(alloc: Global, pairs: &[Pair], counts: SessionCounts) -> Result<bo
 fn sessions(rt: HostRuntime) -> Result<(), Fail> {
     let alloc = rt.alloc();
     let right = [
-        serves_new(alloc, &READING, counts_of(9, 0))?,
-        serves_new(alloc, &CHANGING, counts_of(11, 1))?,
-        serves_new(alloc, &REFUSED, counts_of(16, 0))?,
-        serves_new(alloc, &BEFORE_INIT, counts_of(3, 0))?,
+        serves_new(alloc, &READING, counts_of(4, 0, 5))?,
+        serves_new(alloc, &CHANGING, counts_of(11, 1, 0))?,
+        serves_new(alloc, &REFUSED, counts_of(7, 0, 9))?,
+        serves_new(alloc, &BEFORE_INIT, counts_of(2, 0, 1))?,
     ];
     assert_eq!(rt; right, [true; 4]);
     Ok(())
 }
 
-// READLINK and STATFS. Their refusals are recorded too.
+// A resend of a seen request is answered anew, and its id may be that of a kept one.
+#[test]
+fn seen_requests(rt: HostRuntime) -> Result<(), Fail> {
+    let right = serves_new(rt.alloc(), &SEEN, counts_of(3, 1, 3))?;
+    assert_eq!(rt; right, true);
+    Ok(())
+}
+
+// READLINK, whose refusals are recorded too, and STATFS.
 #[test]
 fn further_opcodes(rt: HostRuntime) -> Result<(), Fail> {
     let counts = SessionCounts {
         messages: 14,
         bare: 1,
-        ..counts_of(13, 3)
+        ..counts_of(10, 3, 3)
     };
     assert_eq!(rt; serves_new(rt.alloc(), &FURTHER, counts)?, true);
     Ok(())
@@ -112,9 +121,9 @@ fn holds_files(keeper: &mut PlainKeeper<FiveFiles>) -> bool {
 // A new mount has agreed on nothing yet, and has the files of before.
 fn two_mounts(alloc: Global) -> Result<[bool; 4], Fail> {
     let mut keeper: PlainKeeper<FiveFiles> = PlainKeeper::new(alloc, NOW)?;
-    let first = serves(alloc, &mut keeper, &CHANGING, counts_of(11, 1))?;
+    let first = serves(alloc, &mut keeper, &CHANGING, counts_of(11, 1, 0))?;
     let begun = begin_mount(&mut keeper);
-    let again = serves(alloc, &mut keeper, &BEFORE_INIT, counts_of(3, 0))?;
+    let again = serves(alloc, &mut keeper, &BEFORE_INIT, counts_of(2, 0, 1))?;
     Ok([first, begun, again, holds_files(&mut keeper)])
 }
 

@@ -2,7 +2,7 @@
 // cases of CREATE, SYMLINK and STATFS in the specification, and of structs of fuse.h.
 use fuse_answer::{
     Attr, CreateOut, Dirent, EntryOut, LseekOut, OpenOut, PackFault, PlusDirent, StatfsOut,
-    XattrOut, epoch_notice, pack_plus, resend_notice,
+    XattrOut, pack_plus, resend_notice,
 };
 use fuse_request::opcode::{CREATE, LOOKUP, LSEEK, READDIRPLUS, READLINK, SETXATTR, SYMLINK};
 use fuse_request::{Body, Class, Malformed, Op, classify_for, decode, decode_body, is_message};
@@ -280,11 +280,9 @@ fn plus_entries(rt: HostRuntime) -> Result<(), PackFault> {
 }
 
 #[test]
-fn notices(rt: HostRuntime) {
+fn notice(rt: HostRuntime) {
     let resend = resend_notice();
-    let epoch = epoch_notice();
     assert!(rt; resend.as_slice() == b"\x10\0\0\0\x07\0\0\0\0\0\0\0\0\0\0\0".as_slice());
-    assert!(rt; epoch.as_slice() == b"\x10\0\0\0\x08\0\0\0\0\0\0\0\0\0\0\0".as_slice());
 }
 
 // READLINK of node 2, and NOTIFY_REPLY.
@@ -295,11 +293,11 @@ const NOTIFY_REPLY_BYTES: &[u8] = b"\x28\0\0\0\x29\0\0\0\x06\0\0\0\0\0\0\0\x02\0
     \xe8\x03\0\0\xe8\x03\0\0\x4d\0\0\0\0\0\0\0";
 
 // The class of a whole message, and none of other bytes.
-fn class_of_message(bytes: &[u8], served: bool) -> Option<Class> {
+fn class_of_message(bytes: &[u8], served: bool, seen: bool) -> Option<Class> {
     if !is_message(bytes) {
         return None;
     }
-    Some(classify_for(bytes, served))
+    Some(classify_for(bytes, served, seen))
 }
 
 fn is_readlink(message: &[u8]) -> bool {
@@ -314,10 +312,12 @@ fn is_readlink(message: &[u8]) -> bool {
 
 #[test]
 fn further_classes(rt: HostRuntime) {
-    let kept = class_of_message(READLINK_BYTES, true);
-    let bare = class_of_message(READLINK_BYTES, false);
-    let silent = class_of_message(NOTIFY_REPLY_BYTES, true);
+    let kept = class_of_message(READLINK_BYTES, true, false);
+    let seen = class_of_message(READLINK_BYTES, true, true);
+    let bare = class_of_message(READLINK_BYTES, false, true);
+    let silent = class_of_message(NOTIFY_REPLY_BYTES, true, true);
     assert!(rt; kept == Some(Class::Kept));
+    assert!(rt; seen == Some(Class::Seen));
     assert!(rt; bare == Some(Class::Bare(Errno::ENOSYS)));
     assert!(rt; silent == Some(Class::Silent));
     assert!(rt; is_readlink(READLINK_BYTES));

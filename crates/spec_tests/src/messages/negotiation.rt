@@ -89,10 +89,9 @@ fn profiles(rt: HostRuntime) {
     let plain = settings_of(Profile::Plain);
     let everyday = settings_of(Profile::Everyday);
     assert!(rt; is_settled(plain, 40, 0x80_4000_0021));
-    assert!(rt; is_settled(everyday, 44, 0x80_4084_6021));
-    assert!(rt; Profile::Everyday.keeps_for(everyday));
-    assert!(rt; !Profile::Everyday.keeps_for(plain));
-    assert!(rt; !Profile::Plain.keeps_for(plain));
+    assert!(rt; is_settled(everyday, 40, 0x80_4084_6021));
+    assert!(rt; Profile::Everyday.keeps());
+    assert!(rt; !Profile::Plain.keeps());
     assert!(rt; PlainProfile::PROFILE == Profile::Plain);
     assert!(rt; EverydayProfile::PROFILE == Profile::Everyday);
 }

@@ -7,7 +7,7 @@ returns-in-Ok-clause-replayed g c = λ of_stream input known.
     let session = c.serve_stream-session in
     printed c.len_stands_first.ensures c.said_fits.ensures (g.K.Keeper.told c.args.keeper.now)
     (g.K.Keeper.told session.new.keeper) c.args.moment input session.result.sent.items session.result.counts session.result.ending
-    (g.W.Write.contents c.args.writer.now) (g.W.Write.contents c.print_session.new.writer) (c.in-Ok.ensures.ok of_stream)
+    c.args.shows_seen (g.W.Write.contents c.args.writer.now) (g.W.Write.contents c.print_session.new.writer) (c.in-Ok.ensures.ok of_stream)
     (session.ensures.replayed of_stream input known)
 
 pub returns-in-Ok-clause-faulted : goal.returns-in-Ok-clause-faulted

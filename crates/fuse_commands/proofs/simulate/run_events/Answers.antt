@@ -69,7 +69,7 @@ returns-in-Err-Store-clause-store g c = λ is s so none.
     let k = g.K.Keeper in
     drive_ended (driven k.told k.became k.performed g.K.Restart.refuses) c.args.keeper.now c.drive.new.keeper c.args.events.now _ c.in-Err-Store.field-0
     c.in-Err-Store.fault c.of.result c.in-Err-Store.field-0-is c.in-Err-Store.ensures.emptied
-    (λ store good. c.in-Err-Store.ensures.store store good s [] [] so (reused_prefix k.model.serves [] _ c.args.events.now none)) c.of.ensures
+    (λ store good. c.in-Err-Store.ensures.store store good s [] [] so (reused_prefix k.model.service [] _ c.args.events.now none)) c.of.ensures
 
 pub returns-in-Err-clause-store : goal.returns-in-Err-clause-store
 returns-in-Err-clause-store g c = λ is s so none clean.

@@ -2,7 +2,7 @@ use Rattle.std.proofs.Common.{◌≤◌, arith, length, subst}
 use Rattle.std.proofs.lemmas.Grind.{common_steps}
 use Rattle.std.proofs.lemmas.List.{take_all}
 use Rattle.fuse_keeper.specs.Stands.{AreThese, PerformedBy, without}
-use Rattle.fuse_keeper.specs.Group.{entries_of, ids_of, IsKept}
+use Rattle.fuse_keeper.specs.Group.{entries_of, ids_of, IsPerformed}
 use Rattle.fuse_keeper.specs.Taking.{TakesAll}
 use Rattle.fuse_keeper.specs.Plain.{mapped}
 use Rattle.fuse_keeper.specs.inner.Overlay.{over}
@@ -11,8 +11,8 @@ use Rattle.fuse_keeper.proofs.Overlays.{took_rowed_at}
 use Rattle.fuse_keeper.proofs.InARow.{one_more_taken_of}
 use Rattle.fuse_keeper.proofs.group.take_all.Goals as goal
 
-pub take_one-requires-clause-kept : goal.take_one-requires-clause-kept
-take_one-requires-clause-kept g c = entry_at_place (IsKept g.F.FileSystem.model) c.args.group.now c.loop-one.one-index _ c.loop-one-test.true c.requires
+pub take_one-requires-clause-performed : goal.take_one-requires-clause-performed
+take_one-requires-clause-performed g c = entry_at_place (IsPerformed g.F.FileSystem.model) c.args.group.now c.loop-one.one-index _ c.loop-one-test.true c.requires
 
 pub returns-in-Err-clause-fault : goal.returns-in-Err-clause-fault
 returns-in-Err-clause-fault g c = λ rowed. c.in-Err.ensures.fault (c.loop-one.invariant.rowed rowed)
@@ -31,7 +31,7 @@ loop-one-preserved g c =
           (record { rows = g.F.FileSystem.held c.loop-one.draft.rows; records = over c.loop-one.draft.added.items base })
           (record { rows = g.F.FileSystem.held c.take_one.new.draft.rows; records = over c.take_one.new.draft.added.items base }) c.in-Ok.done
           c.in-Ok.ensures.took (c.loop-one.invariant.rowed rowed);
-      ids = ids_more c.args.group.now c.loop-one.one-index _ _ _ c.loop-one-test.true c.loop-one.invariant.ids c.in-Ok.ensures.ids;
+      ids = ids_more g.F.FileSystem.model.service c.args.group.now c.loop-one.one-index _ _ _ c.loop-one-test.true c.loop-one.invariant.ids c.in-Ok.ensures.ids;
     }
 
 pub returns-clause-performed : goal.returns-clause-performed

@@ -1,5 +1,5 @@
 use Rattle.fuse_request.proofs.Heads.{fault_read, only_one, read_at}
-use Rattle.fuse_request.proofs.Classes.{kept_read}
+use Rattle.fuse_request.proofs.Classes.{kept_read, seen_read}
 use Rattle.fuse_request.proofs.decoding.decode.Goals as goal
 
 pub returns-clause-only : goal.returns-clause-only
@@ -13,3 +13,6 @@ returns-clause-kept c = kept_read (c.layouts_stand.ensures, c.names_end.ensures)
 
 pub returns-clause-fault : goal.returns-clause-fault
 returns-clause-fault c = fault_read (c.layouts_stand.ensures, c.names_end.ensures) c.args.message.now c.read.result c.read.ensures.found c.read.ensures.fault
+
+pub returns-clause-seen : goal.returns-clause-seen
+returns-clause-seen c = seen_read (c.layouts_stand.ensures, c.names_end.ensures) c.args.message.now c.read.result c.read.ensures.found c.read.ensures.fault

@@ -9,13 +9,12 @@ pub loop-place-init : goal.loop-place-init
 loop-place-init g c = record {
   next = omega arith;
   enough = c.requires.enough;
-  sent = sent_first_none g.K.Keeper.model.serves (g.P.Port.became c.args.port.now c.args.port.now) ((g.met.P.Port.path).none c.args.port.now) (g.P.Port.told c.args.port.now) c.args.messages.now (wires g.K.Keeper.model.serves c.args.messages.now (answers_in c.args.dones.now))
+  sent = sent_first_none g.K.Keeper.model.service (g.P.Port.became c.args.port.now c.args.port.now) ((g.met.P.Port.path).none c.args.port.now) (g.P.Port.told c.args.port.now) c.args.messages.now (wires g.K.Keeper.model.service c.args.messages.now (answers_in c.args.dones.now))
       (ids_of c.args.pending.now.items);
-  few = omega arith;
 }
 
 pub send_next-requires-clause-enough : goal.send_next-requires-clause-enough
-send_next-requires-clause-enough g c = enough_at g.K.Keeper.model.serves c.args.messages.now c.loop-place.place c.index-messages-place.result c.as_slice-bytes.result.now
+send_next-requires-clause-enough g c = enough_at g.K.Keeper.model.service c.args.messages.now c.loop-place.place c.index-messages-place.result c.as_slice-bytes.result.now
     c.args.dones.now c.loop-place.next c.loop-place-test.true c.index-messages-place.is c.as_slice-bytes.ensures c.loop-place.invariant.enough
 
 pub send_next-requires-clause-young : goal.send_next-requires-clause-young
@@ -28,25 +27,24 @@ loop-place-preserved g c =
     let list = drop c.loop-place.next (answers_in c.args.dones.now) in
     record {
       next = c.in-Ok.ensures.next;
-      enough = enough_more g.K.Keeper.model.serves ms i c.index-messages-place.result c.as_slice-bytes.result.now list _ c.loop-place-test.true c.index-messages-place.is
+      enough = enough_more g.K.Keeper.model.service ms i c.index-messages-place.result c.as_slice-bytes.result.now list _ c.loop-place-test.true c.index-messages-place.is
           c.as_slice-bytes.ensures c.loop-place.invariant.enough c.in-Ok.ensures.left;
-      sent = sent_more g.K.Keeper.model.serves _ _ _
+      sent = sent_more g.K.Keeper.model.service _ _ _
           ((g.met.P.Port.path).onward c.args.port.now c.loop-place.port c.send_next.new.port) _ _ _
-          (g.met.P.Port.tells c.loop-place.port c.send_next.new.port) ms i c.index-messages-place.result c.as_slice-bytes.result.now list _ (wires g.K.Keeper.model.serves ms (answers_in c.args.dones.now)) _ _ _
+          (g.met.P.Port.tells c.loop-place.port c.send_next.new.port) ms i c.index-messages-place.result c.as_slice-bytes.result.now list _ (wires g.K.Keeper.model.service ms (answers_in c.args.dones.now)) _ _ _
           c.loop-place-test.true c.index-messages-place.is c.as_slice-bytes.ensures c.in-Ok.ensures.left c.loop-place.invariant.sent c.in-Ok.ensures.ok;
-      few = omega (arith, c.in-Ok.ensures.few, c.loop-place.invariant.few);
     }
 
 pub returns-in-Err-clause-err : goal.returns-in-Err-clause-err
 returns-in-Err-clause-err g c =
-    sent_some g.K.Keeper.model.serves _ _ _ ((g.met.P.Port.path).onward c.args.port.now c.loop-place.port c.send_next.new.port) c.in-Err.fault _ _ _ c.args.messages.now c.loop-place.place c.index-messages-place.result c.as_slice-bytes.result.now
-    (drop c.loop-place.next (answers_in c.args.dones.now)) (wires g.K.Keeper.model.serves c.args.messages.now (answers_in c.args.dones.now)) _ _
+    sent_some g.K.Keeper.model.service _ _ _ ((g.met.P.Port.path).onward c.args.port.now c.loop-place.port c.send_next.new.port) c.in-Err.fault _ _ _ c.args.messages.now c.loop-place.place c.index-messages-place.result c.as_slice-bytes.result.now
+    (drop c.loop-place.next (answers_in c.args.dones.now)) (wires g.K.Keeper.model.service c.args.messages.now (answers_in c.args.dones.now)) _ _
     c.loop-place-test.true c.index-messages-place.is c.as_slice-bytes.ensures c.loop-place.invariant.sent c.in-Err.ensures.err
 
 pub returns-clause-ok : goal.returns-clause-ok
 returns-clause-ok g c =
     let ms = c.args.messages.now in
     let i = c.loop-place.place in
-    sent_all g.K.Keeper.model.serves _ _ _ ms (wires g.K.Keeper.model.serves (drop i ms) (drop c.loop-place.next (answers_in c.args.dones.now))) (wires g.K.Keeper.model.serves ms (answers_in c.args.dones.now)) (take i ms) _ _
-    (ap (λ x. wires g.K.Keeper.model.serves x (drop c.loop-place.next (answers_in c.args.dones.now))) (drop_all i ms c.loop-place-test.false))
+    sent_all g.K.Keeper.model.service _ _ _ ms (wires g.K.Keeper.model.service (drop i ms) (drop c.loop-place.next (answers_in c.args.dones.now))) (wires g.K.Keeper.model.service ms (answers_in c.args.dones.now)) (take i ms) _ _
+    (ap (λ x. wires g.K.Keeper.model.service x (drop c.loop-place.next (answers_in c.args.dones.now))) (drop_all i ms c.loop-place-test.false))
     (take_all i ms c.loop-place-test.false) c.loop-place.invariant.sent

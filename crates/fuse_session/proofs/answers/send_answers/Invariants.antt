@@ -1,4 +1,4 @@
-use Rattle.std.proofs.Common.{◌≤◌, ◌+◌, length, take, drop}
+use Rattle.std.proofs.Common.{◌≤◌, length, take, drop}
 use Rattle.fuse_keeper.specs.Group.{ids_of}
 use Rattle.fuse_session.specs.inner.Group.{wires, answers_in, AreEnough}
 use Rattle.fuse_session.specs.inner.Sending.{sending}
@@ -8,7 +8,6 @@ use Rattle.fuse_session.proofs.answers.send_answers.Given as goal
 abbrev pub invariant-loop-place : goal.invariant-loop-place
 invariant-loop-place g l = record {
   next : l.next ≤ length l.dones;
-  enough : AreEnough g.K.Keeper.model.serves (drop l.place l.messages) (drop l.next (answers_in l.dones));
-  sent : SentFirst g.K.Keeper.model.serves (sending (g.P.Port.became l.fn.port l.port) (g.P.Port.told l.fn.port) (g.P.Port.told l.port) (ids_of l.fn.pending.items) (ids_of l.pending.items)) (take l.place l.messages) (wires g.K.Keeper.model.serves l.messages (answers_in l.dones)) (wires g.K.Keeper.model.serves (drop l.place l.messages) (drop l.next (answers_in l.dones)));
-  few : length l.pending.items ≤ length l.fn.pending.items + l.next;
+  enough : AreEnough g.K.Keeper.model.service (drop l.place l.messages) (drop l.next (answers_in l.dones));
+  sent : SentFirst g.K.Keeper.model.service (sending (g.P.Port.became l.fn.port l.port) (g.P.Port.told l.fn.port) (g.P.Port.told l.port) (ids_of l.fn.pending.items) (ids_of l.pending.items)) (take l.place l.messages) (wires g.K.Keeper.model.service l.messages (answers_in l.dones)) (wires g.K.Keeper.model.service (drop l.place l.messages) (drop l.next (answers_in l.dones)));
 }

@@ -1,10 +1,10 @@
-use Rattle.std.proofs.Common.{◌≡◌, sym, subst, ap, arith, ◌∙◌, ◌+◌, ◌++◌, All, length, length-append, take, drop, false, ◌∷◌, []}
+use Rattle.std.proofs.Common.{◌≡◌, sym, subst, ap, arith, ◌∙◌, ◌+◌, ◌++◌, All, length, length-append, take, drop, true, false, ◌∷◌, []}
 use Rattle.fuse_session.specs.Grouping.{asked_in, groups_of, one_group}
 use Rattle.fuse_session.proofs.Grouping.{groups_next, groups_some, groups_none, groups_destroy, groups_full, groups_zero, groups_end, full_stuck, zero_stuck}
 use Rattle.std.proofs.lemmas.List.Elements.{All-nil}
-use Rattle.fuse_keeper.specs.Group.{HasId, IsKept, entries_of}
+use Rattle.fuse_keeper.specs.Group.{HasId, IsPerformed, entries_of}
 use Rattle.fuse_session.specs.inner.Group.{Gathers, classes_in}
-use Rattle.fuse_session.proofs.Gathering.{none_yet_gathered, gathers_none, gathers_some, named_some, kept_some, classes_more}
+use Rattle.fuse_session.proofs.Gathering.{none_yet_gathered, gathers_none, gathers_some, named_some, kept_some, classes_more, destroys_is}
 use Rattle.fuse_session.proofs.gather.gather.Goals as goal
 use Rattle.fuse_session.proofs.gather.gather.Goals.{in-Some+in_ok-push-2+else-ends, in_default}
 use Rattle.fuse_session.proofs.gather.gather.Goals.{then-len-ge-MAX_GROUP-via-then-len-ge-MAX_GROUP, then-len-ge-MAX_GROUP-via-else-len-ge-MAX_GROUP+then-has_zero_unique}
@@ -13,19 +13,19 @@ pub loop-message-init : goal.loop-message-init
 loop-message-init g c = record {
   count = ap length c.new-classes.ensures.items;
   classes = c.new-classes.ensures.items;
-  gathers = none_yet_gathered g.K.Keeper.model.serves (g.C.Clock.gave c.args.clock.now c.args.clock.now) c.new-taken.result.items ((g.met.C.Clock.logged).none c.args.clock.now)
+  gathers = none_yet_gathered g.K.Keeper.model.service (g.C.Clock.gave c.args.clock.now c.args.clock.now) c.new-taken.result.items ((g.met.C.Clock.logged).none c.args.clock.now)
       c.new-taken.ensures.items;
   few = omega (arith, ap length c.new-taken.ensures.items);
   named = subst (All HasId) (sym (ap entries_of c.new-taken.ensures.items)) (All-nil HasId);
-  kept = subst (All (IsKept g.K.Keeper.model)) (sym (ap entries_of c.new-taken.ensures.items)) (All-nil (IsKept g.K.Keeper.model));
-  groups = ap (λ l. groups_next g.K.Keeper.model.serves (asked_in (entries_of l)) c.args.messages.now) (sym c.new-taken.ensures.items);
+  kept = subst (All (IsPerformed g.K.Keeper.model)) (sym (ap entries_of c.new-taken.ensures.items)) (All-nil (IsPerformed g.K.Keeper.model));
+  groups = ap (λ l. groups_next g.K.Keeper.model.service (asked_in (entries_of l)) c.args.messages.now) (sym c.new-taken.ensures.items);
 }
 
 pub returns-then-ends-clause-gathers : goal.returns-then-ends-clause-gathers
 returns-then-ends-clause-gathers g c =
     let some = c.in-Some.ensures.entry in
-    subst (λ n. Gathers g.K.Keeper.model.serves (g.C.Clock.gave c.args.clock.now c.read_one.new.clock) (take n c.args.messages.now) c.push-in-Some.new.self.items
-    c.has_opcode-ends.result)
+    subst (λ n. Gathers g.K.Keeper.model.service (g.C.Clock.gave c.args.clock.now c.read_one.new.clock) (take n c.args.messages.now) c.push-in-Some.new.self.items
+    c.is_kept_destroy-ends.result)
     (omega (
       arith,
       ap length c.in_ok-push.ensures.items,
@@ -33,17 +33,19 @@ returns-then-ends-clause-gathers g c =
           (c.classify-class.result ∷ []),
       c.loop-message.invariant.count,
     ))
-    (gathers_some g.K.Keeper.model.serves (g.C.Clock.gave c.args.clock.now c.loop-message.clock) (g.C.Clock.gave c.loop-message.clock c.read_one.new.clock)
+    (gathers_some g.K.Keeper.model.service (g.C.Clock.gave c.args.clock.now c.loop-message.clock) (g.C.Clock.gave c.loop-message.clock c.read_one.new.clock)
     (g.C.Clock.gave c.args.clock.now c.read_one.new.clock) ((g.met.C.Clock.logged).onward c.args.clock.now c.loop-message.clock c.read_one.new.clock)
     c.args.messages.now c.loop-message.message-index c.message-item.result c.as_slice-bytes.result.now c.loop-message.taken.items
-    c.push-in-Some.new.self.items c.in-Some.one some.0 c.has_opcode-ends.result
+    c.push-in-Some.new.self.items c.in-Some.one some.0 c.is_kept_destroy-ends.result
     c.loop-message-test.true c.message-item.is c.as_slice-bytes.ensures c.loop-message.invariant.gathers
-    (sym c.if-has_zero_unique.ensures) some.1 c.in_ok-push-2.ensures.items c.has_opcode-ends.ensures some.2)
+    (sym c.if-has_zero_unique.ensures) some.1 c.in_ok-push-2.ensures.items
+    (destroys_is g.K.Keeper.model.service c.as_slice-bytes.result.now c.classify-class.result c.is_kept_destroy-ends.result
+    c.classify-class.ensures c.is_kept_destroy-ends.ensures) some.2)
 
 pub returns-then-ends-clause-named : goal.returns-then-ends-clause-named
 returns-then-ends-clause-named g c =
     let some = c.in-Some.ensures.entry in
-    named_some g.K.Keeper.model.serves c.as_slice-bytes.result.now c.loop-message.taken.items c.push-in-Some.new.self.items c.in-Some.one some.0 c.loop-message.invariant.named
+    named_some g.K.Keeper.model.service c.as_slice-bytes.result.now c.loop-message.taken.items c.push-in-Some.new.self.items c.in-Some.one some.0 c.loop-message.invariant.named
     (sym c.if-has_zero_unique.ensures) some.1 c.in_ok-push-2.ensures.items
 
 pub returns-then-ends-clause-kept : goal.returns-then-ends-clause-kept
@@ -55,6 +57,8 @@ loop-message-preserved g c = elim c.match-read_one.branch [
   | in-Some+in_ok-push-2+else-ends w ↦
       let some = w.in-Some.ensures.entry in
       let pushed = ap (λ v. v.items) w.taken-is ∙ w.in_ok-push-2.ensures.items in
+      let isnt = destroys_is g.K.Keeper.model.service c.as_slice-bytes.result.now c.classify-class.result false c.classify-class.ensures
+      w.if-ends.ensures in
       record {
         count = omega (
           arith,
@@ -63,16 +67,16 @@ loop-message-preserved g c = elim c.match-read_one.branch [
               (c.classify-class.result ∷ []),
           c.loop-message.invariant.count,
         );
-        classes = classes_more g.K.Keeper.model.serves c.args.messages.now c.loop-message.message-index c.message-item.result c.as_slice-bytes.result.now c.loop-message.classes.items
+        classes = classes_more g.K.Keeper.model.service c.args.messages.now c.loop-message.message-index c.message-item.result c.as_slice-bytes.result.now c.loop-message.classes.items
             c.push.new.self.items
             c.classify-class.result c.loop-message-test.true c.message-item.is c.as_slice-bytes.ensures c.loop-message.invariant.classes
             c.classify-class.ensures c.in_ok-push.ensures.items;
-        gathers = gathers_some g.K.Keeper.model.serves (g.C.Clock.gave c.args.clock.now c.loop-message.clock) (g.C.Clock.gave c.loop-message.clock c.read_one.new.clock)
+        gathers = gathers_some g.K.Keeper.model.service (g.C.Clock.gave c.args.clock.now c.loop-message.clock) (g.C.Clock.gave c.loop-message.clock c.read_one.new.clock)
             (g.C.Clock.gave c.args.clock.now c.read_one.new.clock) ((g.met.C.Clock.logged).onward c.args.clock.now c.loop-message.clock c.read_one.new.clock)
             c.args.messages.now c.loop-message.message-index c.message-item.result c.as_slice-bytes.result.now c.loop-message.taken.items
             c.match-read_one.taken.items w.in-Some.one some.0 false
             c.loop-message-test.true c.message-item.is c.as_slice-bytes.ensures c.loop-message.invariant.gathers
-            (sym c.if-has_zero_unique.ensures) some.1 pushed w.if-ends.ensures some.2;
+            (sym c.if-has_zero_unique.ensures) some.1 pushed isnt some.2;
         few = omega (
           arith,
           ap length pushed,
@@ -81,13 +85,13 @@ loop-message-preserved g c = elim c.match-read_one.branch [
           c.loop-message.taken.ok.0,
           c.if-len-ge-MAX_GROUP.false,
         );
-        named = named_some g.K.Keeper.model.serves c.as_slice-bytes.result.now c.loop-message.taken.items c.match-read_one.taken.items w.in-Some.one some.0
+        named = named_some g.K.Keeper.model.service c.as_slice-bytes.result.now c.loop-message.taken.items c.match-read_one.taken.items w.in-Some.one some.0
             c.loop-message.invariant.named (sym c.if-has_zero_unique.ensures) some.1 pushed;
         kept = kept_some g.K.Keeper.model c.loop-message.taken.items c.match-read_one.taken.items w.in-Some.one c.loop-message.invariant.kept w.in-Some.ensures.kept pushed;
-        groups = groups_some g.K.Keeper.model.serves c.args.messages.now c.loop-message.message-index c.message-item.result c.as_slice-bytes.result.now
+        groups = groups_some g.K.Keeper.model.service c.args.messages.now c.loop-message.message-index c.message-item.result c.as_slice-bytes.result.now
             c.loop-message.taken.items c.match-read_one.taken.items w.in-Some.one some.0 c.loop-message-test.true c.message-item.is c.as_slice-bytes.ensures
             (omega (arith, c.len.ensures, c.loop-message.taken.ok.0, c.if-len-ge-MAX_GROUP.false)) (sym c.if-has_zero_unique.ensures) some.1 pushed
-            (sym w.if-ends.ensures) c.loop-message.invariant.groups;
+            (sym isnt) c.loop-message.invariant.groups;
       }
   | in_default w ↦
       let none = w.in_default.ensures.entry in
@@ -100,22 +104,22 @@ loop-message-preserved g c = elim c.match-read_one.branch [
               (c.classify-class.result ∷ []),
           c.loop-message.invariant.count,
         );
-        classes = classes_more g.K.Keeper.model.serves c.args.messages.now c.loop-message.message-index c.message-item.result c.as_slice-bytes.result.now c.loop-message.classes.items
+        classes = classes_more g.K.Keeper.model.service c.args.messages.now c.loop-message.message-index c.message-item.result c.as_slice-bytes.result.now c.loop-message.classes.items
             c.push.new.self.items
             c.classify-class.result c.loop-message-test.true c.message-item.is c.as_slice-bytes.ensures c.loop-message.invariant.classes
             c.classify-class.ensures c.in_ok-push.ensures.items;
-        gathers = subst (λ xs. Gathers g.K.Keeper.model.serves (g.C.Clock.gave c.args.clock.now c.read_one.new.clock) (take (c.loop-message.message-index + 1) c.args.messages.now) xs
-            false) (sym same) (gathers_none g.K.Keeper.model.serves (g.C.Clock.gave c.args.clock.now c.loop-message.clock) (g.C.Clock.gave c.loop-message.clock c.read_one.new.clock)
+        gathers = subst (λ xs. Gathers g.K.Keeper.model.service (g.C.Clock.gave c.args.clock.now c.read_one.new.clock) (take (c.loop-message.message-index + 1) c.args.messages.now) xs
+            false) (sym same) (gathers_none g.K.Keeper.model.service (g.C.Clock.gave c.args.clock.now c.loop-message.clock) (g.C.Clock.gave c.loop-message.clock c.read_one.new.clock)
             (g.C.Clock.gave c.args.clock.now c.read_one.new.clock) ((g.met.C.Clock.logged).onward c.args.clock.now c.loop-message.clock c.read_one.new.clock)
             c.args.messages.now c.loop-message.message-index c.message-item.result c.as_slice-bytes.result.now c.loop-message.taken.items none.0
             c.loop-message-test.true c.message-item.is c.as_slice-bytes.ensures c.loop-message.invariant.gathers
             (sym c.if-has_zero_unique.ensures) none.1 none.2);
         few = omega (arith, ap length same, c.loop-message.invariant.few);
         named = subst (λ xs. All HasId (entries_of xs)) (sym same) c.loop-message.invariant.named;
-        kept = subst (λ xs. All (IsKept g.K.Keeper.model) (entries_of xs)) (sym same) c.loop-message.invariant.kept;
-        groups = subst (λ xs. groups_of g.K.Keeper.model.serves c.args.messages.now ≡ groups_next g.K.Keeper.model.serves (asked_in (entries_of xs))
+        kept = subst (λ xs. All (IsPerformed g.K.Keeper.model) (entries_of xs)) (sym same) c.loop-message.invariant.kept;
+        groups = subst (λ xs. groups_of g.K.Keeper.model.service c.args.messages.now ≡ groups_next g.K.Keeper.model.service (asked_in (entries_of xs))
             (drop (c.loop-message.message-index + 1) c.args.messages.now)) (sym same)
-            (groups_none g.K.Keeper.model.serves c.args.messages.now c.loop-message.message-index c.message-item.result c.as_slice-bytes.result.now
+            (groups_none g.K.Keeper.model.service c.args.messages.now c.loop-message.message-index c.message-item.result c.as_slice-bytes.result.now
             c.loop-message.taken.items none.0 c.loop-message-test.true c.message-item.is c.as_slice-bytes.ensures
             (omega (arith, c.len.ensures, c.loop-message.taken.ok.0, c.if-len-ge-MAX_GROUP.false)) (sym c.if-has_zero_unique.ensures) none.1
             c.loop-message.invariant.groups);
@@ -141,7 +145,7 @@ returns-in_err-push-clause-logged g c = (_, c.loop-message.invariant.gathers.mom
 
 pub returns-then-ends-clause-classes : goal.returns-then-ends-clause-classes
 returns-then-ends-clause-classes g c =
-    subst (λ n. c.push.new.self.items ≡ classes_in g.K.Keeper.model.serves (take n c.args.messages.now))
+    subst (λ n. c.push.new.self.items ≡ classes_in g.K.Keeper.model.service (take n c.args.messages.now))
     (omega (
       arith,
       ap length c.in_ok-push.ensures.items,
@@ -149,7 +153,7 @@ returns-then-ends-clause-classes g c =
           (c.classify-class.result ∷ []),
       c.loop-message.invariant.count,
     ))
-    (classes_more g.K.Keeper.model.serves c.args.messages.now c.loop-message.message-index c.message-item.result c.as_slice-bytes.result.now c.loop-message.classes.items
+    (classes_more g.K.Keeper.model.service c.args.messages.now c.loop-message.message-index c.message-item.result c.as_slice-bytes.result.now c.loop-message.classes.items
     c.push.new.self.items
     c.classify-class.result c.loop-message-test.true c.message-item.is c.as_slice-bytes.ensures c.loop-message.invariant.classes c.classify-class.ensures
     c.in_ok-push.ensures.items)
@@ -158,7 +162,7 @@ pub returns-then-len-ge-MAX_GROUP-clause-stuck : goal.returns-then-len-ge-MAX_GR
 returns-then-len-ge-MAX_GROUP-clause-stuck g c = λ none.
     let first = sym c.loop-message.invariant.count ∙ none in
     elim c.then-len-ge-MAX_GROUP.branch [
-      | then-len-ge-MAX_GROUP-via-then-len-ge-MAX_GROUP w ↦ absurd (full_stuck g.K.Keeper.model.serves
+      | then-len-ge-MAX_GROUP-via-then-len-ge-MAX_GROUP w ↦ absurd (full_stuck g.K.Keeper.model.service
           (g.C.Clock.gave c.args.clock.now c.loop-message.clock) c.args.messages.now c.loop-message.message-index c.loop-message.taken.items first
           c.loop-message.invariant.gathers (omega (arith, c.len.ensures, c.loop-message.taken.ok.0, w.if-len-ge-MAX_GROUP.true)))
       | then-len-ge-MAX_GROUP-via-else-len-ge-MAX_GROUP+then-has_zero_unique w ↦ zero_stuck c.args.messages.now c.loop-message.message-index
@@ -167,12 +171,12 @@ returns-then-len-ge-MAX_GROUP-clause-stuck g c = λ none.
 
 pub returns-then-len-ge-MAX_GROUP-clause-groups : goal.returns-then-len-ge-MAX_GROUP-clause-groups
 returns-then-len-ge-MAX_GROUP-clause-groups g c =
-    subst (λ n. groups_of g.K.Keeper.model.serves c.args.messages.now ≡ one_group (asked_in (entries_of c.loop-message.taken.items))
-    ++ groups_of g.K.Keeper.model.serves (drop n c.args.messages.now)) (sym c.loop-message.invariant.count)
+    subst (λ n. groups_of g.K.Keeper.model.service c.args.messages.now ≡ one_group (asked_in (entries_of c.loop-message.taken.items))
+    ++ groups_of g.K.Keeper.model.service (drop n c.args.messages.now)) (sym c.loop-message.invariant.count)
     (elim c.then-len-ge-MAX_GROUP.branch [
-      | then-len-ge-MAX_GROUP-via-then-len-ge-MAX_GROUP w ↦ groups_full g.K.Keeper.model.serves c.args.messages.now c.loop-message.message-index
+      | then-len-ge-MAX_GROUP-via-then-len-ge-MAX_GROUP w ↦ groups_full g.K.Keeper.model.service c.args.messages.now c.loop-message.message-index
           c.loop-message.taken.items (omega (arith, c.len.ensures, c.loop-message.taken.ok.0, w.if-len-ge-MAX_GROUP.true)) c.loop-message.invariant.groups
-      | then-len-ge-MAX_GROUP-via-else-len-ge-MAX_GROUP+then-has_zero_unique w ↦ groups_zero g.K.Keeper.model.serves c.args.messages.now
+      | then-len-ge-MAX_GROUP-via-else-len-ge-MAX_GROUP+then-has_zero_unique w ↦ groups_zero g.K.Keeper.model.service c.args.messages.now
           c.loop-message.message-index c.message-item.result c.as_slice-bytes.result.now c.loop-message.taken.items c.loop-message-test.true
           c.message-item.is c.as_slice-bytes.ensures (omega (arith, c.len.ensures, c.loop-message.taken.ok.0, w.if-len-ge-MAX_GROUP.false))
           (sym w.if-has_zero_unique.ensures) c.loop-message.invariant.groups
@@ -181,8 +185,8 @@ returns-then-len-ge-MAX_GROUP-clause-groups g c =
 pub returns-then-ends-clause-groups : goal.returns-then-ends-clause-groups
 returns-then-ends-clause-groups g c =
     let some = c.in-Some.ensures.entry in
-    subst (λ n. groups_of g.K.Keeper.model.serves c.args.messages.now ≡ one_group (asked_in (entries_of c.push-in-Some.new.self.items))
-    ++ groups_of g.K.Keeper.model.serves (drop n c.args.messages.now))
+    subst (λ n. groups_of g.K.Keeper.model.service c.args.messages.now ≡ one_group (asked_in (entries_of c.push-in-Some.new.self.items))
+    ++ groups_of g.K.Keeper.model.service (drop n c.args.messages.now))
     (omega (
       arith,
       ap length c.in_ok-push.ensures.items,
@@ -190,14 +194,17 @@ returns-then-ends-clause-groups g c =
           (c.classify-class.result ∷ []),
       c.loop-message.invariant.count,
     ))
-    (groups_destroy g.K.Keeper.model.serves c.args.messages.now c.loop-message.message-index c.message-item.result c.as_slice-bytes.result.now
+    (groups_destroy g.K.Keeper.model.service c.args.messages.now c.loop-message.message-index c.message-item.result c.as_slice-bytes.result.now
     c.loop-message.taken.items c.push-in-Some.new.self.items c.in-Some.one some.0 c.loop-message-test.true c.message-item.is c.as_slice-bytes.ensures
     (omega (arith, c.len.ensures, c.loop-message.taken.ok.0, c.if-len-ge-MAX_GROUP.false)) (sym c.if-has_zero_unique.ensures) some.1
-    c.in_ok-push-2.ensures.items (sym c.if-ends.ensures) c.loop-message.invariant.groups)
+    c.in_ok-push-2.ensures.items
+    (sym (destroys_is g.K.Keeper.model.service c.as_slice-bytes.result.now c.classify-class.result true c.classify-class.ensures
+    c.if-ends.ensures))
+    c.loop-message.invariant.groups)
 
 pub returns-clause-groups : goal.returns-clause-groups
 returns-clause-groups g c =
-    subst (λ n. groups_of g.K.Keeper.model.serves c.args.messages.now ≡ one_group (asked_in (entries_of c.loop-message.taken.items))
-    ++ groups_of g.K.Keeper.model.serves (drop n c.args.messages.now)) (sym c.loop-message.invariant.count)
-    (groups_end g.K.Keeper.model.serves c.args.messages.now c.loop-message.message-index c.loop-message.taken.items
+    subst (λ n. groups_of g.K.Keeper.model.service c.args.messages.now ≡ one_group (asked_in (entries_of c.loop-message.taken.items))
+    ++ groups_of g.K.Keeper.model.service (drop n c.args.messages.now)) (sym c.loop-message.invariant.count)
+    (groups_end g.K.Keeper.model.service c.args.messages.now c.loop-message.message-index c.loop-message.taken.items
     (omega (arith, c.loop-message-test.false)) c.loop-message.invariant.groups)

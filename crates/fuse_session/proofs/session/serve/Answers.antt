@@ -62,7 +62,16 @@ loop-turn-init g c = record {
       })
       (ap ids_of c.new-pending.ensures.items) c.new-framer.ensures;
   ready = ready_new c.new-framer.result c.new-framer.ensures;
-  below = record { messages = omega arith; kept = omega arith; repeated = omega arith; bare = omega arith; silent = omega arith; interrupts = omega arith };
+  below = record {
+    messages = omega arith;
+    kept = omega arith;
+    repeated = omega arith;
+    seen = omega arith;
+    bare = omega arith;
+    silent =
+        omega arith;
+    interrupts = omega arith;
+  };
   few = omega (arith, ap length c.new-pending.ensures.items);
   going = c.requires.going;
   firm = λ _ firm. firm;
@@ -99,8 +108,8 @@ loop-turn-preserved g c =
                 c.args.port.now c.loop-turn.port c.one_turn.new.port inv.whole.turned.work.deeds b inv.whole.turned.work.done.0.done two.done;
             first = first_more g.K.Keeper.model (g.K.Keeper.told c.args.keeper.now) (g.K.Keeper.told c.loop-turn.keeper) (g.K.Keeper.told c.one_turn.new.keeper) _ _ _ _
                 inv.whole.turned.work.deeds b e.honest (caught_whole g.K.Keeper.model _ _ _ _ _ _ _ inv.whole inv.ready.good gave) inv.whole.turned.work.done.0.first two;
-            stops = stops_more g.K.Keeper.model.serves _ _ _ inv.whole.turned.work.deeds b gave two;
-            groups = groups_more c.cut_joins.ensures g.K.Keeper.model.serves inv.whole.turned.work.deeds b _ _ _ _ inv.whole.turned.work.done.1 inv.whole.rest_is
+            stops = stops_more g.K.Keeper.model.service _ _ _ inv.whole.turned.work.deeds b gave two;
+            groups = groups_more c.cut_joins.ensures g.K.Keeper.model.service inv.whole.turned.work.deeds b _ _ _ _ inv.whole.turned.work.done.1 inv.whole.rest_is
                 inv.whole.turned.work.done.0.groups two
                 ∙ ap (λ (l : List (List Asked)). groups_asked (inv.whole.turned.work.deeds.asked ++ b.asked) ++ l) (two.none_later refl)
                 ∙ append-nil (groups_asked (inv.whole.turned.work.deeds.asked ++ b.asked));
@@ -168,11 +177,11 @@ returns-in-Err-clause-session g c =
       prompt = record {
         first = first_more M k m k' _ _ _ _ before t.deeds e.honest (caught_whole M _ _ _ _ _ _ _ inv.whole inv.ready.good gave)
             inv.whole.turned.work.done.0.first t.done;
-        stops = stops_more M.serves _ _ _ before t.deeds gave t.done;
+        stops = stops_more M.service _ _ _ before t.deeds gave t.done;
       };
       groups = (
         t.done.later,
-        groups_more c.cut_joins.ensures M.serves before t.deeds _ _ _ _ inv.whole.turned.work.done.1 inv.whole.rest_is inv.whole.turned.work.done.0.groups t.done,
+        groups_more c.cut_joins.ensures M.service before t.deeds _ _ _ _ inv.whole.turned.work.done.1 inv.whole.rest_is inv.whole.turned.work.done.0.groups t.done,
       );
       lots = λ confirms intact rows (records : Records) held rowed.
           let before : KeptRecords = record { records = records; lots = k.lots } in

@@ -48,9 +48,9 @@ loop-at-preserved g c =
           (ids_of c.loop-at.pending.items) c.loop-at.outcomes.items c.loop-at.invariant.moved c.loop-at.invariant.opened c.loop-at.invariant.stood
           c.in_ok-at.ensures.opens;
       asked = moved_asked g.K.Keeper.model k.performed g.met.K.Keeper.log (told_in k.told c.args.keeper.now) (told_in k.told c.loop-at.keeper)
-          c.args.keeper.now c.loop-at.keeper c.run_next.new.keeper c.args.events.now c.loop-at.at c.in_ok-at.field-0
-          (ids_of c.loop-at.pending.items) c.loop-at.outcomes.items c.loop-at.invariant.moved c.loop-at.invariant.asked
-          c.in_ok-at.ensures.asks c.in_ok-at.ensures.asked;
+          (told_in k.told c.run_next.new.keeper) c.args.keeper.now c.loop-at.keeper c.run_next.new.keeper c.args.events.now c.loop-at.at c.in_ok-at.field-0
+          (ids_of c.loop-at.pending.items) (ids_of c.run_next.new.pending.items) c.loop-at.outcomes.items c.run_next.new.outcomes.items
+          c.loop-at.invariant.moved c.loop-at.invariant.asked c.in_ok-at.ensures.ok c.in_ok-at.ensures.one c.in_ok-at.ensures.asked;
       medium = medium_then g.K.Keeper.model k.told c.args.keeper.now c.loop-at.keeper c.run_next.new.keeper (λ x. (k.told x).has_failed ≡ false)
           c.loop-at.invariant.going c.loop-at.invariant.medium c.in_ok-at.ensures.opens.medium;
     }
@@ -174,7 +174,7 @@ returns-clause-stood_before g c =
 
 pub returns-clause-asked : goal.returns-clause-asked
 returns-clause-asked g c =
-    subst (λ es. performed_in g.K.Keeper.performed c.args.keeper.now c.loop-at.keeper (performances g.K.Keeper.model.serves es))
+    subst (λ es. performed_in g.K.Keeper.performed c.args.keeper.now c.loop-at.keeper (performances g.K.Keeper.model.service es))
     (take_all c.loop-at.at c.args.events.now c.loop-at-test.false) c.loop-at.invariant.asked
 
 pub returns-clause-outcomes_before : goal.returns-clause-outcomes_before

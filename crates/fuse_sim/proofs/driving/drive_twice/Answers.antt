@@ -1,7 +1,7 @@
 use Rattle.std.proofs.Common.{◌++◌, map, ap, sym, ◌∙◌}
 use Rattle.std.proofs.lemmas.List.{map-append}
 use Rattle.std.proofs.lemmas.Result.{err_from_is_err_and}
-use Rattle.fuse_sim.specs.Driving.{bytes_given, committed, outcome_of, settled_by}
+use Rattle.fuse_sim.specs.Driving.{bytes_given, committed, outcomes_of, settled_by}
 use Rattle.fuse_sim.specs.Twice.{seen_of}
 use Rattle.fuse_sim.proofs.Driven.{outcomes-append, reused-parts}
 use Rattle.fuse_sim.proofs.Openings.{stands_twice, opened_twice, stood_twice}
@@ -18,7 +18,7 @@ returns-clause-tree_stands g c = λ is.
 pub returns-clause-outcomes : goal.returns-clause-outcomes
 returns-clause-outcomes g c = λ is start h settled so none.
     let M = g.K.Keeper.model in
-    let V = M.serves in
+    let V = M.service in
     let xs = c.args.events.now in
     let ys = c.args.more.now in
     let was = c.drive-2.ensures.honest is in
@@ -26,7 +26,7 @@ returns-clause-outcomes g c = λ is start h settled so none.
     let stands = c.in_ok-first.ensures.tree_stands was start h settled so parts.0 in
     map-append bytes_given c.in_ok-first.first.items c.in_ok-second.second.items
     ∙ ap (λ os. os ++ map bytes_given c.in_ok-second.second.items) (c.in_ok-first.ensures.outcomes was start h settled so parts.0)
-    ∙ ap (λ os. map (outcome_of M start (committed V h xs)) xs ++ os) (c.in_ok-second.ensures.outcomes is start (committed V h xs) (settled_by V settled xs) stands
+    ∙ ap (λ os. outcomes_of M start h xs ++ os) (c.in_ok-second.ensures.outcomes is start (committed V h xs) (settled_by V settled xs) stands
     parts.1)
     ∙ sym (outcomes-append M c.histories_grow.ensures start h xs ys)
 

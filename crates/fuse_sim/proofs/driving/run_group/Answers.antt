@@ -1,13 +1,14 @@
 use Rattle.std.proofs.Common.{◌≡◌, false, ◌+◌, ◌-◌, ◌≤◌, refl, sym, ap, subst, ◌∙◌, length, take, drop, arith}
 use Rattle.std.proofs.lemmas.Result.{err_from_is_err_and}
 use Rattle.fuse_keeper.specs.Group.{ids_of}
-use Rattle.fuse_sim.specs.Driving.{told_in, commits_in}
+use Rattle.fuse_sim.specs.Driving.{told_in, performs_in}
 use Rattle.fuse_sim.specs.Twice.{seen_of}
 use Rattle.fuse_sim.specs.inner.Running.{GathersEvents}
-use Rattle.fuse_sim.proofs.Moves.{worked_over, group_moved, ids_left, few_taken, few_left}
+use Rattle.fuse_sim.proofs.Cutting.{group_alone}
+use Rattle.fuse_sim.proofs.Moves.{worked_over, group_moved, ids_left, few_taken, few_kept, few_left}
 use Rattle.fuse_sim.proofs.Openings.{group_opens}
 use Rattle.fuse_sim.proofs.Stopping.{stops_here, stops_store, stops_restart, dies_at, begins_fit, within_rest, run_slice, group_read, group_stops}
-use Rattle.fuse_sim.proofs.AskedGroups.{asks_from, asked_run, stops_unasked, stops_performing, stops_emptied}
+use Rattle.fuse_sim.proofs.AskedGroups.{asked_run, stops_unasked, stops_performing, stops_emptied}
 use Rattle.fuse_sim.proofs.driving.run_group.Goals as goal
 
 pub returns-in_default-clause-err : goal.returns-in_default-clause-err
@@ -65,13 +66,13 @@ returns-clause-ok g c =
     let group = c.in-Ok.group in
     let gathers = group_read g.K.Keeper.model events at count group (omega (arith, c.len-count.ensures, group.classes.ok))
     c.in-Ok.ensures.gathers in
-    let stops = group_stops events at count group (omega (arith, c.len-count.ensures, group.classes.ok))
+    let stops = group_stops g.K.Keeper.model.service events at count group (omega (arith, c.len-count.ensures, group.classes.ok))
     c.in-Ok.ensures.stops in
     let worked = worked_over k.model (told_in k.told c.args.keeper.now) (told_in k.told c.work_group.new.keeper) (take (at + count - at) (drop at events))
     (ids_of c.args.pending.now.items) (ids_of c.make_room.new.pending.items) (ids_of c.work_group.new.pending.items) c.args.outcomes.now.items
     c.make_room.new.outcomes.items c.work_group.new.outcomes.items (ap ids_of c.make_room.ensures.pending) c.make_room.ensures.outcomes
     c.in_default-work_group.ensures.ok in
-    group_moved k.model (told_in k.told c.args.keeper.now) (told_in k.told c.work_group.new.keeper) (told_in k.told c.end_group.new.keeper)
+    group_moved k.model c.seen_by_class.ensures (told_in k.told c.args.keeper.now) (told_in k.told c.work_group.new.keeper) (told_in k.told c.end_group.new.keeper)
     group (take count (drop at events)) (take (at + count - at) (drop at events)) (drop (at + count) events)
     (ids_of c.args.pending.now.items) (ids_of c.work_group.new.pending.items) (ids_of c.end_group.new.pending.items) c.args.outcomes.now.items
     c.work_group.new.outcomes.items
@@ -106,11 +107,11 @@ returns-clause-few g c =
     let group = c.in-Ok.group in
     let gathers = group_read g.K.Keeper.model events at count group (omega (arith, c.len-count.ensures, group.classes.ok))
     c.in-Ok.ensures.gathers in
-    few_left g.K.Keeper.model.serves group.died (take (at + count - at) (drop at events)) c.make_room.new.pending.items c.work_group.new.pending.items c.end_group.new.pending.items 16
+    few_left g.K.Keeper.model.service group.died (take (at + count - at) (drop at events)) c.make_room.new.pending.items c.work_group.new.pending.items c.end_group.new.pending.items 16
     c.in_ok-end_group.ensures.pending c.in_default-work_group.ensures.ok.handed
     (omega (arith, c.requires.few, ap length c.make_room.ensures.pending))
-    (few_taken g.K.Keeper.model.serves (take (at + count - at) (drop at events)) group.taken.items 16 (gathers.entries ∙ ap (commits_in g.K.Keeper.model.serves) (sym (run_slice events at count)))
-    gathers.few)
+    (few_kept g.K.Keeper.model.service (take (at + count - at) (drop at events)) group.taken.items 16
+    (gathers.entries ∙ ap (performs_in g.K.Keeper.model.service) (sym (run_slice events at count))) gathers.few)
 
 pub returns-in_default-clause-err_asked : goal.returns-in_default-clause-err_asked
 returns-in_default-clause-err_asked g c =
@@ -124,7 +125,7 @@ returns-then-is_err-clause-err_asked g c =
 
 pub returns-in-Err-clause-err_asked : goal.returns-in-Err-clause-err_asked
 returns-in-Err-clause-err_asked g c =
-    let V = g.K.Keeper.model.serves in
+    let V = g.K.Keeper.model.service in
     let events = c.args.events.now in
     let at = c.args.at in
     let count = c.len-count.result in
@@ -132,8 +133,7 @@ returns-in-Err-clause-err_asked g c =
     let gathers = group_read g.K.Keeper.model events at count group
     (omega (arith, c.len-count.ensures, group.classes.ok)) c.in-Ok.ensures.gathers in
     stops_performing g.K.Keeper.model (seen_of g.K.Keeper.told g.K.Keeper.became g.K.Keeper.performed g.K.Restart.refuses) c.args.keeper.now c.work_group.new.keeper (ids_of c.args.pending.now.items)
-    (ids_of c.make_room.new.pending.items) (drop at events) (take (at + count - at) (drop at events)) count group.taken.items group.died _ gathers.goes
-    (few_taken V (take count (drop at events)) group.taken.items 16 gathers.entries gathers.few) c.requires.begins gathers.entries c.in-Err.ensures.some
+    (ids_of c.make_room.new.pending.items) (drop at events) (take (at + count - at) (drop at events)) count group _ gathers c.in-Err.ensures.some
     (run_slice events at count) (ap ids_of c.make_room.ensures.pending) c.work_group.ensures.asked refl
 
 pub returns-in_err-end_group-clause-err_asked : goal.returns-in_err-end_group-clause-err_asked
@@ -142,23 +142,22 @@ returns-in_err-end_group-clause-err_asked g c =
     rw (p.1, p.2) (stops_emptied g.K.Keeper.model (seen_of g.K.Keeper.told g.K.Keeper.became g.K.Keeper.performed g.K.Restart.refuses) c.args.keeper.now c.end_group.new.keeper (ids_of c.args.pending.now.items)
     (drop c.args.at c.args.events.now) c.in_err-end_group.field-0.0 c.in_err-end_group.ensures.err.0)
 
-pub returns-clause-asks : goal.returns-clause-asks
-returns-clause-asks g c =
-    let V = g.K.Keeper.model.serves in
+pub returns-clause-one : goal.returns-clause-one
+returns-clause-one g c =
+    let V = g.K.Keeper.model.service in
     let events = c.args.events.now in
     let at = c.args.at in
     let count = c.len-count.result in
     let group = c.in-Ok.group in
     let gathers = group_read g.K.Keeper.model events at count group
     (omega (arith, c.len-count.ensures, group.classes.ok)) c.in-Ok.ensures.gathers in
-    asks_from V group.died (take count (drop at events)) (drop at events) (ids_of c.args.pending.now.items) gathers.goes
-    (few_taken V (take count (drop at events)) group.taken.items 16 gathers.entries gathers.few) c.requires.begins
+    group_alone V group.died (take count (drop at events)) gathers.goes (few_taken V (take count (drop at events)) group.taken.items 16 gathers.entries gathers.few)
 
 pub returns-clause-asked : goal.returns-clause-asked
 returns-clause-asked g c =
     let events = c.args.events.now in
     let at = c.args.at in
     let count = c.len-count.result in
-    asked_run g.K.Keeper.model.serves g.K.Keeper.performed g.met.K.Keeper.log c.args.keeper.now c.work_group.new.keeper c.end_group.new.keeper
+    asked_run g.K.Keeper.model.service g.K.Keeper.performed g.met.K.Keeper.log c.args.keeper.now c.work_group.new.keeper c.end_group.new.keeper
     (ids_of c.args.pending.now.items) (ids_of c.make_room.new.pending.items) (take (at + count - at) (drop at events)) (take count (drop at events))
     (run_slice events at count) (ap ids_of c.make_room.ensures.pending) c.work_group.ensures.asked c.in_ok-end_group.ensures.unasked

@@ -1,26 +1,15 @@
-use Rattle.std.proofs.Common.{◌≡◌, false, ◌+◌, ◌++◌, ◌∷◌, [], List, Option, None, sym, ap, subst, refl, ◌∙◌, take, drop, IsSomeAnd}
+use Rattle.std.proofs.Common.{◌≡◌, false, ◌+◌, ◌++◌, ◌∷◌, [], List, Option, None, sym, ap, subst, refl, ◌∙◌, drop, IsSomeAnd}
 use Rattle.std.proofs.lemmas.Option.{slice_get_read}
-use Rattle.std.proofs.lemmas.Result.{err_from_is_err_and, IfOk-weaker}
+use Rattle.std.proofs.lemmas.Result.{err_from_is_err_and}
 use Rattle.fuse_keeper.specs.Group.{ids_of}
 use Rattle.fuse_sim.specs.declared.event.Outcome.{Outcome}
 use Rattle.fuse_sim.specs.Driving.{told_in, IsFit}
 use Rattle.fuse_sim.specs.Twice.{seen_of}
-use Rattle.fuse_sim.proofs.Moves.{begins_at, next_moved, lost_moved}
+use Rattle.fuse_sim.proofs.Moves.{lost_moved}
 use Rattle.fuse_sim.proofs.Openings.{became_itself, lost_opens}
 use Rattle.fuse_sim.proofs.Stopping.{stops_here, stops_restart, lost_dies}
-use Rattle.fuse_sim.proofs.AskedGroups.{lost_from, lost_asked, stops_unasked, stops_emptied}
+use Rattle.fuse_sim.proofs.AskedGroups.{lost_is_one, lost_asked, stops_unasked, stops_emptied}
 use Rattle.fuse_sim.proofs.driving.run_next.Goals as goal
-
-pub returns-then-not-is_before_commit-clause-ok : goal.returns-then-not-is_before_commit-clause-ok
-returns-then-not-is_before_commit-clause-ok g c =
-    let k = g.K.Keeper in
-    let events = c.args.events.now in
-    let at = c.args.at in
-    let begins = begins_at events at c.index-events-at.result c.requires.at c.index-events-at.is c.in_ok-test_event.ensures.fit (sym c.is_before_commit.ensures
-    ∙ c.if-not-is_before_commit.true) in
-    IfOk-weaker c.run_group.result _ _ (λ n moved. next_moved g.K.Keeper.model (told_in k.told c.args.keeper.now) (told_in k.told c.run_group.new.keeper)
-    (ids_of c.args.pending.now.items) (ids_of c.run_group.new.pending.items) (take n (drop at events)) (drop at events) (drop (at + n) events)
-    c.args.outcomes.now.items c.run_group.new.outcomes.items begins moved) c.run_group.ensures.ok
 
 pub returns-then-is_err-clause-err : goal.returns-then-is_err-clause-err
 returns-then-is_err-clause-err g c =
@@ -47,11 +36,11 @@ returns-in_err-end_group-clause-err g c =
     (became_itself k.became g.met.K.Keeper.counted (λ x. (k.told x).has_failed ≡ false) c.args.keeper.now c.requires.going) refl)
 
 pub returns-clause-ok : goal.returns-clause-ok
-returns-clause-ok g c = λ room may.
+returns-clause-ok g c =
     let k = g.K.Keeper in
     let events = c.args.events.now in
     let at = c.args.at in
-    lost_moved g.K.Keeper.model (told_in k.told c.args.keeper.now) (told_in k.told c.end_group.new.keeper) (ids_of c.args.pending.now.items) room events
+    lost_moved g.K.Keeper.model (told_in k.told c.args.keeper.now) (told_in k.told c.end_group.new.keeper) (ids_of c.args.pending.now.items) events
     (drop (at + 1) events) at
     c.index-events-at.result
     (ids_of c.end_group.new.pending.items) c.args.outcomes.now.items c.push_reserved.new.self.items
@@ -85,13 +74,13 @@ returns-in_err-end_group-clause-err_asked g c =
     rw (p.1, p.2) (stops_emptied g.K.Keeper.model (seen_of g.K.Keeper.told g.K.Keeper.became g.K.Keeper.performed g.K.Restart.refuses) c.args.keeper.now c.end_group.new.keeper (ids_of c.args.pending.now.items)
     (drop c.args.at c.args.events.now) c.in_err-end_group.field-0.0 c.in_err-end_group.ensures.err.0)
 
-pub returns-clause-asks : goal.returns-clause-asks
-returns-clause-asks g c =
-    lost_from g.K.Keeper.model.serves c.args.events.now c.args.at c.index-events-at.result (ids_of c.args.pending.now.items) c.requires.at c.index-events-at.is
+pub returns-clause-one : goal.returns-clause-one
+returns-clause-one g c =
+    lost_is_one g.K.Keeper.model.service c.args.events.now c.args.at c.index-events-at.result c.requires.at c.index-events-at.is
     (sym c.is_before_commit.ensures ∙ c.if-not-is_before_commit.false)
 
 pub returns-clause-asked : goal.returns-clause-asked
 returns-clause-asked g c =
-    lost_asked g.K.Keeper.model.serves g.K.Keeper.performed c.args.keeper.now c.end_group.new.keeper c.args.events.now c.args.at c.index-events-at.result
+    lost_asked g.K.Keeper.model.service g.K.Keeper.performed c.args.keeper.now c.end_group.new.keeper c.args.events.now c.args.at c.index-events-at.result
     (ids_of c.args.pending.now.items) c.requires.at c.index-events-at.is (sym c.is_before_commit.ensures ∙ c.if-not-is_before_commit.false)
     c.in_ok-end_group.ensures.unasked

@@ -1,13 +1,14 @@
 use Rattle.std.proofs.Common.{◌+◌, ◌++◌, ◌∷◌, [], sym, ap, subst, ◌∙◌, length, length-append, vec_capacity, drop, arith}
 use Rattle.std.specs.Vec.Iter.{into_iter_items}
 use Rattle.fuse_keeper.specs.Group.{ids_of}
-use Rattle.fuse_sim.specs.inner.Running.{answers_in, outcomes_by, HasAnswers, settles_in}
+use Rattle.fuse_sim.specs.Driving.{settles_in}
+use Rattle.fuse_sim.specs.inner.Running.{answers_in, outcomes_by, HasAnswers}
 use Rattle.fuse_sim.proofs.Outcomes.{adds_one, settled_one, answers_here, places_left}
 use Rattle.fuse_sim.proofs.group.answer_group.Goals as goal
 
 pub loop-place-preserved : goal.loop-place-preserved
 loop-place-preserved g c =
-    let V = g.K.Keeper.model.serves in
+    let V = g.K.Keeper.model.service in
     let inv = c.loop-place.invariant in
     let run = c.args.run.now in
     let i = c.loop-place.place in

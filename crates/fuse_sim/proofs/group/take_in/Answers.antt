@@ -14,10 +14,10 @@ returns-clause-joins g c = λ _.
     let new : Group = record { classes = c.push-2.new.self; taken = c.match-read_one.group.taken; died = c.is_after_commit-group.result } in
     let fit = c.stands_apart.ensures.fit c.if-stands_apart.false in
     let goes = c.stands_apart.ensures.goes c.if-stands_apart.false in
-    let class : c.classify-class.result ≡ class_for M.serves e.bytes = c.classify-class.ensures ∙ ap (class_for M.serves) c.as_slice.ensures in
+    let class : c.classify-class.result ≡ class_for M.service e.bytes = c.classify-class.ensures ∙ ap (class_for M.service) c.as_slice.ensures in
     elim c.match-read_one.branch [
       | in-Some+else-len-eq-MAX_GROUP+in_ok-push w ↦
-          joins_kept M c.kept_have_ids.ensures e old new w.in-Some.one c.if-group.false fit goes
+          joins_kept M c.performed_have_ids.ensures e old new w.in-Some.one c.if-group.false fit goes
           w.in-Some.ensures.entry w.in-Some.ensures.kept (λ full. grind (arith, full, w.len.ensures, w.if-len-eq-MAX_GROUP.false))
           (c.in_ok-push-2.ensures.items ∙ ap (λ g. g.classes.items ++ c.classify-class.result ∷ []) w.group-is
           ∙ ap (λ (k : Class). old.classes.items ++ k ∷ []) class)

@@ -1,6 +1,7 @@
 use Rattle.sqlite.specs.Held.{state}
 use Rattle.fuse_keeper.specs.Group.{ids_of, entries_of}
 use Rattle.fuse_store_tables.specs.inner.Following.{earlier}
+use Rattle.fuse_tree.specs.TheTree.{tree_of}
 use Rattle.fuse_store_tree.specs.Group.{prepared}
 use Rattle.fuse_store_tree.specs.Knowing.{HeldForKnown}
 use Rattle.fuse_store_tree.proofs.KnownSteps.{held_for, turned_known_keeps}
@@ -10,7 +11,7 @@ use Rattle.fuse_store_tree.proofs.group.perform_in.Goals as goal
 
 pub returns-in-Ok-take_all-clause-turned : goal.returns-in-Ok-take_all-clause-turned
 returns-in-Ok-take_all-clause-turned g c =
-    grouped c.args.look.now.known c.take_all.new.look.known c.args.lot c.in-Ok.lot (ids_of c.args.settled.now) (entries_of c.args.group.now)
+    grouped (tree_of c.args.profile).service c.args.look.now.known c.take_all.new.look.known c.args.lot c.in-Ok.lot (ids_of c.args.settled.now) (entries_of c.args.group.now)
     (state g.S.Store c.args.look.now.conn) (state g.S.Store c.prepare.new.conn) (state g.S.Store c.take_all.new.look.conn) c.in-Ok.ensures.turned
     c.in-Ok.ensures.value c.in-Ok-take_all.ensures.turned
 
@@ -21,7 +22,7 @@ returns-in-Ok-take_all-clause-lot g c = λ clean.
 
 pub returns-in-Ok-take_all-clause-dones : goal.returns-in-Ok-take_all-clause-dones
 returns-in-Ok-take_all-clause-dones g c =
-    dones_are c.args.look.now.known c.args.lot c.in-Ok.lot (ids_of c.args.settled.now) (entries_of c.args.group.now) (state g.S.Store c.args.look.now.conn)
+    dones_are (tree_of c.args.profile).service c.args.look.now.known c.args.lot c.in-Ok.lot (ids_of c.args.settled.now) (entries_of c.args.group.now) (state g.S.Store c.args.look.now.conn)
     (state g.S.Store c.prepare.new.conn) (state g.S.Store c.take_all.new.look.conn) c.in-Ok-take_all.dones.items c.in-Ok.ensures.turned
     c.in-Ok.ensures.value c.in-Ok-take_all.ensures.turned.stays c.in-Ok-take_all.ensures.dones
 

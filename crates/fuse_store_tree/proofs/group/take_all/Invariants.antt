@@ -3,15 +3,16 @@ use Rattle.sqlite.specs.Held.{state}
 use Rattle.fuse_keeper.specs.Group.{entries_of}
 use Rattle.fuse_store_tree.specs.Looking.{as_look_fault}
 use Rattle.fuse_store_tree.specs.inner.Knowing.{TurnedKnown}
+use Rattle.fuse_tree.specs.TheTree.{tree_of}
 use Rattle.fuse_store_tree.specs.Group.{with_group}
 use Rattle.fuse_store_tree.proofs.Groups.{AreDones}
 use Rattle.fuse_store_tree.proofs.group.take_all.Given as goal
 
 abbrev pub invariant-loop-one : goal.invariant-loop-one
 invariant-loop-one g l = record {
-  turned : TurnedKnown l.fn.look.known l.look.known (with_group l.lot (entries_of (take l.one-index l.group))) (state g.S.Store l.fn.look.conn)
+  turned : TurnedKnown l.fn.look.known l.look.known (with_group (tree_of l.profile).service l.lot (entries_of (take l.one-index l.group))) (state g.S.Store l.fn.look.conn)
       (state g.S.Store l.look.conn);
-  dones : AreDones l.fn.look.known l.lot (entries_of (take l.one-index l.group)) (state g.S.Store l.fn.look.conn) (state g.S.Store l.look.conn) l.dones.items;
+  dones : AreDones (tree_of l.profile).service l.fn.look.known l.lot (entries_of (take l.one-index l.group)) (state g.S.Store l.fn.look.conn) (state g.S.Store l.look.conn) l.dones.items;
   count : length l.dones.items ≡ l.one-index;
   ready : as_look_fault l.look.fault ≡ None;
 }

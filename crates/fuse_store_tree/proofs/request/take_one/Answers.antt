@@ -1,57 +1,32 @@
+use Rattle.std.proofs.Common.{sym, ap, ◌∙◌}
+use Rattle.std.specs.Prelude.{OnOk}
 use Rattle.sqlite.specs.Held.{state}
 use Rattle.fuse_keeper.specs.Group.{entry_of}
-use Rattle.fuse_store_tree.proofs.Turning.{ok_too, content_in}
-use Rattle.fuse_store_tree.proofs.Steps.{on_ok, on_error}
-use Rattle.fuse_store_tree.proofs.KnownSteps.{held_for, looked_known, turned_known_keeps, known_sure}
-use Rattle.fuse_store_tree.proofs.Records.{took_known, took_new, done_known, done_new}
+use Rattle.fuse_tree.specs.TheTree.{tree_of}
+use Rattle.fuse_store_tree.proofs.Steps.{on_ok}
+use Rattle.fuse_store_tree.proofs.Looks.{map_ok}
+use Rattle.fuse_store_tree.proofs.Records.{took_seen, done_seen}
 use Rattle.fuse_store_tree.proofs.request.take_one.Goals as goal
 
-pub returns-in-Some-clause-turned : goal.returns-in-Some-clause-turned
-returns-in-Some-clause-turned g c =
-    took_known c.args.look.now.known c.of.result.0 c.args.lot (entry_of (c.args.request.now, c.args.now)) (state g.S.Store c.args.look.now.conn)
-    (state g.S.Store c.find_answer.new.conn) c.in-Ok.known c.in-Some.answer c.in-Ok.ensures.looks
-    (λ clean. (c.in-Ok.ensures.value clean, c.of.ensures, c.in-Some.is))
+pub returns-then-sees_requests-clause-turned : goal.returns-then-sees_requests-clause-turned
+returns-then-sees_requests-clause-turned g c =
+    let V = (tree_of c.args.profile).service in
+    let seen = sym (ap V.sees c.opcode.ensures) ∙ sym c.sees_requests.ensures ∙ c.if-sees_requests.true in
+    on_ok c.see_one.result _ _ (took_seen V c.args.look.now.known c.see_one.new.look.known c.args.lot (entry_of (c.args.request.now, c.args.now))
+    (state g.S.Store c.args.look.now.conn) (state g.S.Store c.see_one.new.look.conn) seen) c.see_one.ensures.turned
 
-pub returns-in-Some-clause-done : goal.returns-in-Some-clause-done
-returns-in-Some-clause-done g c = λ clean y at.
-    done_known c.of.result.0 c.args.lot (entry_of (c.args.request.now, c.args.now)) (state g.S.Store c.args.look.now.conn) c.in-Ok.known c.in-Some.answer
-    (c.in-Ok.ensures.value clean, c.of.ensures, c.in-Some.is) y (held_for c.args.look.now.known y (state g.S.Store c.args.look.now.conn) at)
+pub returns-then-sees_requests-clause-done : goal.returns-then-sees_requests-clause-done
+returns-then-sees_requests-clause-done g c = λ clean.
+    let V = (tree_of c.args.profile).service in
+    let seen = sym (ap V.sees c.opcode.ensures) ∙ sym c.sees_requests.ensures ∙ c.if-sees_requests.true in
+    map_ok c.see_one.result _ _ (λ done told y at. told y at ∙ done_seen V c.args.lot (entry_of (c.args.request.now, c.args.now)) y seen)
+    (c.see_one.ensures.done clean)
 
-pub returns-in-None-clause-turned : goal.returns-in-None-clause-turned
-returns-in-None-clause-turned g c =
-    on_ok c.act_and_record.result _ _ (took_new c.args.look.now.known c.act_and_record.new.look.known c.of.result.0 c.args.lot
-    (entry_of (c.args.request.now, c.args.now)) (state g.S.Store c.args.look.now.conn) (state g.S.Store c.find_answer.new.conn)
-    (state g.S.Store c.act_and_record.new.look.conn) c.in-Ok.known c.in-Ok.ensures.looks
-    (λ clean. (c.in-Ok.ensures.value clean, c.of.ensures, c.in-None.is))) c.act_and_record.ensures.turned
-
-pub returns-in-None-clause-done : goal.returns-in-None-clause-done
-returns-in-None-clause-done g c = λ clean.
-    ok_too c.act_and_record.result _ _ _ (λ p done told. done_new c.args.look.now.known c.act_and_record.new.look.known c.of.result.0 c.args.lot
-    (entry_of (c.args.request.now, c.args.now)) (state g.S.Store c.args.look.now.conn) (state g.S.Store c.find_answer.new.conn)
-    (state g.S.Store c.act_and_record.new.look.conn) c.in-Ok.known done c.in-Ok.ensures.looks
-    (λ mid. (c.in-Ok.ensures.value mid, c.of.ensures, c.in-None.is)) p clean told) c.act_and_record.ensures.turned (c.act_and_record.ensures.done clean)
-
-pub returns-in-None-clause-fails : goal.returns-in-None-clause-fails
-returns-in-None-clause-fails g c =
-    let m = c.args.look.now.known in
-    let a = state g.S.Store c.args.look.now.conn in
-    let b = state g.S.Store c.find_answer.new.conn in
-    on_error c.act_and_record.result _ _ (turned_known_keeps m m (λ y. y) a b (state g.S.Store c.act_and_record.new.look.conn)
-    (looked_known m a b c.in-Ok.ensures.looks)) c.act_and_record.ensures.fails
-
-pub returns-in-None-clause-fault : goal.returns-in-None-clause-fault
-returns-in-None-clause-fault g c =
-    let m = c.args.look.now.known in
-    let a = state g.S.Store c.args.look.now.conn in
-    let b = state g.S.Store c.find_answer.new.conn in
-    known_sure m m (λ y. y) a b (state g.S.Store c.act_and_record.new.look.conn) c.act_and_record.result (looked_known m a b c.in-Ok.ensures.looks)
-    c.act_and_record.ensures.fails c.act_and_record.ensures.fault
-
-pub returns-in-Err-clause-fails : goal.returns-in-Err-clause-fails
-returns-in-Err-clause-fails g c = c.in-Err.ensures.fails
-
-pub returns-in-Err-clause-fault : goal.returns-in-Err-clause-fault
-returns-in-Err-clause-fault g c clean (y, at) =
-    let a = state g.S.Store c.args.look.now.conn in
-    let held = held_for c.args.look.now.known y a at in
-    c.in-Err.ensures.fault clean held.holds.held.0 (content_in y a held) held.holds.held.2.fits
+pub keep_one-requires : goal.keep_one-requires
+keep_one-requires g c =
+    let V = (tree_of c.args.profile).service in
+    record {
+      ready = c.requires.ready;
+      lot = c.requires.lot;
+      kept = sym (ap V.sees c.opcode.ensures) ∙ sym c.sees_requests.ensures ∙ c.if-sees_requests.false;
+    }

@@ -3,7 +3,8 @@ use Rattle.sqlite.specs.Held.{state}
 use Rattle.fuse_keeper.specs.Group.{ids_of, entries_of}
 use Rattle.fuse_store_tables.specs.inner.Transaction.{failed_first, failed_inside, failed_commit, committed}
 use Rattle.fuse_store_tree.specs.Knowing.{HeldForKnown}
-use Rattle.fuse_store_tree.specs.Group.{performed, all_dones, lot_for}
+use Rattle.fuse_tree.specs.TheTree.{tree_of}
+use Rattle.fuse_store_tree.specs.Group.{transacted, all_dones, lot_for}
 use Rattle.fuse_store_tree.proofs.Whole.{takes_for, fails_for, told_after, lot_after}
 use Rattle.fuse_store_tables.specs.inner.Following.{earlier}
 use Rattle.fuse_store_tree.proofs.Whole.{begun_for, unrefusing, nothing_for, keeps_commit, begins_nothing, once_none, once_failed, once_committed}
@@ -13,11 +14,11 @@ use Rattle.fuse_store_tree.proofs.transaction.transact.Goals as goal
 pub returns-in-Err-clause-performs : goal.returns-in-Err-clause-performs
 returns-in-Err-clause-performs g c =
     failed_first (HeldForKnown c.args.look.now.known) (λ y. HeldForKnown c.args.look.now.known
-    (performed c.args.lot (ids_of c.args.settled.now) (entries_of c.args.group.now) y)) (state g.S.Store c.args.look.now.conn) (state g.S.Store c.begin.new.conn) c.in-Err.error c.from.result c.in-Err.ensures
+    (transacted (tree_of c.args.profile).service c.args.lot (ids_of c.args.settled.now) (entries_of c.args.group.now) y)) (state g.S.Store c.args.look.now.conn) (state g.S.Store c.begin.new.conn) c.in-Err.error c.from.result c.in-Err.ensures
 
 pub returns-in-Err-perform_in-clause-performs : goal.returns-in-Err-perform_in-clause-performs
 returns-in-Err-perform_in-clause-performs g c =
-    let all = performed c.args.lot (ids_of c.args.settled.now) (entries_of c.args.group.now) in
+    let all = transacted (tree_of c.args.profile).service c.args.lot (ids_of c.args.settled.now) (entries_of c.args.group.now) in
     let b = state g.S.Store c.begin.new.conn in
     let d = state g.S.Store c.perform_in.new.look.conn in
     let fault = c.in-Err-perform_in.fault in
@@ -28,35 +29,35 @@ returns-in-Err-perform_in-clause-performs g c =
 
 pub returns-in-Err-commit-clause-performs : goal.returns-in-Err-commit-clause-performs
 returns-in-Err-commit-clause-performs g c =
-    let all = performed c.args.lot (ids_of c.args.settled.now) (entries_of c.args.group.now) in
+    let all = transacted (tree_of c.args.profile).service c.args.lot (ids_of c.args.settled.now) (entries_of c.args.group.now) in
     let b = state g.S.Store c.begin.new.conn in
     let d = state g.S.Store c.perform_in.new.look.conn in
     let m = c.args.look.now.known in
     let n = c.perform_in.new.look.known in
     failed_commit (HeldForKnown m) (λ y. HeldForKnown n (all y)) (state g.S.Store c.args.look.now.conn) b d (state g.S.Store c.commit.new.conn) _
-    c.in-Ok-perform_in.performed c.in-Err-commit.error c.from-in-Err-commit.result c.in-Ok.ensures
-    (takes_for m n all b d c.in-Ok-perform_in.performed c.in-Ok-perform_in.ensures.turned) c.in-Err-commit.ensures
+    c.in-Ok-perform_in.transacted c.in-Err-commit.error c.from-in-Err-commit.result c.in-Ok.ensures
+    (takes_for m n all b d c.in-Ok-perform_in.transacted c.in-Ok-perform_in.ensures.turned) c.in-Err-commit.ensures
 
 pub returns-in-Ok-commit-clause-performs : goal.returns-in-Ok-commit-clause-performs
 returns-in-Ok-commit-clause-performs g c =
-    let all = performed c.args.lot (ids_of c.args.settled.now) (entries_of c.args.group.now) in
+    let all = transacted (tree_of c.args.profile).service c.args.lot (ids_of c.args.settled.now) (entries_of c.args.group.now) in
     let b = state g.S.Store c.begin.new.conn in
     let d = state g.S.Store c.perform_in.new.look.conn in
     let m = c.args.look.now.known in
     let n = c.perform_in.new.look.known in
     committed (HeldForKnown m) (λ y. HeldForKnown n (all y)) (state g.S.Store c.args.look.now.conn) b d (state g.S.Store c.commit.new.conn) _
-    c.in-Ok-perform_in.performed _ c.in-Ok-perform_in.performed c.in-Ok.ensures
-    (takes_for m n all b d c.in-Ok-perform_in.performed c.in-Ok-perform_in.ensures.turned) c.in-Ok-commit.ensures
+    c.in-Ok-perform_in.transacted _ c.in-Ok-perform_in.transacted c.in-Ok.ensures
+    (takes_for m n all b d c.in-Ok-perform_in.transacted c.in-Ok-perform_in.ensures.turned) c.in-Ok-commit.ensures
 
 pub returns-in-Ok-commit-clause-lot : goal.returns-in-Ok-commit-clause-lot
 returns-in-Ok-commit-clause-lot g c =
-    lot_after c.args.look.now.known (λ y. c.in-Ok-perform_in.performed.lot ≡ lot_for c.args.lot y) (state g.S.Store c.args.look.now.conn) (state g.S.Store c.begin.new.conn)
+    lot_after c.args.look.now.known (λ y. c.in-Ok-perform_in.transacted.lot ≡ lot_for c.args.lot y) (state g.S.Store c.args.look.now.conn) (state g.S.Store c.begin.new.conn)
     (state g.S.Store c.perform_in.new.look.conn) (state g.S.Store c.commit.new.conn) _ _ c.in-Ok.ensures
     c.in-Ok-perform_in.ensures.turned.stays c.in-Ok-perform_in.ensures.lot c.in-Ok-commit.ensures
 
 pub returns-in-Ok-commit-clause-dones : goal.returns-in-Ok-commit-clause-dones
 returns-in-Ok-commit-clause-dones g c =
-    told_after c.args.look.now.known (λ y. c.in-Ok-perform_in.performed.dones.items ≡ all_dones c.args.lot (ids_of c.args.settled.now) (entries_of c.args.group.now) y)
+    told_after c.args.look.now.known (λ y. c.in-Ok-perform_in.transacted.dones.items ≡ all_dones (tree_of c.args.profile).service c.args.lot (ids_of c.args.settled.now) (entries_of c.args.group.now) y)
     (state g.S.Store c.args.look.now.conn) (state g.S.Store c.begin.new.conn) (state g.S.Store c.perform_in.new.look.conn)
     (state g.S.Store c.commit.new.conn) _ _ c.in-Ok.ensures c.in-Ok-perform_in.ensures.turned.stays
     c.in-Ok-perform_in.ensures.dones c.in-Ok-commit.ensures
@@ -86,7 +87,7 @@ returns-in-Err-commit-clause-open g c =
 pub returns-in-Ok-commit-clause-open : goal.returns-in-Ok-commit-clause-open
 returns-in-Ok-commit-clause-open g c =
     open_committed (state g.S.Store c.args.look.now.conn) (state g.S.Store c.begin.new.conn) (state g.S.Store c.perform_in.new.look.conn)
-    (state g.S.Store c.commit.new.conn) _ _ c.in-Ok-perform_in.performed c.in-Ok.ensures c.in-Ok-perform_in.ensures.turned.stays.survives
+    (state g.S.Store c.commit.new.conn) _ _ c.in-Ok-perform_in.transacted c.in-Ok.ensures c.in-Ok-perform_in.ensures.turned.stays.survives
     c.in-Ok-commit.ensures
 
 pub returns-in-Ok-commit-clause-ended : goal.returns-in-Ok-commit-clause-ended
@@ -139,7 +140,7 @@ returns-in-Err-commit-clause-once g c =
 pub returns-in-Ok-commit-clause-once : goal.returns-in-Ok-commit-clause-once
 returns-in-Ok-commit-clause-once g c =
     once_committed (state g.S.Store c.args.look.now.conn) (state g.S.Store c.perform_in.new.look.conn) (state g.S.Store c.commit.new.conn)
-    _ c.in-Ok-perform_in.performed
+    _ c.in-Ok-perform_in.transacted
     (nothing_for (state g.S.Store c.args.look.now.conn) (state g.S.Store c.begin.new.conn) (state g.S.Store c.perform_in.new.look.conn) _ c.in-Ok.ensures
     c.in-Ok-perform_in.ensures.turned.stays)
     c.in-Ok-commit.ensures

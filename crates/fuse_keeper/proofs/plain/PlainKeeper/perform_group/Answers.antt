@@ -1,4 +1,5 @@
 use Rattle.std.proofs.Common.{◌∙◌}
+use Rattle.fuse_keeper.specs.History.{kept_of}
 use Rattle.fuse_keeper.specs.Group.{entries_of, ids_of}
 use Rattle.fuse_keeper.specs.Stands.{without}
 use Rattle.fuse_keeper.specs.Plain.{mapped}
@@ -28,4 +29,4 @@ returns-clause-others g c = λ i isnt.
     c.settle.ensures i
     ∙ over-same added (without settled (mapped c.reserve.new.self)) (without settled (mapped c.args.self.now.records)) i
     (without-same settled (mapped c.reserve.new.self) (mapped c.args.self.now.records) i (c.reserve.ensures.entries.2 i))
-    ∙ others_stay settled (mapped c.args.self.now.records) added (entries_of c.args.group.now) c.in_ok-taken.ensures.ids i isnt
+    ∙ others_stay settled (mapped c.args.self.now.records) added (kept_of g.F.FileSystem.model.service (entries_of c.args.group.now)) c.in_ok-taken.ensures.ids i isnt

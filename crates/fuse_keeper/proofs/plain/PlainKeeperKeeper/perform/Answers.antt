@@ -1,11 +1,12 @@
-use Rattle.std.proofs.Common.{◌∙◌, refl, sym, subst, inl, inr}
+use Rattle.std.proofs.Common.{◌≡◌, ◌∙◌, ℕ, refl, sym, ap, subst, inl, inr}
+use Rattle.fuse_keeper.specs.History.{kept_of}
 use Rattle.fuse_keeper.specs.Group.{ids_of, entries_of}
 use Rattle.fuse_keeper.specs.Model.{IsOfGoodState}
 use Rattle.fuse_keeper.specs.Stands.{KeeperContent, without}
 use Rattle.fuse_keeper.specs.Plain.{mapped}
 use Rattle.fuse_keeper.proofs.Overlays.{without-same}
-use Rattle.fuse_keeper.proofs.InARow.{named_taken, led_same}
-use Rattle.fuse_keeper.proofs.Keeping.{left_new, left_old, rowed_where, or-true, no_lot, lots_stay}
+use Rattle.fuse_keeper.proofs.InARow.{named_taken, led_same, seen_taken}
+use Rattle.fuse_keeper.proofs.Keeping.{left_new, left_old, rowed_where, keeps_same, or-true, or-false, no_lot, lots_stay}
 use Rattle.fuse_keeper.proofs.plain.PlainKeeperKeeper.perform.Goals as goal
 
 pub returns-in-Ok-clause-others : goal.returns-in-Ok-clause-others
@@ -30,7 +31,7 @@ returns-in-Ok-clause-acts g c = λ honest rows records held rowed. record {
 }
 
 pub returns-in-Ok-clause-lots : goal.returns-in-Ok-clause-lots
-returns-in-Ok-clause-lots g c = λ honest rows records held rowed. no_lot records (ids_of c.args.settled.now) (entries_of c.args.group.now)
+returns-in-Ok-clause-lots g c = λ honest rows records held rowed. no_lot records (ids_of c.args.settled.now) (kept_of g.F.FileSystem.model.service (entries_of c.args.group.now))
 
 pub returns-in-Ok-clause-crash : goal.returns-in-Ok-clause-crash
 returns-in-Ok-clause-crash g c = λ s h t so within fresh firm. (
@@ -77,3 +78,42 @@ returns-in-Err-clause-called g c = record {
   fault = λ clean s h t so. c.in-Err.ensures.fault (rowed_where g.F.FileSystem.model (g.F.FileSystem.held c.args.self.now.rows)
       (mapped c.args.self.now.records) s h t so);
 }
+
+pub returns-in-Ok-clause-looked : goal.returns-in-Ok-clause-looked
+returns-in-Ok-clause-looked g c = λ only.
+    let M = g.F.FileSystem.model in
+    let rows = g.F.FileSystem.held c.args.self.now.rows in
+    let records = mapped c.args.self.now.records in
+    let rows' = g.F.FileSystem.held c.perform_group.new.self.rows in
+    let records' = mapped c.perform_group.new.self.records in
+    let seen = seen_taken M (record { rows = rows; records = without (ids_of c.args.settled.now) records }) (entries_of c.args.group.now)
+    (record { rows = rows'; records = records' }) c.in-Ok.dones.items only.0 c.in-Ok.ensures.acts in
+    let same : (i : ℕ) → records' i ≡ records i = λ i. seen.1 i ∙ ap (λ t. without t records i) only.1 in
+    record {
+      called = record {
+        failed = c.in-Ok.ensures.failed ∙ or-false c.args.self.now.failed;
+        honest = λ honest. honest;
+        medium = λ memory. memory;
+        clean = λ clean honest. tt;
+        err = tt;
+        err_lots = tt;
+        fault = λ clean s h t so. tt;
+      };
+      may = λ honest f may. may;
+      same = λ honest. keeps_same M rows records rows' records' seen.0 same;
+      lots = λ honest y q held. lots_stay;
+      whole = λ y q held whole. tt;
+      crash = λ x r y q held left. (left.0 ∙ seen.0, λ i. left.1 i ∙ same i);
+    }
+
+pub returns-in-Err-clause-looked : goal.returns-in-Err-clause-looked
+returns-in-Err-clause-looked g c = λ only.
+    let kept = c.in-Err.ensures.err (g.F.FileSystem.held c.args.self.now.rows) (mapped c.args.self.now.records) (refl, λ i. refl) in
+    record {
+      called = returns-in-Err-clause-called g c;
+      may = λ honest f may. may;
+      same = tt;
+      lots = tt;
+      whole = λ y q held whole. tt;
+      crash = λ x r y q held left. (left.0 ∙ sym kept.0, λ i. left.1 i ∙ sym (kept.1 i));
+    }

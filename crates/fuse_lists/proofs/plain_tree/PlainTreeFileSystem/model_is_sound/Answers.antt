@@ -3,4 +3,4 @@ use Rattle.fuse_lists.proofs.plain_tree.PlainTreeFileSystem.model_is_sound.Goals
 
 pub returns : goal.returns
 returns g c =
-    tree_is_sound g.P.Profiled.PROFILE c.answers_fit.ensures c.new_store_is_tree.ensures c.tree_kept.ensures c.clearing.ensures
+    tree_is_sound g.P.Profiled.PROFILE c.answers_fit.ensures c.new_store_is_tree.ensures c.tree_kept.ensures c.looks_stay.ensures c.clearing.ensures

@@ -1,17 +1,19 @@
-use Rattle.std.proofs.Common.{◌≡◌, ◌++◌, inl, sym, ap, refl, ◌∙◌, take, drop, length, arith, [], subst}
+use Rattle.std.proofs.Common.{◌≡◌, ◌++◌, inl, sym, ap, refl, ◌∙◌, take, drop, length, arith, []}
 use Rattle.fuse_session.specs.Grouping.{groups_of}
 use Rattle.fuse_session.specs.inner.Turn.{Grouped, GroupedSome}
 use Rattle.fuse_session.proofs.Grouping.{grouped_one}
 use Rattle.std.proofs.lemmas.List.{length-map}
 use Rattle.fuse_wire.specs.declared.id.Id.{Id}
-use Rattle.fuse_keeper.specs.History.{ids_in}
+use Rattle.fuse_keeper.specs.History.{ids_in, kept_of}
 use Rattle.fuse_session.specs.Starts.{KeptRecords}
-use Rattle.fuse_session.specs.inner.Moves.{HandsOn}
-use Rattle.fuse_keeper.specs.Group.{ids_of, entry_of, entries_of}
+use Rattle.fuse_keeper.specs.Group.{ids_of, entries_of, handed_to}
 use Rattle.fuse_session.specs.inner.Group.{classes_in}
 use Rattle.fuse_session.proofs.Replies.{replied_none}
-use Rattle.fuse_session.proofs.Groups.{broken_none, broken_store, broken_sent, turned, firm_leaves, are_enough, stuck_zero, starts_zero, gathers_to}
-use Rattle.fuse_session.proofs.Handing.{hands_group, holds_under, under_kept, no_entries, performs_all, leaves_all, left_few, hands_on, few_left}
+use Rattle.fuse_session.proofs.Looking.{looked_none}
+use Rattle.fuse_session.proofs.Groups.{broken_none, broken_store, broken_sent, turned, firm_leaves, stuck_zero, starts_zero}
+use Rattle.fuse_session.proofs.Gathering.{are_enough, gathers_to}
+use Rattle.fuse_session.proofs.Handing.{hands_group, holds_under, pending_short, under_kept, performs_all, leaves_all, left_few, hands_on}
+use Rattle.fuse_session.proofs.Handing.{few_left, kept_few}
 use Rattle.fuse_session.proofs.session.Session.serve_group.Goals as goal
 
 pub returns-in_default-clause-err : goal.returns-in_default-clause-err
@@ -25,13 +27,13 @@ returns-in_default-clause-err g c =
     (record {
       done = record {
         moments = given.1;
-        asked = (groups_of g.K.Keeper.model.serves c.args.messages.now, ((g.met.K.Keeper.log).none k, refl));
+        asked = (groups_of g.K.Keeper.model.service c.args.messages.now, ((g.met.K.Keeper.log).none k, refl));
         events = (g.met.P.Port.path).none port;
       };
       slices = [];
       events = refl;
     }) refl refl (replied_none p)
-    (λ rows records held. held) (λ firm s h t so. firm_leaves g.K.Keeper.model c.still_stands.ensures (g.K.Keeper.told k) s h t firm so)
+    (looked_none g.K.Keeper.model (g.K.Keeper.told k) _) (λ rows records held. held) (λ firm s h t so. firm_leaves g.K.Keeper.model c.still_stands.ensures (g.K.Keeper.told k) s h t firm so)
 
 pub returns-in_default-clause-at_most : goal.returns-in_default-clause-at_most
 returns-in_default-clause-at_most g c = λ intact (before : KeptRecords) h.
@@ -52,40 +54,47 @@ returns-in-Err-clause-err g c =
     let gave = g.C.Clock.gave c.args.self.now.clock.now c.gather.new.clock in
     let len : c.len-count.result ≡ length group.classes.items = omega (arith, c.len-count.ensures, group.classes.ok) in
     let pending = ids_of c.args.self.now.pending.now.items in
-    broken_store g.K.Keeper.model k k' gave (GroupedSome g.K.Keeper.model.serves c.args.messages.now
+    let kept = kept_of g.K.Keeper.model.service (entries_of c.as_slice-group.result.now) in
+    broken_store g.K.Keeper.model c.seen_by_class.ensures k k' gave (GroupedSome g.K.Keeper.model.service c.args.messages.now
     (g.K.Keeper.performed c.args.self.now.keeper.now c.perform_group.new.keeper)) _
     (g.P.Port.told c.args.self.now.port.now) pending c.args.messages.now c.len-count.result group.taken.items group.ends
     c.as_slice-group.result.now _
-    (gathers_to g.K.Keeper.model.serves gave c.args.messages.now (length group.classes.items) c.len-count.result group.taken.items group.ends len c.in-Ok.ensures.gathers)
+    (gathers_to g.K.Keeper.model.service gave c.args.messages.now (length group.classes.items) c.len-count.result group.taken.items group.ends len c.in-Ok.ensures.gathers)
     c.as_slice-group.ensures.value (
-      groups_of g.K.Keeper.model.serves (drop c.len-count.result c.args.messages.now),
+      groups_of g.K.Keeper.model.service (drop c.len-count.result c.args.messages.now),
       (
         c.perform_group.ensures.asked,
-        grouped_one g.K.Keeper.model.serves c.args.messages.now (length group.classes.items) c.len-count.result group.taken.items c.as_slice-group.result.now
-            pending len c.as_slice-group.ensures.value c.in-Ok.ensures.groups,
+        grouped_one g.K.Keeper.model.service c.args.messages.now (length group.classes.items) c.len-count.result group.taken.items c.as_slice-group.result.now
+            (handed_to kept pending) len c.as_slice-group.ensures.value c.in-Ok.ensures.groups,
       ),
     ) ((g.met.P.Port.path).none c.args.self.now.port.now)
     c.in-Err.ensures.called.err c.in-Err.ensures.called.fault
-    (leaves_all g.K.Keeper.model k k' pending (entries_of c.as_slice-group.result.now) c.perform_group.ensures.crash)
+    (leaves_all g.K.Keeper.model k k' pending kept (entries_of c.as_slice-group.result.now) c.perform_group.ensures.crash)
+    (λ none. let l = c.in-Err.ensures.looked none in record {
+      same = λ intact. l.called.err (intact.clean refl);
+      lots = λ intact. l.called.err_lots (intact.clean refl);
+      whole = λ _. l.whole;
+      crash = λ _. l.crash;
+    })
 
 pub send_answers-requires-clause-classes : goal.send_answers-requires-clause-classes
 send_answers-requires-clause-classes g c =
     let len : c.len-count.result ≡ length c.in-Ok.gathered.classes.items = omega (arith, c.len-count.ensures, c.in-Ok.gathered.classes.ok) in
-    c.as_slice-classes.ensures.value ∙ c.in-Ok.ensures.classes ∙ ap (λ n. classes_in g.K.Keeper.model.serves (take n c.args.messages.now)) (sym len)
+    c.as_slice-classes.ensures.value ∙ c.in-Ok.ensures.classes ∙ ap (λ n. classes_in g.K.Keeper.model.service (take n c.args.messages.now)) (sym len)
 
 pub count_all-requires-clause-classes : goal.count_all-requires-clause-classes
 count_all-requires-clause-classes g c =
     let len : c.len-count.result ≡ length c.in-Ok.gathered.classes.items = omega (arith, c.len-count.ensures, c.in-Ok.gathered.classes.ok) in
-    c.as_slice-classes.ensures.value ∙ c.in-Ok.ensures.classes ∙ ap (λ n. classes_in g.K.Keeper.model.serves (take n c.args.messages.now)) (sym len)
+    c.as_slice-classes.ensures.value ∙ c.in-Ok.ensures.classes ∙ ap (λ n. classes_in g.K.Keeper.model.service (take n c.args.messages.now)) (sym len)
 
 pub send_answers-requires-clause-enough : goal.send_answers-requires-clause-enough
 send_answers-requires-clause-enough g c =
     let group = c.in-Ok.gathered in
     let gave = g.C.Clock.gave c.args.self.now.clock.now c.gather.new.clock in
     let len : c.len-count.result ≡ length group.classes.items = omega (arith, c.len-count.ensures, group.classes.ok) in
-    are_enough g.K.Keeper.model.serves gave (take c.len-count.result c.args.messages.now) group.taken.items group.ends _ c.as_slice-group.result.now c.in-Ok-perform_group.dones.items
+    are_enough g.K.Keeper.model.service gave (take c.len-count.result c.args.messages.now) group.taken.items group.ends _ c.as_slice-group.result.now c.in-Ok-perform_group.dones.items
     c.as_slice-answered.result.now
-    (gathers_to g.K.Keeper.model.serves gave c.args.messages.now (length group.classes.items) c.len-count.result group.taken.items group.ends len c.in-Ok.ensures.gathers)
+    (gathers_to g.K.Keeper.model.service gave c.args.messages.now (length group.classes.items) c.len-count.result group.taken.items group.ends len c.in-Ok.ensures.gathers)
     refl c.as_slice-group.ensures.value c.in-Ok-perform_group.ensures.count c.as_slice-answered.ensures.value
 
 pub returns-in-Ok-send_answers-clause-zero : goal.returns-in-Ok-send_answers-clause-zero
@@ -103,34 +112,34 @@ returns-in-Ok-send_answers-clause-ok g c =
     let gave = g.C.Clock.gave c.args.self.now.clock.now c.gather.new.clock in
     let len : c.len-count.result ≡ length group.classes.items = omega (arith, c.len-count.ensures, group.classes.ok) in
     let es = entries_of c.as_slice-group.result.now in
+    let kept = kept_of g.K.Keeper.model.service es in
     let pending = ids_of c.args.self.now.pending.now.items in
     let left = ids_of c.perform_group.new.pending.items in
     let done = c.in-Ok-perform_group.ensures in
-    let few = left_few pending left es done.pending (omega (arith, length-map c.args.self.now.pending.now.items (λ (x : Id). x.0), c.requires.few))
-    (omega (arith, length-map c.as_slice-group.result.now entry_of, ap length c.as_slice-group.ensures.value, c.in-Ok.ensures.few)) in
-    turned M c.histories_grow.ensures c.kept_groups_grow.ensures c.still_stands.ensures k k' gave (Grouped g.K.Keeper.model.serves c.args.messages.now
-    (groups_of g.K.Keeper.model.serves (drop c.len-count.result c.args.messages.now)) (g.K.Keeper.performed c.args.self.now.keeper.now c.perform_group.new.keeper))
+    let few = left_few M.service c.args.self.now.pending.now.items left group.taken.items c.as_slice-group.result.now
+    c.as_slice-group.ensures.value
+    c.in-Ok.ensures.few c.requires.few done.pending in
+    turned M c.histories_grow.ensures c.kept_groups_grow.ensures c.still_stands.ensures c.seen_by_class.ensures k k' gave (Grouped g.K.Keeper.model.service c.args.messages.now
+    (groups_of g.K.Keeper.model.service (drop c.len-count.result c.args.messages.now)) (g.K.Keeper.performed c.args.self.now.keeper.now c.perform_group.new.keeper))
     (g.P.Port.became c.args.self.now.port.now c.send_answers.new.port) (g.P.Port.told c.args.self.now.port.now) _ pending left _ c.args.messages.now
     c.len-count.result group.taken.items group.ends c.as_slice-group.result.now (take c.len-count.result c.args.messages.now)
     c.in-Ok-perform_group.dones.items c.as_slice-answered.result.now c.is_stuck.result c.next_of.result c.count_all.result
-    (gathers_to g.K.Keeper.model.serves gave c.args.messages.now (length group.classes.items) c.len-count.result group.taken.items group.ends len c.in-Ok.ensures.gathers)
+    (gathers_to g.K.Keeper.model.service gave c.args.messages.now (length group.classes.items) c.len-count.result group.taken.items group.ends len c.in-Ok.ensures.gathers)
     c.as_slice-group.ensures.value (
       c.perform_group.ensures.asked,
-      grouped_one g.K.Keeper.model.serves c.args.messages.now (length group.classes.items) c.len-count.result group.taken.items c.as_slice-group.result.now
-          pending len c.as_slice-group.ensures.value c.in-Ok.ensures.groups,
-    ) done.pending refl (performs_all M k k' pending es c.in-Ok-perform_group.dones.items done.ok)
-    (λ honest u un have. few_left M k k' u pending left es done.pending (omega (arith, few)) (done.others honest) un have)
-    (omega (
-      arith,
-      few,
-      length-map c.send_answers.new.pending.items (λ (x : Id). x.0),
-      length-map c.perform_group.new.pending.items (λ (x : Id). x.0),
-      length-map c.as_slice-group.result.now entry_of,
-      c.in-Ok-send_answers.ensures.few,
-      done.count,
-      ap length c.as_slice-answered.ensures.value,
-    )) done.acts
+      grouped_one g.K.Keeper.model.service c.args.messages.now (length group.classes.items) c.len-count.result group.taken.items c.as_slice-group.result.now
+          (handed_to kept pending) len c.as_slice-group.ensures.value c.in-Ok.ensures.groups,
+    ) done.pending refl (performs_all M k k' pending kept es c.in-Ok-perform_group.dones.items done.ok)
+    (λ honest u un have. few_left M k k' u pending left kept es refl done.pending (omega (arith, few)) (done.others honest) un have)
+    (pending_short c.seen_by_class.ensures M.service gave (g.P.Port.became c.args.self.now.port.now c.send_answers.new.port)
+    (g.P.Port.told c.args.self.now.port.now) _ left _
+    (take c.len-count.result c.args.messages.now) group.taken.items group.ends c.as_slice-group.result.now
+    (take c.len-count.result c.args.messages.now) _
+    (gathers_to g.K.Keeper.model.service gave c.args.messages.now
+    (length group.classes.items) c.len-count.result group.taken.items group.ends len c.in-Ok.ensures.gathers)
+    c.as_slice-group.ensures.value refl c.in-Ok-send_answers.ensures.ok few) done.acts
     c.in-Ok-send_answers.ensures.ok c.as_slice-answered.ensures.value c.next_of.ensures c.count_all.ensures.tallied
+    (λ none. let l = done.looked none in record { same = l.same; lots = l.lots; whole = λ _. l.whole; crash = λ _. l.crash })
 
 pub returns-in-Ok-send_answers-clause-more : goal.returns-in-Ok-send_answers-clause-more
 returns-in-Ok-send_answers-clause-more g c = λ confirms honest (before : KeptRecords) h.
@@ -141,18 +150,21 @@ returns-in-Ok-send_answers-clause-more g c = λ confirms honest (before : KeptRe
     let gave = g.C.Clock.gave c.args.self.now.clock.now c.gather.new.clock in
     let len : c.len-count.result ≡ length group.classes.items = omega (arith, c.len-count.ensures, group.classes.ok) in
     let es = entries_of c.as_slice-group.result.now in
+    let kept = kept_of g.K.Keeper.model.service es in
     let pending = ids_of c.args.self.now.pending.now.items in
     let left = ids_of c.perform_group.new.pending.items in
     let done = c.in-Ok-perform_group.ensures in
-    let few = left_few pending left es done.pending (omega (arith, length-map c.args.self.now.pending.now.items (λ (x : Id). x.0), c.requires.few))
-    (omega (arith, length-map c.as_slice-group.result.now entry_of, ap length c.as_slice-group.ensures.value, c.in-Ok.ensures.few)) in
-    hands_group M before k' gave (g.P.Port.became c.args.self.now.port.now c.send_answers.new.port) (g.P.Port.told c.args.self.now.port.now) _ left _ (take c.len-count.result c.args.messages.now)
+    let few = left_few M.service c.args.self.now.pending.now.items left group.taken.items c.as_slice-group.result.now
+    c.as_slice-group.ensures.value
+    c.in-Ok.ensures.few c.requires.few done.pending in
+    hands_group M c.seen_by_class.ensures before k' gave (g.P.Port.became c.args.self.now.port.now c.send_answers.new.port) (g.P.Port.told c.args.self.now.port.now) _ left _ (take c.len-count.result c.args.messages.now)
     group.taken.items group.ends c.as_slice-group.result.now (take c.len-count.result c.args.messages.now) _
-    (gathers_to g.K.Keeper.model.serves gave c.args.messages.now (length group.classes.items) c.len-count.result group.taken.items group.ends len c.in-Ok.ensures.gathers)
+    (gathers_to g.K.Keeper.model.service gave c.args.messages.now (length group.classes.items) c.len-count.result group.taken.items group.ends len c.in-Ok.ensures.gathers)
     c.as_slice-group.ensures.value refl confirms c.in-Ok-send_answers.ensures.ok
-    (hands_on M before k k' pending left es done.pending (omega
-    (arith, length-map c.as_slice-group.result.now entry_of, ap length c.as_slice-group.ensures.value, c.in-Ok.ensures.few)) (done.others honest) (done.lots honest)
-    (λ none h. subst (λ x. HandsOn before (g.K.Keeper.told x) pending) (sym (c.perform_group.ensures.none (no_entries c.as_slice-group.result.now none)).1) h) h)
+    (hands_on M before k k' pending left kept es refl done.pending
+    (kept_few M.service c.in-Ok.gathered.taken.items c.as_slice-group.result.now c.as_slice-group.ensures.value c.in-Ok.ensures.few)
+    (done.others honest) (done.lots honest)
+    (λ none. let l = done.looked none in (l.same honest, l.lots honest)) h)
 
 pub returns-clause-err : goal.returns-clause-err
 returns-clause-err g c =
@@ -163,28 +175,31 @@ returns-clause-err g c =
     let gave = g.C.Clock.gave c.args.self.now.clock.now c.gather.new.clock in
     let len : c.len-count.result ≡ length group.classes.items = omega (arith, c.len-count.ensures, group.classes.ok) in
     let es = entries_of c.as_slice-group.result.now in
+    let kept = kept_of g.K.Keeper.model.service es in
     let pending = ids_of c.args.self.now.pending.now.items in
     let left = ids_of c.perform_group.new.pending.items in
     let done = c.in-Ok-perform_group.ensures in
-    let few = left_few pending left es done.pending (omega (arith, length-map c.args.self.now.pending.now.items (λ (x : Id). x.0), c.requires.few))
-    (omega (arith, length-map c.as_slice-group.result.now entry_of, ap length c.as_slice-group.ensures.value, c.in-Ok.ensures.few)) in
-    broken_sent M c.histories_grow.ensures c.kept_groups_grow.ensures c.still_stands.ensures k k' gave (GroupedSome g.K.Keeper.model.serves c.args.messages.now
+    let few = left_few M.service c.args.self.now.pending.now.items left group.taken.items c.as_slice-group.result.now
+    c.as_slice-group.ensures.value
+    c.in-Ok.ensures.few c.requires.few done.pending in
+    broken_sent M c.histories_grow.ensures c.kept_groups_grow.ensures c.still_stands.ensures c.seen_by_class.ensures k k' gave (GroupedSome g.K.Keeper.model.service c.args.messages.now
     (g.K.Keeper.performed c.args.self.now.keeper.now c.perform_group.new.keeper))
     (g.P.Port.became c.args.self.now.port.now c.send_answers.new.port) (g.P.Port.told c.args.self.now.port.now) _ pending left c.args.messages.now
     c.len-count.result group.taken.items group.ends c.as_slice-group.result.now (take c.len-count.result c.args.messages.now)
     c.in-Ok-perform_group.dones.items c.as_slice-answered.result.now _
-    (gathers_to g.K.Keeper.model.serves gave c.args.messages.now (length group.classes.items) c.len-count.result group.taken.items group.ends len c.in-Ok.ensures.gathers)
+    (gathers_to g.K.Keeper.model.service gave c.args.messages.now (length group.classes.items) c.len-count.result group.taken.items group.ends len c.in-Ok.ensures.gathers)
     c.as_slice-group.ensures.value (
-      groups_of g.K.Keeper.model.serves (drop c.len-count.result c.args.messages.now),
+      groups_of g.K.Keeper.model.service (drop c.len-count.result c.args.messages.now),
       (
         c.perform_group.ensures.asked,
-        grouped_one g.K.Keeper.model.serves c.args.messages.now (length group.classes.items) c.len-count.result group.taken.items c.as_slice-group.result.now
-            pending len c.as_slice-group.ensures.value c.in-Ok.ensures.groups,
+        grouped_one g.K.Keeper.model.service c.args.messages.now (length group.classes.items) c.len-count.result group.taken.items c.as_slice-group.result.now
+            (handed_to kept pending) len c.as_slice-group.ensures.value c.in-Ok.ensures.groups,
       ),
     ) refl
-    (performs_all M k k' pending es c.in-Ok-perform_group.dones.items done.ok) (λ honest firm. done.firm honest (inl firm))
-    (λ honest u un have. few_left M k k' u pending left es done.pending (omega (arith, few)) (done.others honest) un have)
+    (performs_all M k k' pending kept es c.in-Ok-perform_group.dones.items done.ok) (λ honest firm. done.firm honest (inl firm))
+    (λ honest u un have. few_left M k k' u pending left kept es refl done.pending (omega (arith, few)) (done.others honest) un have)
     few done.acts c.as_slice-answered.ensures.value c.in-Err-send_answers.ensures.err
+    (λ none. let l = done.looked none in record { same = l.same; lots = l.lots; whole = λ _. l.whole; crash = λ _. l.crash })
 
 pub returns-clause-at_most : goal.returns-clause-at_most
 returns-clause-at_most g c = λ intact (before : KeptRecords) h.
@@ -192,32 +207,37 @@ returns-clause-at_most g c = λ intact (before : KeptRecords) h.
     let k = g.K.Keeper.told c.args.self.now.keeper.now in
     let k' = g.K.Keeper.told c.perform_group.new.keeper in
     let es = entries_of c.as_slice-group.result.now in
+    let kept = kept_of g.K.Keeper.model.service es in
     let pending = ids_of c.args.self.now.pending.now.items in
     let left = ids_of c.perform_group.new.pending.items in
     let done = c.in-Ok-perform_group.ensures in
     let honest = intact.honest in
-    holds_under M before k' (left ++ ids_in es)
-    (hands_on M before k k' pending left es done.pending
-    (omega (arith, length-map c.as_slice-group.result.now entry_of, ap length c.as_slice-group.ensures.value, c.in-Ok.ensures.few))
+    holds_under M before k' (left ++ ids_in kept)
+    (hands_on M before k k' pending left kept es refl done.pending
+    (kept_few M.service c.in-Ok.gathered.taken.items c.as_slice-group.result.now c.as_slice-group.ensures.value c.in-Ok.ensures.few)
     (done.others honest) (done.lots honest)
-    (λ none h. subst (λ x. HandsOn before (g.K.Keeper.told x) pending) (sym (c.perform_group.ensures.none (no_entries c.as_slice-group.result.now none)).1) h) h)
+    (λ none. let l = done.looked none in (l.same honest, l.lots honest)) h)
 
 pub returns-in-Ok-send_answers-clause-firm : goal.returns-in-Ok-send_answers-clause-firm
 returns-in-Ok-send_answers-clause-firm g c = λ honest firm. c.in-Ok-perform_group.ensures.firm honest (inl firm)
 
 pub returns-in-Ok-send_answers-clause-few : goal.returns-in-Ok-send_answers-clause-few
 returns-in-Ok-send_answers-clause-few g c =
+    let V = g.K.Keeper.model.service in
+    let group = c.in-Ok.gathered in
+    let gave = g.C.Clock.gave c.args.self.now.clock.now c.gather.new.clock in
+    let len : c.len-count.result ≡ length group.classes.items = omega (arith, c.len-count.ensures, group.classes.ok) in
     let es = entries_of c.as_slice-group.result.now in
+    let kept = kept_of V es in
     let done = c.in-Ok-perform_group.ensures in
-    let few = left_few (ids_of c.args.self.now.pending.now.items) (ids_of c.perform_group.new.pending.items) es done.pending
-    (omega (arith, length-map c.args.self.now.pending.now.items (λ (x : Id). x.0), c.requires.few))
-    (omega (arith, length-map c.as_slice-group.result.now entry_of, ap length c.as_slice-group.ensures.value, c.in-Ok.ensures.few)) in
-    omega (
-      arith,
-      few,
-      length-map c.perform_group.new.pending.items (λ (x : Id). x.0),
-      length-map c.as_slice-group.result.now entry_of,
-      c.in-Ok-send_answers.ensures.few,
-      done.count,
-      ap length c.as_slice-answered.ensures.value,
-    )
+    let left = ids_of c.perform_group.new.pending.items in
+    let few = left_few V c.args.self.now.pending.now.items left group.taken.items c.as_slice-group.result.now c.as_slice-group.ensures.value
+    c.in-Ok.ensures.few c.requires.few done.pending in
+    let short = pending_short c.seen_by_class.ensures V gave (g.P.Port.became c.args.self.now.port.now c.send_answers.new.port)
+    (g.P.Port.told c.args.self.now.port.now) _ left _
+    (take c.len-count.result c.args.messages.now) group.taken.items group.ends c.as_slice-group.result.now
+    (take c.len-count.result c.args.messages.now) _
+    (gathers_to V gave c.args.messages.now (length group.classes.items) c.len-count.result group.taken.items group.ends len
+    c.in-Ok.ensures.gathers)
+    c.as_slice-group.ensures.value refl c.in-Ok-send_answers.ensures.ok few in
+    omega (arith, short, length-map c.send_answers.new.pending.items (λ (x : Id). x.0))

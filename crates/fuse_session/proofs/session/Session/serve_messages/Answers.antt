@@ -23,7 +23,16 @@ loop-at-init g c = record {
     events = (g.met.P.Port.path).none c.args.self.now.port.now;
   }));
   loans = (refl, refl, refl, refl);
-  below = record { messages = omega arith; kept = omega arith; repeated = omega arith; bare = omega arith; silent = omega arith; interrupts = omega arith };
+  below = record {
+    messages = omega arith;
+    kept = omega arith;
+    repeated = omega arith;
+    seen = omega arith;
+    bare = omega arith;
+    silent =
+        omega arith;
+    interrupts = omega arith;
+  };
   few = c.requires.few;
   going = c.requires.going;
   firm = λ _ firm. firm;
@@ -47,7 +56,7 @@ returns-in-Err-clause-err g c =
     c.args.self.now.clock.now c.loop-at.self.clock.now c.serve_group.new.self.clock.now
     c.args.self.now.keeper.now c.loop-at.self.keeper.now c.serve_group.new.self.keeper.now
     c.args.self.now.port.now c.loop-at.self.port.now c.serve_group.new.self.port.now inv.turned.work.deeds b
-    g.K.Keeper.model.serves c.args.messages.now c.loop-at.at inv.turned.work.done two)
+    g.K.Keeper.model.service c.args.messages.now c.loop-at.at inv.turned.work.done two)
 
 pub sum_of-sum-requires-clause-a : goal.sum_of-sum-requires-clause-a
 sum_of-sum-requires-clause-a g c = below_more c.loop-at.counts c.loop-at.at (2 ^ 63 - 1) (omega (arith, c.loop-at.invariant.within, c.requires.short))
@@ -77,7 +86,7 @@ returns-then-over-clause-ok g c =
     c.args.self.now.clock.now c.loop-at.self.clock.now c.serve_group.new.self.clock.now
     c.args.self.now.keeper.now c.loop-at.self.keeper.now c.serve_group.new.self.keeper.now
     c.args.self.now.port.now c.loop-at.self.port.now c.serve_group.new.self.port.now inv.turned.work.deeds b
-    g.K.Keeper.model.serves ms i _ (groups_of g.K.Keeper.model.serves (drop (i + n) ms)) (left_is g.K.Keeper.model.serves ms i n) inv.turned.work.done two))
+    g.K.Keeper.model.service ms i _ (groups_of g.K.Keeper.model.service (drop (i + n) ms)) (left_is g.K.Keeper.model.service ms i n) inv.turned.work.done two))
 
 pub loop-at-preserved : goal.loop-at-preserved
 loop-at-preserved g c =
@@ -92,7 +101,7 @@ loop-at-preserved g c =
       turned = subst (λ b. TookTurn (passage (g.K.Keeper.told c.args.self.now.keeper.now) (g.K.Keeper.told k')
           (g.P.Port.told c.args.self.now.port.now) (g.P.Port.told c.serve_group.new.self.port.now)
           (Mute (Did (g.C.Clock.gave c.args.self.now.clock.now c.serve_group.new.self.clock.now)
-          (Grouped g.K.Keeper.model.serves ms (groups_of g.K.Keeper.model.serves (drop (i + n) ms)) (g.K.Keeper.performed c.args.self.now.keeper.now k'))
+          (Grouped g.K.Keeper.model.service ms (groups_of g.K.Keeper.model.service (drop (i + n) ms)) (g.K.Keeper.performed c.args.self.now.keeper.now k'))
           (g.P.Port.became c.args.self.now.port.now c.serve_group.new.self.port.now))))
           (ids_of c.args.self.now.pending.now.items) (ids_of c.serve_group.new.self.pending.now.items) (take (i + n) ms) b c.sum_of-sum.result) (lasts_on c.in-Ok.progress.next on)
           (group_more g.K.Keeper.model c.histories_grow.ensures (g.K.Keeper.told c.args.self.now.keeper.now) (g.K.Keeper.told c.loop-at.self.keeper.now) (g.K.Keeper.told k')
@@ -104,7 +113,7 @@ loop-at-preserved g c =
           c.args.self.now.clock.now c.loop-at.self.clock.now c.serve_group.new.self.clock.now
           c.args.self.now.keeper.now c.loop-at.self.keeper.now c.serve_group.new.self.keeper.now
           c.args.self.now.port.now c.loop-at.self.port.now c.serve_group.new.self.port.now inv.turned.work.deeds b
-          g.K.Keeper.model.serves ms i _ (groups_of g.K.Keeper.model.serves (drop (i + n) ms)) (left_is g.K.Keeper.model.serves ms i n) inv.turned.work.done two));
+          g.K.Keeper.model.service ms i _ (groups_of g.K.Keeper.model.service (drop (i + n) ms)) (left_is g.K.Keeper.model.service ms i n) inv.turned.work.done two));
       loans = (c.in-Ok.ensures.loans.0 ∙ inv.loans.0, c.in-Ok.ensures.loans.1 ∙ inv.loans.1, c.in-Ok.ensures.loans.2 ∙ inv.loans.2, c.in-Ok.ensures.loans.3 ∙ inv.loans.3);
       below = subst (λ x. IsBelow x (i + n)) (sym c.sum_of-sum.ensures) (plus_below c.loop-at.counts c.in-Ok.progress.counts i n inv.below c.in-Ok.ensures.below);
       few = c.in-Ok.ensures.few;

@@ -19,7 +19,7 @@ invariant-loop-at g l = record {
   loans : SameLoans l.fn.self l.self;
   turned : TookTurn (passage (g.K.Keeper.told l.fn.self.keeper.now) (g.K.Keeper.told l.self.keeper.now)
       (g.P.Port.told l.fn.self.port.now) (g.P.Port.told l.self.port.now) (Mute (Did (g.C.Clock.gave l.fn.self.clock.now l.self.clock.now)
-      (Grouped g.K.Keeper.model.serves l.messages (groups_of g.K.Keeper.model.serves (drop l.at l.messages)) (g.K.Keeper.performed l.fn.self.keeper.now l.self.keeper.now))
+      (Grouped g.K.Keeper.model.service l.messages (groups_of g.K.Keeper.model.service (drop l.at l.messages)) (g.K.Keeper.performed l.fn.self.keeper.now l.self.keeper.now))
       (g.P.Port.became l.fn.self.port.now l.self.port.now))))
       (ids_of l.fn.self.pending.now.items) (ids_of l.self.pending.now.items) (take l.at l.messages) true l.counts;
   below : IsBelow l.counts l.at;

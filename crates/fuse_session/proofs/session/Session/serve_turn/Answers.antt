@@ -40,7 +40,7 @@ returns-in-Err-clause-err g c =
     record {
       deeds = deeds;
       done = turn_none (g.C.Clock.gave clock clock) (g.K.Keeper.performed keeper keeper) g.P.Port.became c.args.self.now.port.now c.receive_messages.new.port
-          one.result one.received g.K.Keeper.model.serves c.args.framer.now.bytes ((g.met.C.Clock.logged).none clock) ((g.met.K.Keeper.log).none keeper) one.once;
+          one.result one.received g.K.Keeper.model.service c.args.framer.now.bytes ((g.met.C.Clock.logged).none clock) ((g.met.K.Keeper.log).none keeper) one.once;
       life = life_unheard g.K.Keeper.model c.still_stands.ensures k _ (by_just one) _ _ (ids_of c.args.self.now.pending.now.items) c.args.framer.now e by.0 alone just
           c.in-Err.ensures.hearing;
       counts = none_counted;
@@ -86,7 +86,7 @@ returns-in-Err-serve_messages-clause-err g c =
     let r = g.P.Port.told c.serve_messages.new.self.port.now in
     let e = c.ended_of.ensures.is in
     let pass = passage k k' q r (Did (g.C.Clock.gave c.args.self.now.clock.now c.serve_messages.new.self.clock.now)
-    (GroupedSome g.K.Keeper.model.serves c.as_slice-slice.result.now (g.K.Keeper.performed c.args.self.now.keeper.now c.serve_messages.new.self.keeper.now))
+    (GroupedSome g.K.Keeper.model.service c.as_slice-slice.result.now (g.K.Keeper.performed c.args.self.now.keeper.now c.serve_messages.new.self.keeper.now))
     (g.P.Port.became c.receive_messages.new.port c.serve_messages.new.self.port.now)) in
     let broken = subst (λ x. Broken (muted pass) (ids_of c.args.self.now.pending.now.items) c.as_slice-slice.result.now x) (sym e) s.err in
     let heard = c.in-Ok.ensures.ok in
@@ -95,7 +95,7 @@ returns-in-Err-serve_messages-clause-err g c =
     let turn = turn_hears (g.C.Clock.gave c.args.self.now.clock.now c.serve_messages.new.self.clock.now)
     (g.K.Keeper.performed c.args.self.now.keeper.now c.serve_messages.new.self.keeper.now) g.P.Port.became g.met.P.Port.path c.args.self.now.port.now
     c.receive_messages.new.port c.serve_messages.new.self.port.now came.result heard.received broken.work.deeds
-    g.K.Keeper.model.serves c.args.framer.now.bytes c.as_slice-slice.result.now asked.0 false
+    g.K.Keeper.model.service c.args.framer.now.bytes c.as_slice-slice.result.now asked.0 false
     (heard_messages _ c.args.framer.now c.receive_messages.new.framer _ _ _ heard c.as_slice-slice.ensures.value) (λ isnt. absurd (cc isnt)) came.once came.gave
     (record {
       done = record { moments = broken.work.done.done.moments; asked = asked.1; events = broken.work.done.done.events };
@@ -140,7 +140,7 @@ returns-in-Ok-finish-clause-ok g c =
     let room = c.requires.room in
     record {
       whole = subst (Whole (passage k k' (g.P.Port.told c.args.self.now.port.now) (g.P.Port.told c.serve_messages.new.self.port.now)
-          (OneTurn g.K.Keeper.model.serves c.args.framer.now.bytes true (Did (g.C.Clock.gave c.args.self.now.clock.now c.serve_messages.new.self.clock.now)
+          (OneTurn g.K.Keeper.model.service c.args.framer.now.bytes true (Did (g.C.Clock.gave c.args.self.now.clock.now c.serve_messages.new.self.clock.now)
           (g.K.Keeper.performed c.args.self.now.keeper.now c.serve_messages.new.self.keeper.now)
           (g.P.Port.became c.args.self.now.port.now c.serve_messages.new.self.port.now))))
           (waits (ids_of c.args.self.now.pending.now.items) c.args.framer.now)
@@ -151,9 +151,9 @@ returns-in-Ok-finish-clause-ok g c =
           progress heard (λ b two. turn_hears (g.C.Clock.gave c.args.self.now.clock.now c.serve_messages.new.self.clock.now)
           (g.K.Keeper.performed c.args.self.now.keeper.now c.serve_messages.new.self.keeper.now) g.P.Port.became g.met.P.Port.path c.args.self.now.port.now
           c.receive_messages.new.port c.serve_messages.new.self.port.now heard.came.result heard.received b
-          g.K.Keeper.model.serves c.args.framer.now.bytes c.as_slice-slice.result.now _ true
+          g.K.Keeper.model.service c.args.framer.now.bytes c.as_slice-slice.result.now _ true
           (heard_messages _ c.args.framer.now c.receive_messages.new.framer _ _ _ heard c.as_slice-slice.ensures.value)
-          (λ _. ap (groups_of g.K.Keeper.model.serves) (s.ok.all (ap goes_on fin.1))) heard.came.once heard.came.gave two)
+          (λ _. ap (groups_of g.K.Keeper.model.service) (s.ok.all (ap goes_on fin.1))) heard.came.once heard.came.gave two)
           c.in-Ok.ensures.hearing c.as_slice-slice.ensures.value fin.1 s.ok s.quiet);
       below = subst (λ x. IsBelow x (2 ^ 20)) (sym fin.0) (below_more progress.counts (length c.as_slice-slice.result.now) (2 ^ 20)
           (omega (arith, ap length c.as_slice-slice.ensures.value, took.few, took.at, c.in-Ok.ensures.fed, short, room)) s.below);
@@ -187,7 +187,7 @@ returns-clause-err g c =
     let turn = turn_hears (g.C.Clock.gave c.args.self.now.clock.now c.serve_messages.new.self.clock.now)
     (g.K.Keeper.performed c.args.self.now.keeper.now c.serve_messages.new.self.keeper.now) g.P.Port.became g.met.P.Port.path c.args.self.now.port.now
     c.receive_messages.new.port c.serve_messages.new.self.port.now heard.came.result heard.received work.deeds
-    g.K.Keeper.model.serves c.args.framer.now.bytes c.as_slice-slice.result.now _ false
+    g.K.Keeper.model.service c.args.framer.now.bytes c.as_slice-slice.result.now _ false
     (heard_messages _ c.args.framer.now c.receive_messages.new.framer _ _ _ heard c.as_slice-slice.ensures.value) (λ isnt. absurd (cc isnt))
     heard.came.once heard.came.gave work.done in
     let just = processed_just g.K.Keeper.model _ _ _ _ _ _ _ _ _ s.ok in

@@ -1,92 +1,198 @@
-use Rattle.std.proofs.Common.{true, Some, Ok, Err, sym, subst}
+use Rattle.std.proofs.Common.{true, cond, Option, Ok, Err, ℕ, sym, ap, subst}
 use Rattle.sqlite.specs.Held.{state}
 use Rattle.fuse_keeper.specs.Group.{ids_of, entries_of}
 use Rattle.fuse_tree.specs.Rowed.{rowed}
-use Rattle.fuse_store_tree.specs.Group.{performed}
+use Rattle.fuse_tree.specs.TheTree.{tree_of}
+use Rattle.fuse_keeper.specs.History.{kept_of}
+use Rattle.fuse_store_tree.specs.Holding.{Holding}
+use Rattle.fuse_store_tree.specs.Group.{keeps_nothing, transacted, performed}
 use Rattle.fuse_store_tree.specs.Knowing.{Knows}
+use Rattle.fuse_keeper.specs.KeeperState.{Looked}
+use Rattle.fuse_store.specs.TableState.{table_told}
+use Rattle.fuse_store.specs.TableKeeper.{LiesInMemory}
 use Rattle.fuse_store.proofs.Serving.{firm}
-use Rattle.fuse_store.proofs.Grouping.{performs, acts_so, others_so, lots_so, leaves_group, leaves_acted}
-use Rattle.fuse_store.proofs.Peeking.{went_well, went_wrong, lot_may, took_may, failed_may}
+use Rattle.fuse_store.proofs.Grouping.{ServesGroup, SaysGroup, TakesLotFor, performs, acts_so, others_so, lots_so, leaves_group, leaves_acted}
+use Rattle.fuse_store.proofs.Peeking.{went_well, went_wrong, lot_may, took_may, failed_may, seen_well, seen_wrong}
+use Rattle.fuse_store.proofs.Grouping.{nothing_for, serves_still, fails_still}
 use Rattle.fuse_store.proofs.table_keeper.TableKeeperKeeper.perform.Goals as goal
 
 pub returns-in-Ok-clause-called : goal.returns-in-Ok-clause-called
 returns-in-Ok-clause-called g c =
-    went_well g.P.Profiled.PROFILE c.args.self.now.look.known c.perform.new.look.known (performed c.args.self.now.lot (ids_of c.args.settled.now) (entries_of c.args.group.now)) (state g.S.Store c.args.self.now.look.conn)
-    (state g.S.Store c.perform.new.look.conn) c.in-Ok.performed c.in-Ok.performed.dones c.in-Ok.ensures.serves c.in-Ok.ensures.open c.args.self.now.lot
-    (Some c.in-Ok.performed.lot) c.args.self.now.failed
+    let p = g.P.Profiled.PROFILE in
+    let ids = ids_of c.args.settled.now in
+    let es = entries_of c.args.group.now in
+    let m = c.args.self.now.look.known in
+    let n = c.perform.new.look.known in
+    let lot = c.args.self.now.lot in
+    let a = state g.S.Store c.args.self.now.look.conn in
+    let b = state g.S.Store c.perform.new.look.conn in
+    let V = (tree_of c.PROFILE.result).service in
+    went_well p m n (performed V lot ids es) a b c.in-Ok.performed c.in-Ok.performed.dones c.in-Ok.ensures.serves c.in-Ok.ensures.open lot
+    c.in-Ok.performed.lot c.args.self.now.failed
 
 pub returns-in-Ok-clause-ok : goal.returns-in-Ok-clause-ok
 returns-in-Ok-clause-ok g c =
-    performs g.P.Profiled.PROFILE c.one_holding.ensures c.calls_perform.ensures c.args.self.now.look.known c.perform.new.look.known c.args.self.now.lot (ids_of c.args.settled.now) (entries_of c.args.group.now)
-    (state g.S.Store c.args.self.now.look.conn) (state g.S.Store c.perform.new.look.conn) c.in-Ok.performed c.in-Ok.ensures.serves
-    (Some c.in-Ok.performed.lot) c.args.self.now.failed c.args.self.now.failed c.in-Ok.performed.dones.items c.in-Ok.ensures.dones
+    let p = g.P.Profiled.PROFILE in
+    let ids = ids_of c.args.settled.now in
+    let es = entries_of c.args.group.now in
+    let m = c.args.self.now.look.known in
+    let n = c.perform.new.look.known in
+    let lot = c.args.self.now.lot in
+    let a = state g.S.Store c.args.self.now.look.conn in
+    let b = state g.S.Store c.perform.new.look.conn in
+    let serves = subst (ServesGroup m n lot ids es a b (Ok c.in-Ok.performed)) c.PROFILE.ensures c.in-Ok.ensures.serves in
+    let dones = subst (SaysGroup m lot ids es a b c.in-Ok.performed.dones.items) c.PROFILE.ensures c.in-Ok.ensures.dones in
+    performs p c.one_holding.ensures c.calls_perform.ensures m n lot ids es a b c.in-Ok.performed serves c.in-Ok.performed.lot c.args.self.now.failed c.args.self.now.failed
+    c.in-Ok.performed.dones.items dones
 
 pub returns-in-Ok-clause-may : goal.returns-in-Ok-clause-may
 returns-in-Ok-clause-may g c =
-    took_may g.P.Profiled.PROFILE c.args.self.now.look.known c.perform.new.look.known c.in-Ok.performed.lot c.args.self.now.lot (state g.S.Store c.args.self.now.look.conn) (state g.S.Store c.perform.new.look.conn)
-    c.args.self.now.failed c.args.self.now.failed
+    let p = g.P.Profiled.PROFILE in
+    let ids = ids_of c.args.settled.now in
+    let es = entries_of c.args.group.now in
+    let m = c.args.self.now.look.known in
+    let n = c.perform.new.look.known in
+    let lot = c.args.self.now.lot in
+    let a = state g.S.Store c.args.self.now.look.conn in
+    let b = state g.S.Store c.perform.new.look.conn in
+    let V = (tree_of c.PROFILE.result).service in
+    took_may p m n (performed V lot ids es) (keeps_nothing (kept_of V es) ids) c.in-Ok.performed.lot lot a b c.in-Ok.performed
+    (λ is. (c.in-Ok.ensures.same_lot is, λ y. ap (λ b. cond b y (transacted V lot ids es y)) is)) c.in-Ok.ensures.some_lot c.in-Ok.ensures.serves
+    c.in-Ok.ensures.open c.args.self.now.failed c.args.self.now.failed
 
 pub returns-in-Ok-clause-acts : goal.returns-in-Ok-clause-acts
 returns-in-Ok-clause-acts g c =
-    acts_so g.P.Profiled.PROFILE c.one_holding.ensures c.calls_perform.ensures c.args.self.now.look.known c.perform.new.look.known c.args.self.now.lot (ids_of c.args.settled.now) (entries_of c.args.group.now)
-    (state g.S.Store c.args.self.now.look.conn) (state g.S.Store c.perform.new.look.conn) c.in-Ok.performed c.in-Ok.ensures.serves
-    (Some c.in-Ok.performed.lot) c.args.self.now.failed c.args.self.now.failed c.in-Ok.performed.dones.items c.in-Ok.ensures.dones
+    let p = g.P.Profiled.PROFILE in
+    let ids = ids_of c.args.settled.now in
+    let es = entries_of c.args.group.now in
+    let m = c.args.self.now.look.known in
+    let n = c.perform.new.look.known in
+    let lot = c.args.self.now.lot in
+    let a = state g.S.Store c.args.self.now.look.conn in
+    let b = state g.S.Store c.perform.new.look.conn in
+    let serves = subst (ServesGroup m n lot ids es a b (Ok c.in-Ok.performed)) c.PROFILE.ensures c.in-Ok.ensures.serves in
+    let dones = subst (SaysGroup m lot ids es a b c.in-Ok.performed.dones.items) c.PROFILE.ensures c.in-Ok.ensures.dones in
+    acts_so p c.one_holding.ensures c.calls_perform.ensures m n lot ids es a b c.in-Ok.performed serves c.in-Ok.performed.lot c.args.self.now.failed c.args.self.now.failed
+    c.in-Ok.performed.dones.items dones
 
 pub returns-in-Ok-clause-others : goal.returns-in-Ok-clause-others
 returns-in-Ok-clause-others g c =
-    others_so g.P.Profiled.PROFILE c.one_holding.ensures c.calls_perform.ensures c.args.self.now.look.known c.perform.new.look.known c.args.self.now.lot (ids_of c.args.settled.now) (entries_of c.args.group.now)
-    (state g.S.Store c.args.self.now.look.conn) (state g.S.Store c.perform.new.look.conn) c.in-Ok.performed c.in-Ok.ensures.serves c.rows_tell_state.ensures
-    (Some c.in-Ok.performed.lot) c.args.self.now.failed c.args.self.now.failed
+    let p = g.P.Profiled.PROFILE in
+    let ids = ids_of c.args.settled.now in
+    let es = entries_of c.args.group.now in
+    let m = c.args.self.now.look.known in
+    let n = c.perform.new.look.known in
+    let lot = c.args.self.now.lot in
+    let a = state g.S.Store c.args.self.now.look.conn in
+    let b = state g.S.Store c.perform.new.look.conn in
+    let serves = subst (ServesGroup m n lot ids es a b (Ok c.in-Ok.performed)) c.PROFILE.ensures c.in-Ok.ensures.serves in
+    others_so p c.one_holding.ensures c.calls_perform.ensures m n lot ids es a b c.in-Ok.performed serves c.rows_tell_state.ensures c.in-Ok.performed.lot
+    c.args.self.now.failed c.args.self.now.failed
 
 pub returns-in-Ok-clause-lots : goal.returns-in-Ok-clause-lots
 returns-in-Ok-clause-lots g c =
-    lots_so g.P.Profiled.PROFILE c.lots_are_read.ensures.same c.calls_perform.ensures c.args.self.now.look.known c.perform.new.look.known c.args.self.now.lot (ids_of c.args.settled.now) (entries_of c.args.group.now)
-    (state g.S.Store c.args.self.now.look.conn) (state g.S.Store c.perform.new.look.conn) c.in-Ok.performed c.in-Ok.ensures.serves
-    c.in-Ok.performed.lot c.args.self.now.failed c.args.self.now.failed c.in-Ok.ensures.lot
+    let p = g.P.Profiled.PROFILE in
+    let ids = ids_of c.args.settled.now in
+    let es = entries_of c.args.group.now in
+    let m = c.args.self.now.look.known in
+    let n = c.perform.new.look.known in
+    let lot = c.args.self.now.lot in
+    let a = state g.S.Store c.args.self.now.look.conn in
+    let b = state g.S.Store c.perform.new.look.conn in
+    let serves = subst (ServesGroup m n lot ids es a b (Ok c.in-Ok.performed)) c.PROFILE.ensures c.in-Ok.ensures.serves in
+    let taken = subst (TakesLotFor lot ids es a b c.in-Ok.performed.lot) c.PROFILE.ensures c.in-Ok.ensures.lot in
+    lots_so p c.lots_are_read.ensures.same c.calls_perform.ensures m n lot ids es a b c.in-Ok.performed serves c.in-Ok.performed.lot c.args.self.now.failed
+    c.args.self.now.failed taken
 
 pub returns-in-Ok-clause-crash : goal.returns-in-Ok-clause-crash
 returns-in-Ok-clause-crash g c =
-    leaves_group g.P.Profiled.PROFILE c.one_holding.ensures c.calls_perform.ensures c.args.self.now.look.known c.perform.new.look.known c.args.self.now.lot (ids_of c.args.settled.now) (entries_of c.args.group.now)
-    (state g.S.Store c.args.self.now.look.conn) (state g.S.Store c.perform.new.look.conn) (Ok c.in-Ok.performed)
-    (g.met.S.Store.settled c.args.self.now.look.conn.store) c.in-Ok.ensures.serves (Some c.in-Ok.performed.lot) c.args.self.now.failed
-    c.args.self.now.failed
+    let p = g.P.Profiled.PROFILE in
+    let ids = ids_of c.args.settled.now in
+    let es = entries_of c.args.group.now in
+    let m = c.args.self.now.look.known in
+    let n = c.perform.new.look.known in
+    let lot = c.args.self.now.lot in
+    let a = state g.S.Store c.args.self.now.look.conn in
+    let b = state g.S.Store c.perform.new.look.conn in
+    let serves = subst (ServesGroup m n lot ids es a b (Ok c.in-Ok.performed)) c.PROFILE.ensures c.in-Ok.ensures.serves in
+    leaves_group p c.one_holding.ensures c.calls_perform.ensures m n lot ids es a b (Ok c.in-Ok.performed)
+    (g.met.S.Store.settled c.args.self.now.look.conn.store) serves c.in-Ok.performed.lot c.args.self.now.failed c.args.self.now.failed
 
 pub returns-in-Ok-clause-firm : goal.returns-in-Ok-clause-firm
-returns-in-Ok-clause-firm g c = λ clean.
-    firm g.P.Profiled.PROFILE c.one_holding.ensures c.perform.new.look.known (state g.S.Store c.perform.new.look.conn) (Some c.in-Ok.performed.lot) c.args.self.now.failed
+returns-in-Ok-clause-firm g c =
+    λ clean. firm g.P.Profiled.PROFILE c.one_holding.ensures c.perform.new.look.known (state g.S.Store c.perform.new.look.conn) c.in-Ok.performed.lot c.args.self.now.failed
     (g.met.S.Store.settled c.perform.new.look.conn.store)
 
 pub returns-in-Err-clause-called : goal.returns-in-Err-clause-called
 returns-in-Err-clause-called g c =
-    went_wrong g.P.Profiled.PROFILE c.one_holding.ensures c.lots_are_read.ensures.same c.args.self.now.look.known c.perform.new.look.known
-    (performed c.args.self.now.lot (ids_of c.args.settled.now) (entries_of c.args.group.now)) (state g.S.Store c.args.self.now.look.conn)
-    (state g.S.Store c.perform.new.look.conn) c.in-Err.fault (λ y k. subst (λ o. Knows o (rowed y.tree)) (sym c.in-Err.ensures.forgets) tt) c.in-Err.ensures.serves c.args.self.now.lot
-    (lot_may c.one_holding.ensures c.args.self.now.look.known c.args.self.now.lot (state g.S.Store c.args.self.now.look.conn) (state g.S.Store c.perform.new.look.conn) c.in-Err.fault
-    c.in-Err.ensures.plain c.in-Err.ensures.fault) c.args.self.now.failed
+    let p = g.P.Profiled.PROFILE in
+    let ids = ids_of c.args.settled.now in
+    let es = entries_of c.args.group.now in
+    let m = c.args.self.now.look.known in
+    let n = c.perform.new.look.known in
+    let lot = c.args.self.now.lot in
+    let a = state g.S.Store c.args.self.now.look.conn in
+    let b = state g.S.Store c.perform.new.look.conn in
+    let V = (tree_of c.PROFILE.result).service in
+    went_wrong p c.one_holding.ensures c.lots_are_read.ensures.same m n (performed V lot ids es) a b c.in-Err.fault
+    (λ y k. subst (λ o. Knows o (rowed y.tree)) (sym c.in-Err.ensures.forgets) tt) c.in-Err.ensures.serves lot
+    (lot_may c.one_holding.ensures m lot a b c.in-Err.fault c.in-Err.ensures.plain c.in-Err.ensures.fault) c.args.self.now.failed
 
 pub returns-in-Err-clause-may : goal.returns-in-Err-clause-may
 returns-in-Err-clause-may g c =
-    failed_may g.P.Profiled.PROFILE c.args.self.now.look.known c.perform.new.look.known (performed c.args.self.now.lot (ids_of c.args.settled.now) (entries_of c.args.group.now)) (state g.S.Store c.args.self.now.look.conn)
-    (state g.S.Store c.perform.new.look.conn) c.in-Err.fault (λ y k. subst (λ o. Knows o (rowed y.tree)) (sym c.in-Err.ensures.forgets) tt) c.in-Err.ensures.serves c.in-Err.ensures.open c.args.self.now.lot c.args.self.now.failed true
+    let p = g.P.Profiled.PROFILE in
+    let ids = ids_of c.args.settled.now in
+    let es = entries_of c.args.group.now in
+    let m = c.args.self.now.look.known in
+    let n = c.perform.new.look.known in
+    let lot = c.args.self.now.lot in
+    let a = state g.S.Store c.args.self.now.look.conn in
+    let b = state g.S.Store c.perform.new.look.conn in
+    let V = (tree_of c.PROFILE.result).service in
+    failed_may p m n (performed V lot ids es) a b c.in-Err.fault (λ y k. subst (λ o. Knows o (rowed y.tree)) (sym c.in-Err.ensures.forgets) tt)
+    c.in-Err.ensures.serves c.in-Err.ensures.open lot c.args.self.now.failed true
 
 pub returns-in-Err-clause-crash : goal.returns-in-Err-clause-crash
 returns-in-Err-clause-crash g c =
-    leaves_group g.P.Profiled.PROFILE c.one_holding.ensures c.calls_perform.ensures c.args.self.now.look.known c.perform.new.look.known c.args.self.now.lot (ids_of c.args.settled.now) (entries_of c.args.group.now)
-    (state g.S.Store c.args.self.now.look.conn) (state g.S.Store c.perform.new.look.conn) (Err c.in-Err.fault)
-    (g.met.S.Store.settled c.args.self.now.look.conn.store) c.in-Err.ensures.serves c.args.self.now.lot c.args.self.now.failed true
+    let p = g.P.Profiled.PROFILE in
+    let ids = ids_of c.args.settled.now in
+    let es = entries_of c.args.group.now in
+    let m = c.args.self.now.look.known in
+    let n = c.perform.new.look.known in
+    let lot = c.args.self.now.lot in
+    let a = state g.S.Store c.args.self.now.look.conn in
+    let b = state g.S.Store c.perform.new.look.conn in
+    let serves = subst (ServesGroup m n lot ids es a b (Err c.in-Err.fault)) c.PROFILE.ensures c.in-Err.ensures.serves in
+    leaves_group p c.one_holding.ensures c.calls_perform.ensures m n lot ids es a b (Err c.in-Err.fault)
+    (g.met.S.Store.settled c.args.self.now.look.conn.store) serves lot c.args.self.now.failed true
 
 pub returns-in-Ok-clause-crash_acts : goal.returns-in-Ok-clause-crash_acts
 returns-in-Ok-clause-crash_acts g c =
-    leaves_acted g.P.Profiled.PROFILE c.one_holding.ensures c.calls_perform.ensures c.args.self.now.look.known c.perform.new.look.known c.args.self.now.lot (ids_of c.args.settled.now) (entries_of c.args.group.now)
-    (state g.S.Store c.args.self.now.look.conn) (state g.S.Store c.perform.new.look.conn) (Ok c.in-Ok.performed)
-    (g.met.S.Store.settled c.args.self.now.look.conn.store) c.in-Ok.ensures.serves (Some c.in-Ok.performed.lot) c.args.self.now.failed
-    c.args.self.now.failed
+    let p = g.P.Profiled.PROFILE in
+    let ids = ids_of c.args.settled.now in
+    let es = entries_of c.args.group.now in
+    let m = c.args.self.now.look.known in
+    let n = c.perform.new.look.known in
+    let lot = c.args.self.now.lot in
+    let a = state g.S.Store c.args.self.now.look.conn in
+    let b = state g.S.Store c.perform.new.look.conn in
+    let serves = subst (ServesGroup m n lot ids es a b (Ok c.in-Ok.performed)) c.PROFILE.ensures c.in-Ok.ensures.serves in
+    leaves_acted p c.one_holding.ensures c.calls_perform.ensures m n lot ids es a b (Ok c.in-Ok.performed)
+    (g.met.S.Store.settled c.args.self.now.look.conn.store) serves c.in-Ok.performed.lot c.args.self.now.failed c.args.self.now.failed
 
 pub returns-in-Err-clause-crash_acts : goal.returns-in-Err-clause-crash_acts
 returns-in-Err-clause-crash_acts g c =
-    leaves_acted g.P.Profiled.PROFILE c.one_holding.ensures c.calls_perform.ensures c.args.self.now.look.known c.perform.new.look.known c.args.self.now.lot (ids_of c.args.settled.now) (entries_of c.args.group.now)
-    (state g.S.Store c.args.self.now.look.conn) (state g.S.Store c.perform.new.look.conn) (Err c.in-Err.fault)
-    (g.met.S.Store.settled c.args.self.now.look.conn.store) c.in-Err.ensures.serves c.args.self.now.lot c.args.self.now.failed true
+    let p = g.P.Profiled.PROFILE in
+    let ids = ids_of c.args.settled.now in
+    let es = entries_of c.args.group.now in
+    let m = c.args.self.now.look.known in
+    let n = c.perform.new.look.known in
+    let lot = c.args.self.now.lot in
+    let a = state g.S.Store c.args.self.now.look.conn in
+    let b = state g.S.Store c.perform.new.look.conn in
+    let serves = subst (ServesGroup m n lot ids es a b (Err c.in-Err.fault)) c.PROFILE.ensures c.in-Err.ensures.serves in
+    leaves_acted p c.one_holding.ensures c.calls_perform.ensures m n lot ids es a b (Err c.in-Err.fault)
+    (g.met.S.Store.settled c.args.self.now.look.conn.store) serves lot c.args.self.now.failed true
 
 pub returns-in-Ok-clause-ended : goal.returns-in-Ok-clause-ended
 returns-in-Ok-clause-ended g c = c.in-Ok.ensures.ended
@@ -114,10 +220,73 @@ returns-in-Err-clause-once g c =
 
 pub returns-in-Ok-clause-held : goal.returns-in-Ok-clause-held
 returns-in-Ok-clause-held g c =
-    let serves = c.in-Ok.ensures.serves in
+    let ids = ids_of c.args.settled.now in
+    let es = entries_of c.args.group.now in
+    let m = c.args.self.now.look.known in
+    let n = c.perform.new.look.known in
+    let lot = c.args.self.now.lot in
+    let a = state g.S.Store c.args.self.now.look.conn in
+    let b = state g.S.Store c.perform.new.look.conn in
+    let serves = subst (ServesGroup m n lot ids es a b (Ok c.in-Ok.performed)) c.PROFILE.ensures c.in-Ok.ensures.serves in
     record { survives = serves.survives; kept = tt; done = serves.done }
 
 pub returns-in-Err-clause-held : goal.returns-in-Err-clause-held
 returns-in-Err-clause-held g c =
-    let serves = c.in-Err.ensures.serves in
+    let ids = ids_of c.args.settled.now in
+    let es = entries_of c.args.group.now in
+    let m = c.args.self.now.look.known in
+    let n = c.perform.new.look.known in
+    let lot = c.args.self.now.lot in
+    let a = state g.S.Store c.args.self.now.look.conn in
+    let b = state g.S.Store c.perform.new.look.conn in
+    let serves = subst (ServesGroup m n lot ids es a b (Err c.in-Err.fault)) c.PROFILE.ensures c.in-Err.ensures.serves in
     record { survives = serves.survives; kept = serves.kept; done = tt }
+
+-- ---- where nothing is to be kept
+
+pub returns-in-Ok-clause-alone : goal.returns-in-Ok-clause-alone
+returns-in-Ok-clause-alone g c = λ only.
+    c.in-Ok.ensures.alone (nothing_for g.P.Profiled.PROFILE c.PROFILE.result c.PROFILE.ensures (entries_of c.args.group.now) (ids_of c.args.settled.now) only)
+
+pub returns-in-Err-clause-alone : goal.returns-in-Err-clause-alone
+returns-in-Err-clause-alone g c = λ only.
+    c.in-Err.ensures.alone (nothing_for g.P.Profiled.PROFILE c.PROFILE.result c.PROFILE.ensures (entries_of c.args.group.now) (ids_of c.args.settled.now) only)
+
+pub returns-in-Ok-clause-looked : goal.returns-in-Ok-clause-looked
+returns-in-Ok-clause-looked g c = λ only.
+    let p = g.P.Profiled.PROFILE in
+    let ids = ids_of c.args.settled.now in
+    let es = entries_of c.args.group.now in
+    let m = c.args.self.now.look.known in
+    let n = c.perform.new.look.known in
+    let lot = c.args.self.now.lot in
+    let a = state g.S.Store c.args.self.now.look.conn in
+    let b = state g.S.Store c.perform.new.look.conn in
+    let V = (tree_of c.PROFILE.result).service in
+    let nothing = nothing_for p c.PROFILE.result c.PROFILE.ensures es ids only in
+    let serves = serves_still m n (performed V lot ids es) a b c.in-Ok.performed (λ y. ap (λ b. cond b y (transacted V lot ids es y)) nothing)
+    c.in-Ok.ensures.serves in
+    subst (λ (o : Option ℕ). Looked (table_told p (LiesInMemory g.S.Store) m a lot c.args.self.now.failed) (table_told p (LiesInMemory g.S.Store) n b o c.args.self.now.failed) (Ok c.in-Ok.performed.dones))
+    (sym (c.in-Ok.ensures.same_lot nothing))
+    (seen_well p c.one_holding.ensures c.lots_are_read.ensures.same m a b (g.met.S.Store.settled c.args.self.now.look.conn.store)
+    (g.met.S.Store.stays c.args.self.now.look.conn.store) n c.in-Ok.performed c.in-Ok.performed.dones serves c.in-Ok.ensures.open lot
+    c.args.self.now.failed)
+
+pub returns-in-Err-clause-looked : goal.returns-in-Err-clause-looked
+returns-in-Err-clause-looked g c = λ only.
+    let p = g.P.Profiled.PROFILE in
+    let ids = ids_of c.args.settled.now in
+    let es = entries_of c.args.group.now in
+    let m = c.args.self.now.look.known in
+    let n = c.perform.new.look.known in
+    let lot = c.args.self.now.lot in
+    let a = state g.S.Store c.args.self.now.look.conn in
+    let b = state g.S.Store c.perform.new.look.conn in
+    let V = (tree_of c.PROFILE.result).service in
+    let nothing = nothing_for p c.PROFILE.result c.PROFILE.ensures es ids only in
+    let serves = fails_still m n (performed V lot ids es) a b c.in-Err.fault (λ y. ap (λ b. cond b y (transacted V lot ids es y)) nothing)
+    c.in-Err.ensures.serves in
+    seen_wrong p c.one_holding.ensures c.lots_are_read.ensures.same m a b (g.met.S.Store.settled c.args.self.now.look.conn.store)
+    (g.met.S.Store.stays c.args.self.now.look.conn.store) n c.in-Err.fault
+    (λ y k. subst (λ o. Knows o (rowed y.tree)) (sym c.in-Err.ensures.forgets) tt) serves c.in-Err.ensures.open lot
+    (lot_may c.one_holding.ensures m lot a b c.in-Err.fault c.in-Err.ensures.plain c.in-Err.ensures.fault) c.args.self.now.failed

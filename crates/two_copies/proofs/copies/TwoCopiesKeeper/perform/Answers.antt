@@ -3,7 +3,7 @@ use Rattle.std.proofs.Math.Bool.{or-true}
 use Rattle.fuse_keeper.specs.PlainKeeper.{plain_told}
 use Rattle.fuse_keeper.specs.Group.{ids_of, entries_of}
 use Rattle.fuse_keeper.specs.Stands.{without}
-use Rattle.two_copies.proofs.Both.{Commits, plain_firm, working_stands, leaves_old, leaves_either, left_held, leaves_held, working_acted, both_performed, both_taken, both_others, called_working}
+use Rattle.two_copies.proofs.Both.{Commits, plain_firm, working_stands, leaves_old, leaves_either, left_held, leaves_held, working_acted, both_performed, both_taken, both_others, called_working, looked_working, seen_performed, seen_taken, seen_others}
 use Rattle.two_copies.proofs.copies.TwoCopiesKeeper.perform.Goals as goal
 
 pub returns-in_ok-commit-in-Ok-clause-ok : goal.returns-in_ok-commit-in-Ok-clause-ok
@@ -96,3 +96,36 @@ returns-in-Err-clause-crash g c = λ s h t so within fresh firm.
 pub returns-in-Err-clause-by_plan : goal.returns-in-Err-clause-by_plan
 returns-in-Err-clause-by_plan g c = λ s h t so.
     inl (c.in-Err.ensures.called.fault tt s h t (working_stands g.F.FileSystem.model g.F.FileSystem.held c.args.self.now s h t so))
+
+-- ---- where nothing is to be kept
+
+pub returns-then-only_sees-clause-ok : goal.returns-then-only_sees-clause-ok
+returns-then-only_sees-clause-ok g c = λ honest s h t so within fresh.
+    let only = c.only_sees.ensures.some c.if-only_sees.true in
+    seen_performed g.F.FileSystem.model g.F.FileSystem.held c.args.self.now (record c.args.self.now { working = c.perform.new.self }) refl refl
+    ((c.in-Ok.ensures.looked only).same tt) s h t (entries_of c.args.group.now) c.in-Ok.dones.items so
+    (c.in-Ok.ensures.ok tt s h t (working_stands g.F.FileSystem.model g.F.FileSystem.held c.args.self.now s h t so) within fresh)
+
+pub returns-then-only_sees-clause-looked : goal.returns-then-only_sees-clause-looked
+returns-then-only_sees-clause-looked g c = λ only.
+    looked_working g.F.FileSystem.model g.F.FileSystem.held _ c.args.self.now (record c.args.self.now { working = c.perform.new.self }) refl refl
+    (c.in-Ok.ensures.looked only)
+
+pub returns-then-only_sees-clause-acts : goal.returns-then-only_sees-clause-acts
+returns-then-only_sees-clause-acts g c = λ honest rows records so rowed.
+    let only = c.only_sees.ensures.some c.if-only_sees.true in
+    seen_taken g.F.FileSystem.model g.F.FileSystem.held c.args.self.now (record c.args.self.now { working = c.perform.new.self }) refl refl
+    ((c.in-Ok.ensures.looked only).same tt) rows records (without (ids_of c.args.settled.now) records) (entries_of c.args.group.now) c.in-Ok.dones.items so
+    (c.in-Ok.ensures.acts tt rows records so.1 rowed)
+
+pub returns-then-only_sees-clause-others : goal.returns-then-only_sees-clause-others
+returns-then-only_sees-clause-others g c = λ honest rows records so rowed.
+    let only = c.only_sees.ensures.some c.if-only_sees.true in
+    seen_others g.F.FileSystem.model g.F.FileSystem.held c.args.self.now (record c.args.self.now { working = c.perform.new.self }) refl refl
+    ((c.in-Ok.ensures.looked only).same tt) rows records (ids_of c.args.settled.now) (entries_of c.args.group.now) so
+    (c.in-Ok.ensures.others tt rows records so.1 rowed)
+
+pub returns-in-Err-clause-looked : goal.returns-in-Err-clause-looked
+returns-in-Err-clause-looked g c = λ only.
+    looked_working g.F.FileSystem.model g.F.FileSystem.held _ c.args.self.now (record c.args.self.now { working = c.perform.new.self }) refl refl
+    (c.in-Err.ensures.looked only)
