@@ -43,12 +43,16 @@ __attribute__((noreturn)) static void end_child(const char *what) {
   _exit(CANNOT_RUN);
 }
 
-/* What a server has beside an engine that begins a mount. The last server may have been killed while no read of the device waited. */
-static void become_server(const struct supervisor *s) {
+/* What a server has beside an engine that begins a mount in a copy. The last server may have been killed while no read of the device
+ * waited. The first one flushes until it has begun the mount, and gets the device then. */
+static void become_server(const struct supervisor *s, bool is_first) {
   int flags = fcntl(STDIN_FILENO, F_GETFL);
   if (flags < 0 || fcntl(STDIN_FILENO, F_SETFL, flags & ~O_NONBLOCK) != 0) _exit(CANNOT_RUN);
+  if (is_first) pass_descriptor(DEVICE_VARIABLE, s->engine_end);
   if (s->way == ORDERED) setenv(ORDERED_VARIABLE, "1", 1);
-  if (s->way == VOLATILE && !ignore_flushes()) end_child("seccomp");
+  if (s->way != VOLATILE) return;
+  if (is_first) setenv(VOLATILE_VARIABLE, "1", 1);
+  else if (!ignore_flushes()) end_child("seccomp");
 }
 
 /* An engine has the standard descriptors, those that its library uses, an environment for the library alone, and no privileges. */
@@ -57,7 +61,8 @@ static void become_engine(const struct supervisor *s, const char *mode, pid_t pa
   give_back_signals(s);
   clearenv();
   preload_library(s, lines);
-  if (strcmp(mode, "--resume") == 0) become_server(s);
+  bool is_first = strcmp(mode, "--fresh") == 0;
+  if (!is_first || s->engine_end >= 0) become_server(s, is_first);
   if (!drop_privileges(s)) end_child("privileges");
   if (getppid() != parent) _exit(CANNOT_RUN);
 }

@@ -94,20 +94,37 @@ static void server_ended(struct supervisor *s, int status) {
   s->server = 0;
 }
 
+/* What is there when a server begins to serve. */
+static void prepare(struct supervisor *s) {
+  keep_control(s);
+  keep_log_room(s);
+  s->started = now();
+  s->sight = (struct sight){.since = s->started};
+}
+
 static void start_server(struct supervisor *s) {
   if (is_at_rest(s) || !can_start(s)) {
     s->next_start = now() + FULL_PAUSE;
     return;
   }
-  keep_control(s);
-  keep_log_room(s);
-  s->started = now();
-  s->sight = (struct sight){.since = s->started};
+  prepare(s);
   clear_report(s);
   pid_t server = start_engine(s, "--resume", s->device);
   s->server = server > 0 ? server : 0;
   if (server > 0) s->history.servers++;
   else s->next_start = now() + FULL_PAUSE;
+}
+
+/* The engine that has begun the mount is its first server. If it has ended, there is another one. */
+static void start_first(struct supervisor *s) {
+  if (s->server <= 0) {
+    start_server(s);
+    return;
+  }
+  prepare(s);
+  s->history.servers++;
+  give_device(s);
+  look_at_files(s);
 }
 
 /* What is looked for while a server runs: that it has asked for the pending requests, that it goes on, and that there is room again.
@@ -266,9 +283,10 @@ static int supervise(struct supervisor *s) {
   supervised = s;
   begin_list(s);
   clock_gettime(CLOCK_REALTIME, &s->history.mounted);
-  start_server(s);
+  start_first(s);
   s->probe = start_probe(s);
   if (s->probe < 0) stop(s);
+  reap(s);
   while (!is_stuck(s)) {
     if (s->server == 0 && has_ended(s)) break;
     if (s->failed_lives == MOST_FAILED_LIVES || (s->server == 0 && (s->trouble == REMOVED || s->has_hole))) return give_up(s);
@@ -306,6 +324,7 @@ static int run(struct supervisor *s, const char *store, const char *mountpoint) 
     close_control(s);
     return status;
   }
+  dismiss_server(s);
   leave_no_trace(s);
   return status == 0 ? FAILED : status;
 }
@@ -332,7 +351,7 @@ static int run_command(struct supervisor *s, const char *operand) {
 }
 
 int main(int argc, char **argv) {
-  static struct supervisor s = {.flags = MS_NOSUID | MS_NODEV, .control.events = -1};
+  static struct supervisor s = {.way = ORDERED, .flags = MS_NOSUID | MS_NODEV, .control.events = -1, .own_end = -1, .engine_end = -1};
   int ends[2], null;
   close_range(FIRST_OTHER, ~0U, 0);
   do null = open("/dev/null", O_RDWR | O_CLOEXEC);

@@ -34,8 +34,7 @@ bool has_library(const struct supervisor *s) {
   return false;
 }
 
-/* Sets a variable to the number of a descriptor, which stays open. */
-static void pass_descriptor(const char *variable, int file) {
+void pass_descriptor(const char *variable, int file) {
   char number[VALUE_SIZE];
   snprintf(number, sizeof number, "%d", file);
   fcntl(file, F_SETFD, 0);

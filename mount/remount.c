@@ -28,7 +28,7 @@ static bool can_be_synchronous(const char *store, const char *place) {
   char *durability = value_of(&answer, "durability");
   bool is_ordered = durability && strcmp(durability, ORDERED_WORD) == 0;
   free(durability);
-  if (is_ordered) say("%s is mounted with ordered: unmount it, and mount it with sync or dirsync", place);
+  if (is_ordered) say("%s is ordered: unmount it, and mount it with sync or dirsync", place);
   return !is_ordered;
 }
 

@@ -3,9 +3,13 @@
 #include "supervisor.h"
 #include <errno.h>
 #include <fcntl.h>
+#include <poll.h>
 #include <stdlib.h>
 #include <string.h>
+#include <sys/socket.h>
 #include <sys/wait.h>
+
+enum { DISMISSAL_TIME = 5000, DISMISSAL_PAUSE = 10 }; /* milliseconds: for the end of a server that isn't needed; between two looks */
 
 /* Whether servers can find the store by its one name while it is mounted. SQLite refuses a database that has two. */
 static bool has_one_name(const struct supervisor *s, const char *store) {
@@ -23,13 +27,44 @@ bool hold_store(struct supervisor *s, const char *store) {
   return open_store(s, store) && suits_owner(s, s->store_file, store) && lock_store(s, store) && has_one_name(s, store) && take_lock(s);
 }
 
-/* Runs the engine with no input. Returns whether it began a mount, and its status. */
+static void close_end(int *end) {
+  if (*end >= 0) close(*end);
+  *end = -1;
+}
+
+/* Makes the socket over which the first server gets the device. A copy has no server. */
+static bool make_socket(struct supervisor *s) {
+  int ends[] = {-1, -1};
+  if (s->command == MOUNTS && socketpair(AF_UNIX, SOCK_STREAM | SOCK_CLOEXEC, 0, ends) != 0) return refused("socketpair");
+  s->own_end = ends[0];
+  s->engine_end = ends[1];
+  return true;
+}
+
+/* Whether the engine says that it has begun the mount, and waits for the device. */
+static bool awaits_device(struct supervisor *s) {
+  char byte;
+  close_end(&s->engine_end);
+  if (s->own_end >= 0 && read(s->own_end, &byte, 1) == 1) return true;
+  close_end(&s->own_end);
+  return false;
+}
+
+/* Runs the engine with no input but the device, for which there is a socket. Returns whether it began a mount, and its status if it has
+ * ended. */
 static bool begins(struct supervisor *s, int *status) {
+  *status = W_EXITCODE(FAILED, 0);
+  clear_report(s);
   int null = open("/dev/null", O_RDWR | O_CLOEXEC);
   pid_t engine = start_engine(s, "--fresh", null);
-  *status = W_EXITCODE(FAILED, 0);
   close(null);
+  if (awaits_device(s)) return s->server = engine, true;
   return engine >= 0 && waitpid(engine, status, 0) == engine && *status == 0;
+}
+
+/* Whether the engine may begin again after it found no room: a log of which a flush failed is written anew before. */
+static bool may_begin_again(struct supervisor *s) {
+  return lacks_room(s) && use_reserve(s) && (s->report->lost == 0 || replace_log(s));
 }
 
 /* Makes the log where there is none. An engine can't: it may open no other files than those that are there when it starts, and the
@@ -42,10 +77,10 @@ static bool make_log(struct supervisor *s) {
 
 int begin_in_store(struct supervisor *s) {
   int status;
-  if (!make_log(s)) return FAILED;
+  if (!make_log(s) || !make_socket(s)) return FAILED;
   choose_profile(s);
   bool has_begun = begins(s, &status);
-  if (!has_begun && lacks_room(s) && use_reserve(s)) has_begun = begins(s, &status);
+  if (!has_begun && may_begin_again(s) && make_socket(s)) has_begun = begins(s, &status);
   if (has_begun && !has_library(s)) return FAILED;
   if (has_begun) return keep_reserve(s), 0;
   const char *line = last_line(s);
@@ -53,6 +88,27 @@ int begin_in_store(struct supervisor *s) {
   else say("the engine ended, %s", ending(s, status));
   explain(s);
   return WIFEXITED(status) ? WEXITSTATUS(status) : FAILED;
+}
+
+/* The server may have ended meanwhile, as `supervise` will see. */
+void give_device(struct supervisor *s) {
+  union { struct cmsghdr head; char bytes[CMSG_SPACE(sizeof(int))]; } control = {0};
+  char byte = 0;
+  struct iovec piece = {.iov_base = &byte, .iov_len = sizeof byte};
+  struct msghdr message = {.msg_iov = &piece, .msg_iovlen = 1, .msg_control = &control, .msg_controllen = sizeof control};
+  control.head = (struct cmsghdr){.cmsg_len = CMSG_LEN(sizeof s->device), .cmsg_level = SOL_SOCKET, .cmsg_type = SCM_RIGHTS};
+  memcpy(CMSG_DATA(&control.head), &s->device, sizeof s->device);
+  if (sendmsg(s->own_end, &message, MSG_NOSIGNAL) < 0 && errno != EPIPE) refused("the device can't be given to the server");
+  close_end(&s->own_end);
+}
+
+/* It closes the store when its input ends. One that doesn't end in time is killed: signals are blocked here, so nothing else would. */
+void dismiss_server(struct supervisor *s) {
+  close_end(&s->own_end);
+  long long until = now() + DISMISSAL_TIME;
+  for (; s->server > 0 && waitpid(s->server, NULL, WNOHANG) == 0; poll(NULL, 0, DISMISSAL_PAUSE))
+    if (now() >= until) kill(s->server, SIGKILL);
+  s->server = 0;
 }
 
 static bool is_empty(int file) {

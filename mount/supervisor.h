@@ -62,7 +62,7 @@ struct supervisor {
   bool as_json, replaces;                          /* the state is printed so; the backup may be there already */
   bool foreground, fake, sloppy, remounts;
   bool wary;                                       /* the servers suppose nothing of torn writes */
-  enum { DURABLE, ORDERED, VOLATILE } way;         /* the servers flush each commit, or as a file system does, or nothing */
+  enum { ORDERED, DURABLE, VOLATILE } way;         /* the servers flush as a file system does, or each commit, or nothing */
   enum { BY_DEFAULT, GROUPS, NO_GROUPS } groups;   /* whether a server gets messages that wait together */
   bool shows;                                      /* a line is written for each message */
   const char *profile;                             /* of a new store; NULL where nothing is said */
@@ -82,6 +82,7 @@ struct supervisor {
   int folder;                                      /* descriptor of the store's folder */
   int store_file, log_file, watch;                 /* descriptors: of the files, which are locked, and of inotify(7) */
   int library, report_file;                        /* descriptors: of what engines preload, and of the memory of `report` */
+  int own_end, engine_end;                         /* descriptors of the socket over which the first server gets the device; or below 0 */
   struct report *report;                           /* of the server that runs, or ran last */
   struct totals totals;                            /* of the servers before it */
   sigset_t mask;                                   /* with which this process was called */
@@ -163,6 +164,9 @@ bool has_library(const struct supervisor *s);
 /* Preloads the library, in a child that becomes an engine. A server writes lines to this descriptor, unless it is below 0. */
 void preload_library(const struct supervisor *s, int lines);
 
+/* Sets a variable to the number of a descriptor, which stays open in a child that becomes an engine. */
+void pass_descriptor(const char *variable, int file);
+
 /* Prints the process number of the server of a mounted store, and returns the exit status of this program. */
 int print_server(const char *operand);
 
@@ -176,7 +180,8 @@ pid_t fork_child(void);
 /* Restores the signals with which this process was called, before another program is executed. */
 void give_back_signals(const struct supervisor *s);
 
-/* Runs `fusekeep serve`. With `--fresh` a new store gets its profile. With `--resume` it is a server, over the device. */
+/* Runs `fusekeep serve`. With `--fresh` it begins a mount, and a new store gets its profile; where there is a socket for the device it is
+ * the first server. With `--resume` it is a later one, over the device. */
 pid_t start_engine(const struct supervisor *s, const char *mode, int device);
 
 /* privileges.c */
@@ -277,8 +282,15 @@ void pass_locks(const struct supervisor *s);
 /* Opens the store's file and takes its locks. */
 bool hold_store(struct supervisor *s, const char *store);
 
-/* Begins a mount in the store. Returns this program's exit status; unless it is 0, the engine's line was written. */
+/* Begins a mount in the store. Returns this program's exit status; unless it is 0, the engine's line was written. Unless the mount is one
+ * in a copy, the engine is the first server then, and waits for the device; one of others may have ended. */
 int begin_in_store(struct supervisor *s);
+
+/* Gives the first server the device. */
+void give_device(struct supervisor *s);
+
+/* Ends the first server where the store isn't mounted. */
+void dismiss_server(struct supervisor *s);
 
 /* Removes the files that a refused mount has made. */
 void leave_no_trace(const struct supervisor *s);

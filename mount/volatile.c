@@ -1,5 +1,6 @@
 /* A mount whose servers flush nothing. What a server wrote is in the kernel's memory, so that the next one finds it after a kill; after
- * a cut of power it may be lost, or there in part. */
+ * a cut of power it may be lost, or there in part. The first server flushes until it has begun the mount: its library ignores later flushes
+ * (gather/device.c). */
 #define _GNU_SOURCE
 #include "supervisor.h"
 #include <linux/audit.h>

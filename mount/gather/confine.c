@@ -83,7 +83,7 @@ static const int free_calls[] = {
   SYS_rt_sigaction, SYS_rt_sigprocmask, SYS_rt_sigreturn, SYS_getpid, SYS_gettid, SYS_exit, SYS_exit_group,
 };
 
-enum { FREE_CALLS = sizeof free_calls / sizeof *free_calls, OTHER_STEPS = 48 };
+enum { FREE_CALLS = sizeof free_calls / sizeof *free_calls, OTHER_STEPS = 64 };
 
 struct program {
   struct sock_filter steps[2 * FREE_CALLS + OTHER_STEPS];
@@ -123,7 +123,7 @@ static void put_refusal(struct program *program, int number, int argument, uint3
 }
 
 /* Memory becomes no code, signals go to this process alone, also those of fcntl(2), and no file becomes a program or one that others may
- * open. */
+ * open. The first server receives the device, in the place of its standard input and output. */
 static void confine_to_calls(void) {
   static const uint32_t signalling[] = {F_SETOWN, F_SETOWN_EX, F_SETSIG};
   static struct program program;
@@ -136,6 +136,8 @@ static void confine_to_calls(void) {
   for (size_t i = 0; i < FREE_CALLS; i++) put_call(&program, free_calls[i]);
   if (is_ordered()) put_call(&program, SYS_fstatfs);
   if (is_ordered()) put_call_if(&program, SYS_fallocate, 1, BPF_JEQ, FALLOC_FL_ZERO_RANGE, true);
+  if (awaits_device()) put_call_if(&program, SYS_recvmsg, 0, BPF_JEQ, (uint32_t)socket_of_device(), true);
+  if (awaits_device()) put_call_if(&program, SYS_dup2, 1, BPF_JGT, STDOUT_FILENO, false);
   put_call_if(&program, SYS_mmap, 2, BPF_JSET, PROT_EXEC, false);
   put_call_if(&program, SYS_mprotect, 2, BPF_JSET, PROT_EXEC, false);
   put_call_if(&program, SYS_fchmod, 1, BPF_JSET, (uint32_t)~(S_IRUSR | S_IWUSR), false);

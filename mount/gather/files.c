@@ -29,6 +29,21 @@ static void pay_before_write(int file, off_t at) {
   if (!is_log(file) || at < HEADER_SIZE) pay();
 }
 
+/* Flushes a file that isn't the log. */
+static int flush(long call, int file) {
+  report()->counts.flushes++;
+  return ignores_flushes() ? 0 : (int)syscall(call, file);
+}
+
+/* A write to the log of an ordered mount. After one that failed nothing is known of the log. */
+static ssize_t write_ordered(int log, const void *from, size_t size, off_t at) {
+  if (changes_nothing(from, size, at)) return (ssize_t)size;
+  if (!note_write(log, from, size, at)) return -1;
+  ssize_t written = syscall(SYS_pwrite64, log, from, size, at);
+  if (written != (ssize_t)size) begin_zeros();
+  return written;
+}
+
 #pragma GCC visibility push(default)
 
 int open(const char *path, int flags, ...) {
@@ -45,7 +60,7 @@ ssize_t pwrite(int file, const void *from, size_t size, off_t at) {
   if (may_commit(file, size, at)) note_commit();
   pay_before_write(file, at);
   if (is_log(file)) note_end(from, size, at);
-  if (is_log(file) && is_ordered() && !note_write(file, from, size, at)) return -1;
+  if (is_log(file) && is_ordered()) return write_ordered(file, from, size, at);
   return syscall(SYS_pwrite64, file, from, size, at);
 }
 
@@ -64,14 +79,12 @@ int close(int file) {
 
 int fsync(int file) {
   if (is_log(file)) return sync_log(SYS_fsync);
-  report()->counts.flushes++;
-  return (int)syscall(SYS_fsync, file);
+  return flush(SYS_fsync, file);
 }
 
 int fdatasync(int file) {
   if (is_log(file)) return sync_log(SYS_fdatasync);
-  report()->counts.flushes++;
-  return (int)syscall(SYS_fdatasync, file);
+  return flush(SYS_fdatasync, file);
 }
 
 #pragma GCC visibility pop

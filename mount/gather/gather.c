@@ -35,12 +35,12 @@ static void take_wakes(void) {
   sigaction(SIGUSR1, &action, NULL);
 }
 
-/* Whether standard input is the device, which the first call finds out. All bytes are written then: where the kernel copies a message
- * into a page that isn't there and the server is killed meanwhile, the caller gets EIO. */
+/* Whether standard input is the device, which the first call finds out after the device has come. All bytes are written then: where the
+ * kernel copies a message into a page that isn't there and the server is killed meanwhile, the caller gets EIO. */
 static bool has_device(void) {
   static enum { UNKNOWN, DEVICE, OTHER } kind;
   struct stat input;
-  if (kind != UNKNOWN) return kind == DEVICE;
+  if (kind != UNKNOWN || awaits_device()) return kind == DEVICE;
   bool is_device = fstat(STDIN_FILENO, &input) == 0 && S_ISCHR(input.st_mode) && input.st_rdev == makedev(DEVICE_MAJOR, DEVICE_MINOR);
   kind = is_device ? DEVICE : OTHER;
   if (!is_device) return false;
@@ -95,6 +95,7 @@ static ssize_t take_turn(void) {
 #pragma GCC visibility push(default)
 
 ssize_t read(int file, void *to, size_t size) {
+  if (file == STDIN_FILENO) take_device();
   if (file != STDIN_FILENO || !has_device()) return syscall(SYS_read, file, to, size);
   if (begin == end) {
     ssize_t first = take_turn();
@@ -110,7 +111,7 @@ ssize_t read(int file, void *to, size_t size) {
 /* An answer, or a notice, is one write. When a FSYNC is answered, what was written is on the disk. */
 ssize_t write(int file, const void *from, size_t size) {
   bool is_answer = file == STDOUT_FILENO && has_device();
-  if (is_answer && answers_flush(from, size)) pay_for_answer(from);
+  if (is_answer) pay_for_answer(from, size);
   ssize_t done = syscall(SYS_write, file, from, size);
   int error = done < 0 ? errno : 0;
   if (is_answer) note_answer(from, size, done >= 0);

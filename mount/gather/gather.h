@@ -9,14 +9,17 @@
 
 /* The environment of an engine: STORE the path of the one store that it may open, LOCKED the two descriptors of its files that
  * fusekeep-mount has locked; of a server, GROUPS where its reads gather, ORDERED where flushes of the log may be put off, and LINES the
- * descriptor for a line for each message. */
+ * descriptor for a line for each message. Of the first server, DEVICE the socket over which it gets the device, and VOLATILE where it
+ * flushes nothing from then on. */
 #define STORE_VARIABLE "FUSEKEEP_STORE"
 #define GROUPS_VARIABLE "FUSEKEEP_GROUPS"
 #define ORDERED_VARIABLE "FUSEKEEP_ORDERED"
 #define LINES_VARIABLE "FUSEKEEP_LINES"
 #define LOCKED_VARIABLE "FUSEKEEP_LOCKED"
+#define DEVICE_VARIABLE "FUSEKEEP_DEVICE"
+#define VOLATILE_VARIABLE "FUSEKEEP_VOLATILE"
 
-enum { NOTIFY_RESEND = 7, NOTIFY_INC_EPOCH = 8 }; /* of newer headers of the kernel */
+enum { NOTIFY_RESEND = 7 }; /* of newer headers of the kernel */
 
 enum { HEADER_SIZE = 32 }; /* bytes of the header of a log */
 
@@ -49,8 +52,22 @@ void note_commit(void);
 /* Answers a request that isn't to be handed on, and returns whether it is one. */
 bool refuse_request(const char *message, size_t size);
 
-/* Whether this answers a FSYNC or FSYNCDIR of this turn. */
-bool answers_flush(const char *answer, size_t size);
+/* The opcode of the request of this turn that this answers; 0 for none. */
+uint32_t opcode_of_answer(const char *answer, size_t size);
+
+/* device.c */
+
+/* The socket over which the device is to come; below 0 where none is, or where it has come. */
+int socket_of_device(void);
+
+/* Whether the device is still to come: the engine begins a mount. */
+bool awaits_device(void);
+
+/* Says that the mount has begun, and waits for the device, which takes the place of the standard input and output. */
+void take_device(void);
+
+/* Whether the mount is volatile, and has begun. */
+bool ignores_flushes(void);
 
 /* ordered.c */
 
@@ -70,20 +87,23 @@ int flush_log(long call);
 /* Flushes the log as the server asks for, or owes it. */
 int sync_log(long call);
 
-/* Makes the flush that is owed, if one is; for the answer of a FSYNC or FSYNCDIR. */
+/* Makes the flush that is owed, if one is; before an answer is written that promises it. */
 void pay(void);
-void pay_for_answer(const char *answer);
+void pay_for_answer(const char *answer, size_t size);
 
 /* Waits for a message of the device, and makes a flush that is due before one is there. */
 void pay_in_time(int device);
 
 /* zeros.c */
 
-/* The log was opened or cut, so that nothing is known of it. */
+/* The log was opened or cut, or a write or a flush failed, so that nothing is known of it. */
 void begin_zeros(void);
 
 /* The server writes to the log. False, with an error, where a flush had to be made before and failed. */
 bool note_write(int log, const void *from, size_t size, off_t at);
+
+/* Whether these bytes are zeros for a place where the log has zeros. */
+bool changes_nothing(const void *from, size_t size, off_t at);
 
 /* The same, for where the last commit ends. */
 void note_end(const void *from, size_t size, off_t at);

@@ -7,8 +7,10 @@
  * - when the log is closed.
  *
  * So a cut of power leaves the store as after some commit, and not before the last fsync(2) that returned. All other flushes are made when
- * the server asks for them, those of the store's file too. The kernel sends no more FSYNC to a server that has answered one by ENOSYS, so
- * from then on nothing is put off.
+ * the server asks for them, those of the store's file too.
+ *
+ * A plain store serves no FSYNC, so of one nothing is put off: its answer of INIT has no READDIRPLUS. The kernel sends no more FSYNC to a
+ * server that has answered one by ENOSYS, so from then on nothing is put off either.
  *
  * So the order is data, log, store. A store has no file of data yet. Where it has one, a flush of it comes before the flush of the log that
  * covers what lists it, and a place in it is written again only once the commit that freed it is flushed.
@@ -65,7 +67,7 @@ __attribute__((noreturn)) static void end_by_loss(int error) {
 int flush_log(long call) {
   report()->counts.flushes++;
   report()->flushing = 1;
-  int error = syscall(call, log_file) == 0 ? 0 : errno;
+  int error = ignores_flushes() || syscall(call, log_file) == 0 ? 0 : errno;
   if (error != 0) report()->lost = (uint64_t)error;
   report()->flushing = 0;
   if (error == 0) {
@@ -74,6 +76,7 @@ int flush_log(long call) {
     return 0;
   }
   if (report()->owed != 0) end_by_loss(error);
+  begin_zeros();
   errno = error;
   return -1;
 }
@@ -85,9 +88,9 @@ static void put_off(void) {
   if (report()->owed == 0) report()->owed = milliseconds();
 }
 
-/* fsync(2) is what an opening calls, and is made. */
+/* fsync(2) is what an opening calls, and is made. So is each flush of an engine that begins a mount. */
 int sync_log(long call) {
-  bool is_made = call != SYS_fdatasync || !is_ordered() || report()->is_strict || !may_put_off();
+  bool is_made = call != SYS_fdatasync || !is_ordered() || awaits_device() || report()->is_strict || !may_put_off();
   if (is_made && flush_log(call) != 0) return -1;
   if (!is_made) put_off();
   note_asked(is_made);
@@ -98,11 +101,28 @@ void pay(void) {
   if (is_ordered() && has_log() && report()->owed != 0) flush_log(SYS_fdatasync);
 }
 
-void pay_for_answer(const char *answer) {
+/* Whether an answer of INIT is one of an everyday store. */
+static bool is_everyday(const char *answer, size_t size) {
+  struct fuse_init_out body;
+  size_t end = offsetof(struct fuse_init_out, flags) + sizeof body.flags;
+  if (size < sizeof(struct fuse_out_header) + end) return false;
+  memcpy(&body, answer + sizeof(struct fuse_out_header), end);
+  return body.flags & FUSE_DO_READDIRPLUS;
+}
+
+/* Whether this answer says that FSYNC isn't served, or won't be. */
+static bool ends_order(uint32_t opcode, const char *answer, size_t size) {
   struct fuse_out_header head;
   memcpy(&head, answer, sizeof head);
+  if (opcode == FUSE_INIT) return head.error == 0 && !is_everyday(answer, size);
+  return head.error == -ENOSYS;
+}
+
+void pay_for_answer(const char *answer, size_t size) {
+  uint32_t opcode = opcode_of_answer(answer, size);
+  if (opcode != FUSE_FSYNC && opcode != FUSE_FSYNCDIR && opcode != FUSE_INIT) return;
   pay();
-  if (head.error == -ENOSYS) report()->is_strict = 1;
+  if (ends_order(opcode, answer, size)) report()->is_strict = 1;
 }
 
 void close_log(void) {

@@ -23,7 +23,7 @@ struct counts {
 struct report {
   /* Of one server. All is 0 when it starts. Times are milliseconds of the monotonic clock. */
   _Atomic uint64_t is_loaded; /* the library is there */
-  _Atomic uint64_t notice;    /* when the server had asked for the pending requests; 0 before */
+  _Atomic uint64_t notice;    /* when the server had asked for the pending requests, or had the device of a new mount; 0 before */
   struct counts counts;
   _Atomic uint64_t held;      /* requests of this turn that aren't answered */
   _Atomic uint64_t given;     /* requests of this turn */

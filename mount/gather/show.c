@@ -99,7 +99,7 @@ static long long microseconds_since(const struct timespec *at) {
 
 /* A notice has no id, and its code is the error number. */
 static void put_notice(int code) {
-  const char *name = code == NOTIFY_RESEND ? " RESEND" : code == NOTIFY_INC_EPOCH ? " INC_EPOCH" : "";
+  const char *name = code == NOTIFY_RESEND ? " RESEND" : "";
   put("notice=%d%s", code, name);
 }
 

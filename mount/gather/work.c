@@ -126,15 +126,13 @@ void note_answer(const char *answer, size_t size, bool is_taken) {
   if (!is_taken && id > shared->not_taken) shared->not_taken = id;
 }
 
-bool answers_flush(const char *answer, size_t size) {
+uint32_t opcode_of_answer(const char *answer, size_t size) {
   struct fuse_out_header head;
   uint64_t before;
-  if (size < sizeof head) return false;
+  if (size < sizeof head) return 0;
   memcpy(&head, answer, sizeof head);
   const char *found = find_message(plain_id(head.unique), &before);
-  if (found == stop) return false;
-  uint32_t opcode = head_of(found).opcode;
-  return opcode == FUSE_FSYNC || opcode == FUSE_FSYNCDIR;
+  return found == stop ? 0 : head_of(found).opcode;
 }
 
 void note_commit(void) {

@@ -163,6 +163,11 @@ void note_end(const void *from, size_t size, off_t at) {
   }
 }
 
+bool changes_nothing(const void *from, size_t size, off_t at) {
+  bool is_among_zeros = at >= HEADER_SIZE && at >= ahead.from && at + (off_t)size <= ahead.to;
+  return size >= LEAST_ZEROS && is_among_zeros && used(from, size) == 0;
+}
+
 bool note_write(int log, const void *from, size_t size, off_t at) {
   const unsigned char *bytes = from;
   bool was_clean = is_clean, is_zero = used(bytes, size) == 0;
