@@ -15,8 +15,8 @@ LINK = re.compile(r"\]\(([^()\s]+)\)")
 CASE = re.compile(r" *- \*\*([\w-]+)\*\* (.*)")
 BYTES = re.compile(r"`([0-9a-f* ]{16,})`")
 
-# The notices that a server sends when it resumes. They are in no case.
-NOTICES = [bytes_of("10000000 07000000 0*8"), bytes_of("10000000 08000000 0*8")]
+# The notice that a server sends when it resumes. It is in no case.
+NOTICE = bytes_of("10000000 07000000 0*8")
 
 
 def check_links(tree):
@@ -37,7 +37,7 @@ def check_spec(tree):
     folder = tree.top / "tests/spec"
     cases = read_all(sorted(folder.glob("*.cases")))
     names = {name.split(",")[0] for name in cases}
-    spelled = NOTICES + [part for case in cases.values() for event in case.events for part in (event.message, event.answer)]
+    spelled = [NOTICE] + [part for case in cases.values() for event in case.events for part in (event.message, event.answer)]
     compared = 0
     for name, text in CASE.findall(text_of(folder / "README.md")):
         for digits in BYTES.findall(text) if name in names else ():

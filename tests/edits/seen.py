@@ -1,9 +1,9 @@
 """Which edits the gate tries: all of a crate that has changed since all its edits were seen refused, and all of a quarter of the others.
 
 The file `seen` has a line for each crate whose edits were all seen refused: its name, and the digest of what that check read, which is
-the toolchain, the crate, its edits and the sources of the crates below. Which quarter is tried follows from the digest of all crates, so
-that each change of the sources has another one tried. A quarter is of crates, and not of the edits of each, since a check of one edit takes
-nearly as long as one of ten."""
+the toolchain, the crate, its edits and the sources of the crates below, without their lines of comment. Which quarter is tried follows from
+the digest of all crates, so that each change of the sources has another one tried. A quarter is of crates, and not of the edits of each,
+since a check of one edit takes nearly as long as one of ten."""
 import hashlib
 from collections import Counter
 from functools import cache
@@ -13,15 +13,25 @@ from edits.sources import TOP
 
 SEEN = Path(__file__).resolve().parent / "seen"
 READ = ("src", "specs", "proofs")
+# What a line begins with that is a comment, by the kind of its file.
+COMMENTS = {".rt": b"//", ".antt": b"--"}
 # The crates that have not changed are tried in so many parts.
 PARTS = 4
 
 
+def code_of(path):
+    """The bytes of a file without the lines that are comments: no check depends on them."""
+    mark = COMMENTS.get(path.suffix)
+    lines = path.read_bytes().splitlines(keepends=True)
+    return b"".join(it for it in lines if not mark or not it.lstrip().startswith(mark))
+
+
 def add_files(sum_, folders):
-    """Adds the names and the contents of all files in these folders."""
+    """Adds the names and the code of all files in these folders."""
     for path in sorted(it for folder in folders for it in folder.rglob("*") if it.is_file()):
-        sum_.update(f"{path.relative_to(TOP)}\0{path.stat().st_size}\0".encode())
-        sum_.update(path.read_bytes())
+        code = code_of(path)
+        sum_.update(f"{path.relative_to(TOP)}\0{len(code)}\0".encode())
+        sum_.update(code)
 
 
 def lines_of(crates):

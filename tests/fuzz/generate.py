@@ -28,7 +28,7 @@ WEIGHTS = {
     m.FORGET: 1, m.BATCH_FORGET: 1, m.INTERRUPT: 1, m.NOTIFY_REPLY: 1,
 }
 # The further requests of the everyday profile. Over a plain store they are unsupported.
-FURTHER = {m.READLINK: 6, m.SYMLINK: 6, m.STATFS: 3, m.CREATE: 10, m.READDIRPLUS: 8}
+FURTHER = {m.READLINK: 6, m.SYMLINK: 6, m.STATFS: 3, m.FSYNC: 3, m.FSYNCDIR: 2, m.CREATE: 10, m.READDIRPLUS: 8}
 # Bytes of small stores.
 CAPACITIES = [0, 4096, 40960, 1 << 20]
 FATES = ["answered", "answered", "answered", "lost", "before", "after"]
@@ -173,6 +173,13 @@ class Requests(Values):
     def room_left(self):
         return self.node(), b""
 
+    def synced(self, kind=FILE_KIND):
+        handle, node = self.handle(kind)
+        return node, m.fsync_body(handle, self.word())
+
+    def synced_directory(self):
+        return self.synced(DIRECTORY)
+
     def created(self):
         place, name = self.node(DIRECTORY), self.name()
         flags = self.random.choice([0, 1, 2, 0x42, 0x42, 3, self.word()])
@@ -261,6 +268,7 @@ BODIES = {
     m.RELEASE: "release", m.OPENDIR: "opened_directory", m.READDIR: "listed", m.RELEASEDIR: "release_directory", m.INIT: "init",
     m.FORGET: "forget", m.BATCH_FORGET: "items", m.INTERRUPT: "forget", m.NOTIFY_REPLY: "anything",
     m.READLINK: "link", m.SYMLINK: "linked", m.STATFS: "room_left", m.CREATE: "created", m.READDIRPLUS: "listed",
+    m.FSYNC: "synced", m.FSYNCDIR: "synced_directory",
 }
 
 
@@ -317,7 +325,7 @@ class Messages(Requests):
         return self.random.choices(list(self.weights), self.weights.values())[0]
 
     def first(self):
-        """An INIT that is agreed on. Many kernels of everyday stores may keep names."""
+        """An INIT that is agreed on."""
         return m.message(m.INIT, self.fresh(), 0, m.init_body(minor=self.random.choice([40, 44, 45]) if self.room.is_everyday else 40))
 
     def request(self, unique):

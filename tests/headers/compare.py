@@ -24,7 +24,6 @@ SINGLE_NUMBERS = [
     ("fuse_wire/specs/Bounds.antt", "max_name_len", "NAME_MAX"),
     ("fuse_answer/specs/Sizes.antt", "dirent_name_offset", "FUSE_NAME_OFFSET"),
     ("fuse_answer/specs/Notice.antt", "notify_resend", "FUSE_NOTIFY_RESEND"),
-    ("fuse_answer/specs/Notice.antt", "notify_inc_epoch", "FUSE_NOTIFY_INC_EPOCH"),
     ("fuse_init/specs/Numbers.antt", "kernel_version", "FUSE_KERNEL_VERSION"),
     ("fuse_init/specs/Numbers.antt", "kernel_minor_version", "FUSE_KERNEL_MINOR_VERSION"),
     ("fuse_rows/specs/Bounds.antt", "fuse_root_id", "FUSE_ROOT_ID"),

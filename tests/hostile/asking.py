@@ -121,6 +121,7 @@ def linking(found):
         parts.append((m.SYMLINK, place, m.symlink_body(b"newest", b"x" * 4000)))
         parts.append((m.CREATE, place, m.create_body(b"created", 2)))
     for handle, node in found.handles:
+        parts += [(m.FSYNC, node, m.fsync_body(handle)), (m.FSYNCDIR, node, m.fsync_body(handle))]
         for offset, size in ((0, 4096), (3, 300), (0, 1 << 20)):
             parts.append((m.READDIRPLUS, node, m.read_body(handle, offset, size)))
     return parts + [(m.STATFS, 1, b"")]

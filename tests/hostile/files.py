@@ -33,7 +33,7 @@ SAMPLE = 37
 
 FAULTS = re.compile(r"store: (Sql|Damaged|NotAStore|Version\(\d+\))|resume: NotOffered")
 NONE_THERE = re.compile(r"path: (NoSuchPath|NotDirectory|NotFile)")
-COUNTS = re.compile(r"served messages=\d+ kept=\d+ repeated=\d+ bare=\d+ silent=\d+ interrupts=\d+")
+COUNTS = re.compile(r"served messages=\d+ kept=\d+ repeated=\d+( seen=\d+)? bare=\d+ silent=\d+ interrupts=\d+")
 HEX = re.compile(rb"(?:[0-9a-f]{2})+")
 
 
@@ -74,9 +74,7 @@ def wrong_of(ran, words, wanted):
         return f"didn't end within {SECONDS} seconds"
     if ran.status == 0 and line == "":
         answers = answers_of(ran, words)
-        # A second notice follows where the settings' minor in the file is 44 or more.
-        notices = (1, 2) if "--resume" in words else (0,)
-        if answers is None or len(answers) - wanted not in notices:
+        if answers is None or len(answers) - wanted != int("--resume" in words):
             return f"{wanted} messages, but {None if answers is None else len(answers)} answers"
         return None
     if ran.status == 3 and FAULTS.fullmatch(line):

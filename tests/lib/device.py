@@ -4,10 +4,8 @@ import os
 import resource
 import shutil
 import subprocess
+from concurrent.futures import ThreadPoolExecutor
 from dataclasses import dataclass
-
-# How many packets the pipe that stands for a device holds by default.
-MOST_ANSWERS = 256
 
 
 @dataclass
@@ -75,21 +73,23 @@ def packets_in(begin):
     return packets
 
 
-def run_on_device(words, pieces, work, room=MOST_ANSWERS):
-    """Runs the program between two pipes of packets, which stand for a device: a read returns one packet, and a write makes one. A
-    write is refused once the pipe holds as many packets as it has room for."""
+def run_on_device(words, pieces, work, room=None):
+    """Runs the program between two pipes of packets, which stand for a device: a read returns one packet, and a write makes one. If it
+    has room for so many packets alone, a write is refused once the pipe holds them."""
     begin, end = os.pipe2(os.O_DIRECT)
     taken, given = os.pipe2(os.O_DIRECT)
-    fcntl.fcntl(given, fcntl.F_SETPIPE_SZ, room * resource.getpagesize())
-    os.set_blocking(given, False)
-    with open(f"{work}/err", "w+b") as err:
+    if room:
+        fcntl.fcntl(given, fcntl.F_SETPIPE_SZ, room * resource.getpagesize())
+        os.set_blocking(given, False)
+    with open(f"{work}/err", "w+b") as err, ThreadPoolExecutor(1) as reader:
         child = subprocess.Popen(words, stdin=begin, stdout=given, stderr=err)
         os.close(begin)
         os.close(given)
+        packets = None if room else reader.submit(packets_in, taken)
         feed(end, pieces)
         status = child.wait()
         err.seek(0)
-        return Served(packets_in(taken), status, err.read().decode().splitlines())
+        return Served(packets_in(taken) if room else packets.result(), status, err.read().decode().splitlines())
 
 
 def store_of(work):

@@ -4,7 +4,7 @@ import struct
 LOOKUP, FORGET, GETATTR, SETATTR, MKNOD, MKDIR, UNLINK, RMDIR, RENAME = 1, 2, 3, 4, 8, 9, 10, 11, 12
 OPEN, READ, WRITE, RELEASE, INIT, OPENDIR, READDIR, RELEASEDIR = 14, 15, 16, 18, 26, 27, 28, 29
 INTERRUPT, DESTROY, NOTIFY_REPLY, BATCH_FORGET, RENAME2 = 36, 38, 41, 42, 45
-READLINK, SYMLINK, STATFS, CREATE, READDIRPLUS = 5, 6, 17, 35, 44
+READLINK, SYMLINK, STATFS, FSYNC, FSYNCDIR, CREATE, READDIRPLUS = 5, 6, 17, 20, 30, 35, 44
 SILENT = (FORGET, INTERRUPT, NOTIFY_REPLY, BATCH_FORGET)
 
 REGULAR, DIRECTORY, CHARACTERS, BLOCKS, FIFO, SOCKET = 0o100000, 0o040000, 0o020000, 0o060000, 0o010000, 0o140000
@@ -80,6 +80,10 @@ def write_body(handle, offset, payload):
 
 def release_body(handle):
     return struct.pack("<QIIQ", handle, 0, 0, 0)
+
+
+def fsync_body(handle, flags=0):
+    return struct.pack("<QII", handle, flags, 0)
 
 
 def batch_body(items, count=None):

@@ -15,22 +15,37 @@ flushes_of_hundred() {
   before=$(flush_count) && mkdir mnt/"$1"-{1..100} && echo $(($(flush_count) - before))
 }
 
-# A mount of each way, and what sync and dirsync make of an ordered one: it is durable then, and isn't remounted so.
+# A mount of each way, and what sync and dirsync make of an ordered one: it is durable then, and isn't remounted so. Nothing said is ordered.
 ways_to_flush() {
   local flushes
-  for options in durable ordered,sync ordered,dirsync; do
+  for options in durable sync ordered,dirsync; do
     start store mnt log || return 1
     expect "$options is durable" [ "$(durability)" = durable ] || return 1
     flushes=$(flushes_of_hundred "$options") && expect "$options: each is flushed ($flushes)" [ "$flushes" -ge 100 ] || return 1
     unmount_and_end mnt || return 1
   done
-  options=sync,ordered,async
+  for options in "" sync,durable,ordered,async; do
+    start store mnt log || return 1
+    expect "it is ordered" [ "$(durability)" = ordered ] || return 1
+    flushes=$(flushes_of_hundred "last$options") && expect "flushes wait ($flushes)" [ "$flushes" -lt 50 ] || return 1
+    refuses_remount sync && refuses_remount dirsync && "$program" -o remount,noatime store mnt || return 1
+    unmount_and_end mnt || return 1
+  done
+  options=volatile
   start store mnt log || return 1
-  expect "it is ordered" [ "$(durability)" = ordered ] || return 1
-  flushes=$(flushes_of_hundred last) && expect "flushes wait ($flushes)" [ "$flushes" -lt 50 ] || return 1
-  refuses_remount sync && refuses_remount dirsync && "$program" -o remount,noatime store mnt || return 1
-  unmount_and_end mnt && options=volatile && start store mnt log || return 1
   expect "it is volatile" [ "$(durability)" = volatile ] && unmount_and_end mnt
+}
+
+# A plain store serves no fsync, so that its mount is durable from the begin.
+plain_flushes() {
+  local flushes profile=plain
+  for options in "" ordered; do
+    start store mnt log || return 1
+    expect "it is durable" [ "$(durability)" = durable ] || return 1
+    flushes=$(flushes_of_hundred "made$options") && expect "each is flushed ($flushes)" [ "$flushes" -ge 100 ] || return 1
+    kill -KILL "$("$program" --server store)" && mkdir "mnt/two$options" || return 1
+    expect "it stays so" [ "$(durability)" = durable ] && unmount_and_end mnt || return 1
+  done
 }
 
 refuses_remount() {
@@ -38,7 +53,7 @@ refuses_remount() {
     echo "it is remounted with $1"
     return 1
   fi
-  expect "it says why" grep -q "is mounted with ordered: unmount it" line
+  expect "it says why" grep -q "is ordered: unmount it" line
 }
 
 # Compiles a library that is preloaded into servers before that of fusekeep-mount: make_preloaded SOURCE NAME VARIABLE=VALUE..
@@ -53,11 +68,10 @@ LD_PRELOAD=$PWD/$name.so:\$PRELOAD exec "$engine" "\$@"
 END
 }
 
-# An engine that answers FSYNC by ENOSYS is asked once. From then on the mount is durable.
+# An engine that answers FSYNC by ENOSYS is asked once. From then on the mount is durable. unserved.c makes one of a store's.
 fsync_unserved() {
   local flushes
-  options=ordered
-  start store mnt log && echo one >mnt/one || return 1
+  make_preloaded "$here/unserved.c" unserved && start store mnt log && echo one >mnt/one || return 1
   expect "it is ordered" [ "$(durability)" = ordered ] || return 1
   sync mnt/one && expect "it is durable after an fsync" [ "$(durability)" = durable ] || return 1
   flushes=$(flushes_of_hundred made) && expect "each is flushed ($flushes)" [ "$flushes" -ge 100 ] || return 1
@@ -65,10 +79,10 @@ fsync_unserved() {
   unmount_and_end mnt
 }
 
-# A server that serves FSYNC flushes the log before it answers, and nothing else changes. power/record.c stands for one.
+# The log is flushed before FSYNC is answered, and nothing else changes.
 fsync_served() {
   local before number
-  make_preloaded "$tests/power/record.c" record && options=ordered && start store mnt log || return 1
+  start store mnt log || return 1
   echo one >mnt/one && mkdir mnt/place || return 1
   sync mnt/one && before=$(flush_count) || return 1
   for number in {1..10}; do
@@ -96,7 +110,7 @@ has_lines_of() {
 # Begins an ordered mount whose servers can't flush the log while the file `fails` is there, with directories that aren't flushed:
 # start_failing VARIABLE=VALUE..
 start_failing() {
-  make_preloaded "$here/fail.c" fail "FAIL_WHILE=$PWD/fails" "$@" && options=ordered && start store mnt log && mkdir mnt/{1..20}
+  make_preloaded "$here/fail.c" fail "FAIL_WHILE=$PWD/fails" "$@" && start store mnt log && mkdir mnt/{1..20}
 }
 
 # A flush that is owed fails after five seconds. The server ends, the log is written anew, and nothing is lost. The deaths are no request's.
@@ -114,14 +128,10 @@ late_failure() {
   start store mnt log-again && expect "the next mount has all" [ "$(find mnt -mindepth 1 | wc -l)" -eq 21 ] && unmount_and_end mnt
 }
 
-# An fsync whose flush fails returns when the log was written anew. record.c stands for a server that serves FSYNC.
+# An fsync whose flush fails returns when the log was written anew.
 late_failure_of_fsync() {
   local caller
-  "${CC:-cc}" -std=c11 -O2 -Wall -Wextra -shared -fPIC -o record.so "$tests/power/record.c" -ldl || return 1
-  make_preloaded "$here/fail.c" fail "FAIL_WHILE=$PWD/fails" || return 1
-  sed -i "s|LD_PRELOAD=|LD_PRELOAD=$PWD/record.so:|" fail-engine.bash || return 1
-  options=ordered
-  start store mnt log && echo one >mnt/one && touch fails || return 1
+  make_preloaded "$here/fail.c" fail "FAIL_WHILE=$PWD/fails" && start store mnt log && echo one >mnt/one && touch fails || return 1
   sync mnt/one &
   caller=$!
   record "$caller"
@@ -177,7 +187,6 @@ END
 # The supervisor flushes the log where a stopped server can't.
 hanging_flushes() {
   local server
-  options=ordered
   start store mnt log && mkdir mnt/{1..20} && server=$("$program" --server store) && kill -STOP "$server" || return 1
   trace_supervisor calls -e trace=fdatasync || return 1
   await 15 grep -qE 'fdatasync\([0-9]+<.*store-wal>\) *= 0' calls || return 1
@@ -191,7 +200,6 @@ hanging_flushes() {
 
 # The same where that flush fails: the server is killed, and the log is written anew.
 hanging_fails() {
-  options=ordered
   start store mnt log && mkdir mnt/{1..20} && kill -STOP "$("$program" --server store)" || return 1
   trace_supervisor calls -e trace=fdatasync -e inject=fdatasync:error=EIO || return 1
   await 15 has_lines_of 1 "a flush of .*-wal failed: Input/output error" || return 1
@@ -225,7 +233,6 @@ trace_supervisor() {
 # When the mount gives up, its calls end, and then the log is flushed.
 flushed_at_end() {
   write_broken_engine
-  options=ordered
   start store mnt log && mkdir mnt/{1..20} && touch broken || return 1
   trace_supervisor calls -e trace=fdatasync,close && kill -KILL "$("$program" --server store)" || return 1
   await 60 isnt_running "$supervisor"

@@ -82,7 +82,7 @@ has_word() {
 }
 
 # One mount, whose servers are killed beside a model of its tree. The seed gives the steps of each writer and how long each server lives.
-# A kill loses nothing that the server wrote: the kernel still has it. What a cut of power loses is tried by crates/store_tests alone.
+# A kill loses nothing that the server wrote: the kernel still has it. What a cut of power loses is tried by tests/power and crates/store_tests.
 kills() {
   start store mnt log || return 1
   python3 -m mount.kills work mnt store "$supervisor" "${kills:-20}" "$seed" "$profile" models && unmount_and_end mnt || return 1
@@ -184,6 +184,31 @@ deaths() {
   umount -l mnt
 }
 
+# Processes that only read leave no record and no byte, however many servers are killed under them.
+reads_leave_nothing() {
+  local number readers=() records bytes kills=${kills:-40}
+  start store mnt log || return 1
+  for number in {1..4}; do
+    python3 "$here/readers.py" "mnt/$number" "ready-$number" stop >"count-$number" &
+    readers+=($!)
+    record $!
+  done
+  await 60 [ -e ready-1 -a -e ready-2 -a -e ready-3 -a -e ready-4 ] && sleep 2 || return 1
+  records=$(records_of_store) bytes=$(bytes_of_store)
+  while [ "$(kills_in log)" -lt "$kills" ]; do
+    touch alive
+    python3 "$here/killer.py" "$supervisor" 20 || return 1
+  done
+  expect "$(records_of_store) records, as before, when there were $records" [ "$(records_of_store)" = "$records" ] || return 1
+  expect "$(bytes_of_store) bytes, as before, when there were $bytes" [ "$(bytes_of_store)" = "$bytes" ] || return 1
+  touch stop
+  wait "${readers[@]}" && echo "$(($(cat count-* | paste -sd+))) calls of readers under $(kills_in log) kills: no record" && unmount_and_end mnt
+}
+
+records_of_store() {
+  "$engine" store store | sed -n 's/^records=//p'
+}
+
 # The process that asks for the root is killed before the first server serves: another one asks.
 killed_probe() {
   make_engine slow-engine <<END
@@ -205,7 +230,7 @@ has_probe() {
   local child has_server=
   probe=
   for child in $(cat "/proc/$supervisor/task/$supervisor/children"); do
-    if has_word "$child" --resume; then has_server=1; else probe=$child; fi
+    if has_word "$child" serve; then has_server=1; else probe=$child; fi
   done
   [ -n "$has_server" ] && [ -n "$probe" ]
 }
@@ -259,43 +284,63 @@ bytes_of_store() {
   cat store store-wal | wc -c
 }
 
-# A directory is made and committed, its server dies before it answers, and the caller is killed after the next server has asked for the
-# pending requests and before it reads one. The kernel drops the request, though it knew the name as absent for a day: the directory is
-# seen at once, since that server also had all names looked up again. Linux looks the name up once more before it sends MKDIR, so the
-# server dies at its second answer. The caller works in a directory whose attributes the kernel keeps, too.
+# A request is committed, its server dies before it answers, and its caller is killed after the next server has asked for the pending requests
+# and before it reads one. The kernel drops the request. It has names, attributes and contents for a day, but asks anew for those of the
+# request: what it did is seen at once. A name is there within the 10 s for which the kernel may know that it is absent.
 killed_caller() {
-  local server caller
-  write_pausing_engine
-  mkfifo go
-  start store mnt log && mkdir mnt/place && server=$("$program" --server store) || return 1
-  (cd mnt/place && ! [ -e made ] && touch "$OLDPWD/knows" && read -r _ <"$OLDPWD/go" && exec mkdir made) &
-  caller=$!
-  record "$caller"
-  await 60 [ -e knows ] || return 1
-  strace -qq -o /dev/null -p "$server" -P /dev/fuse -e trace=write,writev -e inject=write,writev:signal=KILL:when=2 &
-  record $!
-  await 60 is_traced "$server" && touch pauses && echo >go && await 60 has_written_by 32 "$server" || return 1
-  rm pauses
-  kill -KILL "$caller"
-  wait "$caller"
-  expect "the directory is there" [ -d mnt/place/made ] || return 1
-  unmount_and_end mnt
+  write_forgetting_engine
+  start store mnt log && mkdir mnt/place mnt/place/{gone,one} && echo old >mnt/place/file && echo old >mnt/place/over && ln -s one mnt/place/link || return 1
+  forgets 11 rmdir mnt/place/gone && expect "the directory is gone" isnt_there mnt/place/gone || return 1
+  forgets 10 rm mnt/place/link && expect "the link is gone" isnt_there mnt/place/link || return 1
+  forgets 16 dd status=none if=/proc/self/comm of=mnt/place/file conv=notrunc && expect "it is written" [ "$(cat mnt/place/file)" = dd ] || return 1
+  forgets 4 truncate -s 9 mnt/place/file && expect "it has its size" [ "$(stat -c %s mnt/place/file)" = 9 ] || return 1
+  forgets 4 chmod 751 mnt/place/one && expect "it has its mode" [ "$(stat -c %a mnt/place/one)" = 751 ] || return 1
+  forgets 12 python3 -c 'import os; os.rename("mnt/place/file", "mnt/place/over")' || return 1
+  expect "the old name is gone" isnt_there mnt/place/file && expect "the other file is there" [ "$(head -c 2 mnt/place/over)" = dd ] || return 1
+  forgets 9 mkdir mnt/place/made && expect "the directory is there within 10 s" await 10 [ -d mnt/place/made ] || return 1
+  expect "its parent has one link more" [ "$(stat -c %h mnt/place)" = 4 ] && unmount_and_end mnt
 }
 
-# While the file `pauses` is there a server waits for three seconds before each read of the device.
-write_pausing_engine() {
-  make_engine pausing-engine <<END
-[ -e "$PWD/pauses" ] || LD_PRELOAD=\$PRELOAD exec "$engine" "\$@"
-exec strace -D -qq -o /dev/null -E "LD_PRELOAD=\$PRELOAD" -P /dev/fuse -e trace=read,readv -e inject=read,readv:delay_enter=3000000 "$engine" "\$@"
+isnt_there() {
+  ! [ -e "$1" ] && ! [ -L "$1" ]
+}
+
+# A server dies before it answers a request of the opcode in the file `opcode`, while the file `dies` is there. The next one reads nothing
+# while the file is there that it makes of that.
+write_forgetting_engine() {
+  "${CC:-cc}" -std=c11 -O2 -Wall -Wextra -shared -fPIC -o crash.so "$here/crash.c" -ldl || return 1
+  echo 0 >opcode
+  make_engine forgetting-engine <<END
+[ "\$4" = --resume ] || LD_PRELOAD=\$PRELOAD exec "$engine" "\$@"
+[ ! -e "$PWD/dies" ] || mv "$PWD/dies" "$PWD/holds"
+export CRASH_AT=write CRASH_OPCODE=\$(<"$PWD/opcode") CRASH_WHILE=$PWD/dies CRASH_HOLDS=$PWD/holds
+LD_PRELOAD=$PWD/crash.so:\$PRELOAD exec "$engine" "\$@"
 END
+}
+
+# Runs a command in the background, whose request of this opcode is committed and dropped: forgets OPCODE WORD..
+forgets() {
+  local caller first
+  echo "$1" >opcode
+  kill -KILL "$("$program" --server store)"
+  ls -lR mnt >/dev/null && cat mnt/place/* 2>/dev/null >contents
+  [ -e mnt/place/made ]
+  first=$("$program" --server store) && touch dies || return 1
+  "${@:2}" &
+  caller=$!
+  record "$caller"
+  await 60 is_asked_by_other "$first" || return 1
+  kill -KILL "$caller"
+  wait "$caller" 2>/dev/null
+  expect "the caller was killed in $*" [ $? -eq 137 ] && rm holds
 }
 
 is_traced() {
   ! grep -q "^TracerPid:.0$" "/proc/$1/status"
 }
 
-# Whether another server than this one runs and has written so many bytes: has_written_by BYTES SERVER
-has_written_by() {
+# Whether another server than this one runs and has asked for the pending requests.
+is_asked_by_other() {
   local server
-  server=$("$program" --server store) && [ "$server" != "$2" ] && [ "$(sed -n 's/^wchar: //p' "/proc/$server/io")" -ge "$1" ]
+  server=$("$program" --server store) && [ "$server" != "$1" ] && "$program" --status store | grep -q "^state *serving$"
 }

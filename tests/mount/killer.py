@@ -27,7 +27,7 @@ def server_of(supervisor):
     for child in children:
         try:
             with open(f"/proc/{child}/cmdline", "rb") as file:
-                if b"--resume" in file.read().split(b"\0"):
+                if b"serve" in file.read().split(b"\0"):
                     return int(child)
         except OSError:
             continue

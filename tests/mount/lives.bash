@@ -90,7 +90,7 @@ END
 # Servers die when they have read one of many requests that wait together. After three that had it alone it is answered EIO, and the others
 # are executed. Later requests are gathered again.
 deadly_request() {
-  local caller server
+  local caller server options=durable
   write_crashing_engine CRASH_AT=read CRASH_NAME=bad && start store mnt log && start_callers || return 1
   mkdir mnt/7/bad 2>line &
   caller=$!

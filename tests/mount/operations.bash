@@ -480,10 +480,10 @@ mount -t fusectl none /sys/fs/fuse/connections || exit 1
 "$1" store mnt && server=$("$1" --server store) && kill -STOP "$server" || exit 1
 mkdir mnt/a &
 for turn in $(seq 100); do
-  "$1" --status store | grep -qx "waiting  *1" && break
+  "$1" --status store >shown
+  ! grep -qx "waiting  *1" shown || break
   sleep 0.1
 done
-"$1" --status store >shown
 kill -CONT "$server" && wait && umount mnt
 END
   unshare --mount bash in-namespace "$program" && expect "a call waits" grep -qx "waiting  *1" shown

@@ -182,7 +182,7 @@ moved_store() {
 server_by_parent() {
   local child
   for child in $(cat "/proc/$supervisor/task/$supervisor/children"); do
-    ! has_word "$child" --resume || echo "$child"
+    ! has_word "$child" serve || echo "$child"
   done
 }
 

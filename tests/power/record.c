@@ -1,7 +1,6 @@
 /* Preloaded into a server before the library of fusekeep-mount: records each call on the store's file and its log, with its bytes, in the
- * file of the descriptor that POWER_TRACE names. The library makes these calls by syscall(2), which is caught here.
- *
- * It also stands for a server that serves FSYNC and FSYNCDIR: where the engine answers ENOSYS, the library and the kernel see success. */
+ * file of the descriptor that POWER_TRACE names, and that a FSYNC or FSYNCDIR was answered. The library makes these calls by syscall(2),
+ * which is caught here. */
 #define _GNU_SOURCE
 #include <dlfcn.h>
 #include <errno.h>
@@ -120,15 +119,14 @@ long syscall(long number, ...) {
   return done;
 }
 
+/* The library makes the flush before it writes the answer. */
 ssize_t write(int file, const void *from, size_t size) {
   ssize_t (*next)(int, const void *, size_t) = (ssize_t(*)(int, const void *, size_t))dlsym(RTLD_NEXT, "write");
   struct fuse_out_header head;
-  if (file != STDOUT_FILENO || size != sizeof head) return next(file, from, size);
+  ssize_t done = next(file, from, size);
+  if (file != STDOUT_FILENO || size != sizeof head) return done;
   memcpy(&head, from, sizeof head);
-  if (head.error != -ENOSYS || !is_sync(head.unique)) return next(file, from, size);
-  head.error = 0;
-  ssize_t done = next(file, &head, sizeof head);
-  put('Y', 'D', head.unique, NULL, 0);
+  if (done >= 0 && head.error == 0 && is_sync(head.unique)) put('Y', 'D', head.unique, NULL, 0);
   return done;
 }
 

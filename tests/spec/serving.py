@@ -4,13 +4,11 @@ import re
 from dataclasses import dataclass, replace
 
 from lib.device import copy_store, make_store, run_on_device, store_of
-from spec.read import chain_of, last_said, words_of_store
+from spec.read import chain_of, last_said
 from spec.stores import look_into
 from spec.ways import bytes_in, lives_of
 
 NOTICE = "10000000070000000000000000000000"
-# The one that follows it where the kernel keeps names.
-EPOCH = "10000000080000000000000000000000"
 NOT_OFFERED = ["status 3", "resume: NotOffered"]
 HAS_RESEND = 1 << 39
 
@@ -54,7 +52,7 @@ def serve(program, work, begin, events, secs=1000, whole=True, room=None):
     """One life of a server over the store of this folder."""
     words = [program, "serve", "--db", f"{work}/store", begin, "--at", str(secs)]
     pieces = [bytes_in(events)] if whole else [event.message for event in events]
-    return run_on_device(words, pieces, work, room) if room else run_on_device(words, pieces, work)
+    return run_on_device(words, pieces, work, room)
 
 
 def serve_lives(program, lives, whole, work, new):
@@ -77,12 +75,6 @@ def is_offered(chain):
     return flags is None or bool(int(flags.group(1), 16) & HAS_RESEND)
 
 
-def notices_of(chain):
-    """The notices: the second one for a kernel that keeps names, which only an everyday store lets it."""
-    keeps = words_of_store(chain) and " minor=44 " in f"{' '.join(last_said(chain, 'settings'))} "
-    return [NOTICE, EPOCH] if keeps else [NOTICE]
-
-
 def seen_of(served):
     """The packets of a server, and its end, without its counts."""
     lines = [line for line in served.err if not line.startswith("served ")]
@@ -93,8 +85,8 @@ def wanted_of(chain, lives):
     """The same of all lives, as the cases say it, and of the last server, which has no input."""
     wanted = []
     for life in lives:
-        wanted += notices_of(chain) * (life.begin == "--resume") + answers_of(life.events) + ["status 0"]
-    return wanted + ([*notices_of(chain), "status 0"] if is_offered(chain) else NOT_OFFERED)
+        wanted += [NOTICE] * (life.begin == "--resume") + answers_of(life.events) + ["status 0"]
+    return wanted + ([NOTICE, "status 0"] if is_offered(chain) else NOT_OFFERED)
 
 
 def lines_of_counts(ran):

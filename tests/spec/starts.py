@@ -1,7 +1,7 @@
 """Case lots-over-starts: the records that each start of a server leaves in a store, under lots of their own."""
 from dataclasses import dataclass, field, replace
 
-from lib.device import MOST_ANSWERS, make_store
+from lib.device import make_store
 from spec.serving import NOTICE, again, answers_of, seen_of, serve
 from spec.stores import lots_in
 
@@ -18,7 +18,7 @@ class Start:
     answered: range
     ended: list
     lots: list
-    room: int = MOST_ANSWERS
+    room: int | None = None
 
 
 # Request 0 is an INIT, each other one a LOOKUP that finds nothing. The requests of a piece are performed in groups of at most 16. With

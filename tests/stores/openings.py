@@ -368,6 +368,16 @@ def try_everyday(tally, room):
         tally.compare("everyday: what `store` prints", wanted, found)
 
 
+def try_later_minor(tally, room):
+    """A store whose INIT agreed on the minor 44, as an earlier program did, is served as any other."""
+    asked = ((m.LOOKUP, 1, b"f\0"), (m.MKNOD, 1, m.mknod_body(b"g")))
+    later = store_with(room, "minor-44", "UPDATE meta SET v = 44 WHERE k = 8")
+    tally.compare("minor 44: the answers", answers(store_with(room, "minor-40"), *asked), answers(later, *asked))
+    for number, words in enumerate(OPENINGS):
+        path = store_with(room, f"minor-44-{number}", "UPDATE meta SET v = 44 WHERE k = 8")
+        tally.compare(f"minor 44, {' '.join(words[:1] + words[3:4])}", [0], run(path, words)[1])
+
+
 # A column, a value that it may not have although SQLite takes it, and the request that reads it.
 VALUES = (
     ("nodes", "mode", 1 << 32, (m.GETATTR, 3, bytes(16))), ("nodes", "uid", -1, (m.GETATTR, 3, bytes(16))),
@@ -455,6 +465,7 @@ def main():
         try_values(tally, f"{folder}/opened")
         try_blocks(tally, f"{folder}/opened")
         try_everyday(tally, f"{folder}/opened")
+        try_later_minor(tally, f"{folder}/opened")
     return print_counts("stores openings", tally.passed, tally.failed)
 
 

@@ -15,17 +15,14 @@ from spec.read import moved_end
 HERE = os.path.dirname(os.path.realpath(__file__))
 
 NOTICE = "10000000070000000000000000000000"
-# The one that follows it where the kernel keeps names: over an everyday store, from 7.44 on.
-EPOCH = "10000000080000000000000000000000"
 NOT_OFFERED = ["status 3", "resume: NotOffered"]
 
 SILENT = ("FORGET", "INTERRUPT", "OP(41)", "BATCH_FORGET")
-# READLINK, SYMLINK, STATFS, CREATE, READDIRPLUS: everyday stores keep them.
-FURTHER = ("OP(5)", "OP(6)", "OP(17)", "OP(35)", "OP(44)")
+# READLINK, SYMLINK, STATFS, FSYNC, FSYNCDIR, CREATE, READDIRPLUS: everyday stores serve them.
+FURTHER = ("OP(5)", "OP(6)", "OP(17)", "OP(20)", "OP(30)", "OP(35)", "OP(44)")
+# What everyday stores see, and don't keep: these, and READLINK, STATFS, FSYNC, FSYNCDIR, READDIRPLUS.
+SEEN = ("LOOKUP", "GETATTR", "READ", "READDIR", "OP(5)", "OP(17)", "OP(20)", "OP(30)", "OP(44)")
 RESEND = bytes(15) + b"\x80"
-
-# The place of the minor in an INIT, and the first with which the kernel keeps names.
-MINOR, KEEPS = slice(44, 48), 44
 
 # Places in the answer to an INIT, and the bit that says that resends were agreed on.
 MAX_WRITE, FLAGS2, HAS_RESEND = slice(36, 40), slice(48, 52), 0x80
@@ -44,13 +41,20 @@ class Message:
     unique: str
     is_malformed: bool
     is_supported: bool
+    changes_nothing: bool
     answer: str = ""
 
     def is_silent(self):
         return self.opcode in SILENT
 
-    def is_kept(self):
+    def is_performed(self):
         return self.is_supported and not (self.is_silent() or self.is_malformed)
+
+    def is_seen(self):
+        return self.is_performed() and self.changes_nothing
+
+    def is_kept(self):
+        return self.is_performed() and not self.changes_nothing
 
 
 @dataclass
@@ -84,13 +88,14 @@ def words_of_store(name):
     return words + (["--capacity", *lines_of(name, "capacity")] if os.path.exists(capacity) else [])
 
 
-def read_message(stream, line, further):
-    """The message of a line of `dump`. These further opcodes are supported."""
+def read_message(stream, line, further, looks):
+    """The message of a line of `dump`, by the further opcodes that are supported and by those that are seen."""
     words = line.split()
     fields = dict(word.split("=") for word in words[2:])
     begin = int(words[0])
     is_supported = words[1] in further or not words[1].startswith("OP(")
-    return Message(stream[begin:begin + int(fields["len"])], words[1], fields["id"], "malformed" in fields, is_supported)
+    content = stream[begin:begin + int(fields["len"])]
+    return Message(content, words[1], fields["id"], "malformed" in fields, is_supported, words[1] in looks)
 
 
 def read_stream(name):
@@ -100,7 +105,8 @@ def read_stream(name):
     *answers, served = lines_of(name, "replay")
     words = words_of_store(name)
     count = int(re.match(r"served messages=(\d+) ", served).group(1))
-    messages = [read_message(content, line, FURTHER if words else ()) for line in lines_of_dump(name)[:count]]
+    opcodes = (FURTHER, SEEN) if words else ((), ())
+    messages = [read_message(content, line, *opcodes) for line in lines_of_dump(name)[:count]]
     waiting = iter(answers)
     for message in messages:
         message.answer = "" if message.is_silent() else next(waiting)
@@ -125,29 +131,28 @@ def without_repeats(stream):
     return replace(stream, messages=left, rest=b"" if is_open else stream.rest, gone=gone)
 
 
-def counts_of(messages, repeated):
-    """The line of counts of these messages, with this number of repeats."""
+def counts_of(messages, repeated, words):
+    """The line of counts of these messages, with this number of repeats, over the store of these words: that of an everyday store has
+    those that it saw."""
     silent = [one for one in messages if one.is_silent()]
     kept = sum(one.is_kept() for one in messages)
+    seen = sum(one.is_seen() for one in messages)
+    bare = len(messages) - kept - seen - len(silent)
     interrupts = sum(one.opcode == "INTERRUPT" and not one.is_malformed for one in silent)
-    return (f"served messages={len(messages)} kept={kept} repeated={repeated} bare={len(messages) - kept - len(silent)} "
+    return (f"served messages={len(messages)} kept={kept} repeated={repeated} {f'seen={seen} ' if words else ''}bare={bare} "
             f"silent={len(silent)} interrupts={interrupts}")
 
 
 def last_init(messages):
-    """The last INIT that was agreed on, if there is one, and its answer."""
-    inits = [(one.content, bytes.fromhex(one.answer)) for one in messages if one.is_kept() and one.opcode == "INIT"]
-    return next(((content, answer) for content, answer in reversed(inits) if any(answer[MAX_WRITE])), None)
+    """The answer to the last INIT that was agreed on, if there is one."""
+    answers = [bytes.fromhex(one.answer) for one in messages if one.is_kept() and one.opcode == "INIT"]
+    return next((answer for answer in reversed(answers) if any(answer[MAX_WRITE])), None)
 
 
-def notices_of(stream, messages):
-    """The notices of a resume after these messages of a stream. There is none where the last INIT agreed on no resends."""
-    agreed = last_init(messages)
-    if agreed is None:
-        return [NOTICE]
-    content, answer = agreed
-    keeps = stream.words and int.from_bytes(content[MINOR], "little") >= KEEPS
-    return ([NOTICE] + [EPOCH] * bool(keeps)) * bool(int.from_bytes(answer[FLAGS2], "little") & HAS_RESEND)
+def is_offered(messages):
+    """Whether the notice is sent in a resume after these messages: unless the last INIT agreed on no resends."""
+    answer = last_init(messages)
+    return answer is None or bool(int.from_bytes(answer[FLAGS2], "little") & HAS_RESEND)
 
 
 def again(message):
@@ -165,7 +170,7 @@ def sent(messages):
 def end_of(stream, messages, repeated, by):
     """The end of a life that gets these messages and the end of a stream."""
     status, *line = stream.ends
-    return [status, counts_of(messages, repeated), *[moved_end(one, by - stream.gone) for one in line]]
+    return [status, counts_of(messages, repeated, stream.words), *[moved_end(one, by - stream.gone) for one in line]]
 
 
 class Serving:
@@ -195,7 +200,7 @@ class Serving:
     def compare_counts(self, name, stream):
         """The counts of the messages are those of the file: each is taken for what it is."""
         repeated = int(re.search(r" repeated=(\d+) ", stream.served).group(1))
-        self.compare(name, ", its counts", [stream.served], [counts_of(stream.messages, repeated)])
+        self.compare(name, ", its counts", [stream.served], [counts_of(stream.messages, repeated, stream.words)])
 
     def in_one_life(self, name, stream):
         make_store(self.program, self.work, stream.words)
@@ -209,14 +214,13 @@ class Serving:
         first, second = stream.messages[:cut], stream.messages[cut:]
         how = f" in two lives, cut after {cut} messages"
         content = b"".join(one.content for one in first)
-        wanted = sent(first) + ["status 0", counts_of(first, 0)]
+        wanted = sent(first) + ["status 0", counts_of(first, 0, stream.words)]
         self.compare(name, f"{how}, the first", wanted, self.serve("--fresh", content))
         resent = [again(one) for one in first if one.is_kept()][-1:]
         whole = resent + second
-        notices = notices_of(stream, first)
-        if notices:
+        if is_offered(first):
             by = sum(len(one.content) for one in resent) - len(content)
-            wanted = notices + sent(whole) + end_of(stream, whole, len(resent), by)
+            wanted = [NOTICE] + sent(whole) + end_of(stream, whole, len(resent), by)
         else:
             wanted = NOT_OFFERED
         seen = self.serve("--resume", b"".join(one.content for one in whole) + stream.rest)

@@ -49,12 +49,18 @@ void show_answer(const char *answer, size_t size, int error) {
   (void)answer, (void)size, (void)error;
 }
 
+bool awaits_device(void) {
+  return false;
+}
+
+void take_device(void) {}
+
 void pay_in_time(int device) {
   (void)device;
 }
 
-void pay_for_answer(const char *answer) {
-  (void)answer;
+void pay_for_answer(const char *answer, size_t size) {
+  (void)answer, (void)size;
 }
 
 enum { MOST = 1 << 18 };
