@@ -1,4 +1,4 @@
-"""A process that serves requests of six opcodes over a store, and the processor time that each opcode takes."""
+"""A process that serves requests of seven opcodes over a store, and the processor time that each opcode takes."""
 import fcntl
 import os
 import socket
@@ -11,21 +11,21 @@ sys.path.insert(0, f"{os.path.dirname(os.path.realpath(__file__))}/../tests")
 
 from lib import messages as m  # noqa: E402
 
-OPCODES = ("LOOKUP", "MKNOD", "OPEN", "WRITE 4K", "READ 4K", "RELEASE")
+OPCODES = ("LOOKUP", "GETATTR", "MKNOD", "OPEN", "WRITE 4K", "READ 4K", "RELEASE")
 
 BLOCK = bytes(range(256)) * 16
 
 
-def init_of(profile):
-    minor = 44 if profile == "everyday" else 40
-    return m.message(m.INIT, 2, 0, m.init_body(minor=minor))
+INIT = m.message(m.INIT, 2, 0, m.init_body())
 
 
 def phases_over(nodes, count):
-    """The messages of each opcode: names that are there are looked up, files are made, opened, written, read and closed."""
+    """The messages of each opcode: names that are there are looked up, attributes are asked for, files are made, opened, written, read and
+    closed."""
     made = range(nodes + 1, nodes + 1 + count)
     phases = (
         [(m.LOOKUP, 1, b"n%d\0" % (2 + at * 7919 % (nodes - 1))) for at in range(count)],
+        [(m.GETATTR, 2 + at * 7919 % (nodes - 1), bytes(16)) for at in range(count)],
         [(m.MKNOD, 1, m.mknod_body(b"r%d" % at)) for at in range(count)],
         [(m.OPEN, node, m.open_body(2)) for node in made],
         [(m.WRITE, node, m.write_body(1 + at, 0, BLOCK)) for at, node in enumerate(made)],
@@ -36,6 +36,11 @@ def phases_over(nodes, count):
     for phase in phases:
         yield [m.message(opcode, identifier + 2 * at, node, body) for at, (opcode, node, body) in enumerate(phase)]
         identifier += 2 * count
+
+
+def directories(count):
+    """So many MKDIRs."""
+    return [m.message(m.MKDIR, 4 + 2 * at, 1, m.mkdir_body(b"d%d" % at)) for at in range(count)]
 
 
 def grouped(messages, size):

@@ -9,6 +9,20 @@ SOURCE = Path(__file__).resolve().parent / "slow.c"
 
 SIZE = 8 << 30
 
+# Where Debian's libfuse3-dev has its examples.
+EXAMPLES = Path("/usr/share/doc/libfuse3-dev/examples")
+
+
+def build_passthrough(room):
+    """passthrough_ll, built in a folder; None where the package libfuse3-dev isn't there, with its examples."""
+    flags = subprocess.run(["pkg-config", "--cflags", "--libs", "fuse3"], capture_output=True, text=True, check=False)
+    source = EXAMPLES / "passthrough_ll.c"
+    if flags.returncode != 0 or not source.exists():
+        return None
+    program = f"{room}/passthrough_ll"
+    subprocess.run(["cc", "-O2", "-w", "-I", EXAMPLES, "-o", program, source, *flags.stdout.split()], check=True)
+    return program
+
 
 @contextlib.contextmanager
 def slow_disk(passthrough, milliseconds):

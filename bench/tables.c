@@ -1,7 +1,7 @@
-/* Serves a stream of INIT, LOOKUP, MKNOD, OPEN, WRITE, READ and RELEASE over a store file by libsqlite3, to be measured beside the
+/* Serves a stream of INIT, LOOKUP, GETATTR, MKNOD, OPEN, WRITE, READ and RELEASE over a store file by libsqlite3, to be measured beside the
  * program, in the same groups and with the same durability. Every request must be answered without an error. Each read of standard
- * input must give whole messages. The statements are those of the words that follow the store. The program's are those of `changed`,
- * `held` and `known`:
+ * input must give whole messages. In an everyday store those that change nothing leave no record, and a group of them alone makes no
+ * transaction. The statements are those of the words that follow the store. The program's are those of `changed`, `held` and `known`:
  *   changed   only the counters that changed are written
  *   held      settings and counters are read once, at the opening
  *   known     no row is looked for again that the request has already found or missed
@@ -15,8 +15,8 @@
 #include <string.h>
 #include <unistd.h>
 
-enum { LOOKUP = 1, MKNOD = 8, OPEN = 14, READ = 15, WRITE = 16, RELEASE = 18, INIT = 26, OPCODES = 64 };
-enum { HEADER = 40, ANSWER = 16, PIECE = 135168, GROUP = 16, BLOCK = 4096, SECOND = 1000, KEEP_CACHE = 2 };
+enum { LOOKUP = 1, GETATTR = 3, MKNOD = 8, OPEN = 14, READ = 15, WRITE = 16, RELEASE = 18, INIT = 26, OPCODES = 64 };
+enum { NEWEST = 40, HEADER = 40, ANSWER = 16, PIECE = 135168, GROUP = 16, BLOCK = 4096, SECOND = 1000, DAY = 86400, KEEP_CACHE = 2 };
 
 /* The columns of nodes, and the numbers of meta from key 1 on. A plain store has none from PROFILE on. */
 enum { NODE, MODE, UID, GID, RDEV, SIZE, ATIME, ATIMENSEC, MTIME, MTIMENSEC, CTIME, CTIMENSEC, UP, SUBDIRS, COLUMNS };
@@ -67,6 +67,7 @@ static int number_count;
 static int64_t settled[GROUP];
 static int settled_count;
 static uint8_t answers[GROUP][ANSWER + BLOCK];
+static bool are_kept[GROUP]; /* whether they have records */
 static int answer_count;
 
 static void fail(const char *what) {
@@ -197,23 +198,36 @@ static uint8_t *put(uint8_t *out, int width, uint64_t n) {
   return out;
 }
 
-/* The body of LOOKUP and MKNOD, of a node that is a file with a name. */
-static int entry_body(uint8_t *out, const int64_t *row) {
-  uint8_t *at = put(put(put(put(put(out, 8, row[NODE]), 8, 0), 8, 1), 8, 1), 8, 0);
+/* The attributes of a node that is a file with a name. Returns their end. */
+static uint8_t *put_attributes(uint8_t *at, const int64_t *row) {
   at = put(put(put(at, 8, row[NODE]), 8, row[SIZE]), 8, (row[SIZE] + 511) / 512);
   at = put(put(put(at, 8, row[ATIME]), 8, row[MTIME]), 8, row[CTIME]);
   at = put(put(put(at, 4, row[ATIMENSEC]), 4, row[MTIMENSEC]), 4, row[CTIMENSEC]);
   at = put(put(put(put(put(at, 4, row[MODE]), 4, 1), 4, row[UID]), 4, row[GID]), 4, row[RDEV]);
-  return (int)(put(put(at, 4, BLOCK), 4, 0) - out);
+  return put(put(at, 4, BLOCK), 4, 0);
+}
+
+static int64_t validity(void) {
+  return number_count < NUMBERS ? 1 : DAY;
+}
+
+/* The body of LOOKUP and MKNOD. */
+static int entry_body(uint8_t *out, const int64_t *row) {
+  uint8_t *at = put(put(put(put(put(out, 8, row[NODE]), 8, 0), 8, validity()), 8, validity()), 8, 0);
+  return (int)(put_attributes(at, row) - out);
+}
+
+static int do_getattr(const int64_t *row, uint8_t *out) {
+  return (int)(put_attributes(put(put(out, 8, validity()), 8, 0), row) - out);
 }
 
 static int do_init(const uint8_t *body, uint8_t *out) {
   bool is_plain = number_count < NUMBERS;
   uint64_t offered = get(body + 12, 4) | get(body + 16, 4) << 32;
   uint64_t wanted = 1ull << 0 | 1ull << 5 | 1ull << 30 | 1ull << 39 | (is_plain ? 0 : 1ull << 13 | 1ull << 14 | 1ull << 18 | 1ull << 23);
-  int64_t most = is_plain ? 40 : 44, minor = get(body + 4, 4);
+  int64_t minor = get(body + 4, 4);
   numbers[SETTINGS] = 1;
-  numbers[MINOR] = minor < most ? minor : most;
+  numbers[MINOR] = minor < NEWEST ? minor : NEWEST;
   numbers[READAHEAD] = get(body + 8, 4);
   numbers[FLAGS] = offered & wanted;
   write_numbers(SETTINGS, NEXT_LOT);
@@ -306,6 +320,7 @@ static int act(int opcode, const uint8_t *message, uint8_t *out) {
   check(numbers[SETTINGS] && select_node((int64_t)get(message + 16, 8), row), "no INIT, or no such node");
   switch (opcode) {
     case LOOKUP: return do_lookup(row, (const char *)body, out);
+    case GETATTR: return do_getattr(row, out);
     case MKNOD: return do_mknod(row, message, body, out);
     case OPEN: return do_open(row, body, out);
     case WRITE: return do_write(row, body, out);
@@ -315,19 +330,38 @@ static int act(int opcode, const uint8_t *message, uint8_t *out) {
   }
 }
 
-static void take(const uint8_t *message) {
-  uint8_t *answer = answers[answer_count++];
-  int opcode = (int)get(message + 4, 4);
-  int64_t id = get(message + 8, 8) & INT64_MAX;
-  long before = made;
+static int opcode_of(const uint8_t *message) {
+  return (int)get(message + 4, 4);
+}
+
+/* Whether a request leaves no record, since it changes nothing. */
+static bool is_seen(const uint8_t *message) {
+  int opcode = opcode_of(message);
+  return number_count == NUMBERS && (opcode == LOOKUP || opcode == GETATTR || opcode == READ);
+}
+
+static void look_for_record(int64_t id) {
   sqlite3_stmt *s = with(SELECT_KEPT, 1, &id);
   check(!has_row(s), "a repeat");
   sqlite3_reset(s);
+}
+
+static void put_record(int64_t id, const uint8_t *body, int len) {
+  sqlite3_stmt *s = with(INSERT_KEPT, 3, (int64_t[]){ id, lot, 0 });
+  put_bytes(s, 4, body, len);
+  run(s);
+}
+
+static void take(const uint8_t *message) {
+  uint8_t *answer = answers[answer_count];
+  int opcode = opcode_of(message);
+  int64_t id = get(message + 8, 8) & INT64_MAX;
+  long before = made;
+  are_kept[answer_count++] = !is_seen(message);
+  if (!is_seen(message)) look_for_record(id);
   int len = act(opcode, message, answer + ANSWER);
   put(put(put(answer, 4, ANSWER + len), 4, 0), 8, id);
-  s = with(INSERT_KEPT, 3, (int64_t[]){ id, lot, 0 });
-  put_bytes(s, 4, answer + ANSWER, len);
-  run(s);
+  if (!is_seen(message)) put_record(id, answer + ANSWER, len);
   requests[opcode]++;
   made_for[opcode] += made - before;
 }
@@ -356,26 +390,42 @@ static void send_answers(void) {
   for (int i = 0; i < answer_count; i++) {
     size_t len = get(answers[i], 4);
     check(write(1, answers[i], len) == (ssize_t)len, "write");
-    settled[settled_count++] = (int64_t)get(answers[i] + 8, 8);
+    if (are_kept[i]) settled[settled_count++] = (int64_t)get(answers[i] + 8, 8);
   }
   answer_count = 0;
 }
 
-/* Serves a group of the whole messages of these bytes, and returns where it ends. */
-static size_t take_group(const uint8_t *bytes, size_t len) {
-  size_t at = 0;
+static void begin(void) {
   run_with(BEGIN, 0, NULL);
   settle();
   take_lot();
-  for (int i = 0; i < GROUP && at < len; i++) {
-    check(len - at >= HEADER && len - at >= get(bytes + at, 4), "a message is cut");
-    take(bytes + at);
-    at += get(bytes + at, 4);
-  }
+}
+
+static void commit(void) {
   if (grouped) write_counters();
   run_with(COMMIT, 0, NULL);
-  send_answers();
+}
+
+/* Where the group of the whole messages of these bytes ends. Says whether one of them leaves a record. */
+static size_t end_of_group(const uint8_t *bytes, size_t len, bool *is_kept) {
+  size_t at = 0;
+  for (int i = 0; i < GROUP && at < len; i++) {
+    check(len - at >= HEADER && len - at >= get(bytes + at, 4), "a message is cut");
+    *is_kept = *is_kept || !is_seen(bytes + at);
+    at += get(bytes + at, 4);
+  }
   return at;
+}
+
+/* Serves a group, and returns where it ends. */
+static size_t take_group(const uint8_t *bytes, size_t len) {
+  bool is_kept = false;
+  size_t end = end_of_group(bytes, len, &is_kept);
+  if (is_kept) begin();
+  for (size_t at = 0; at < end; at += get(bytes + at, 4)) take(bytes + at);
+  if (is_kept) commit();
+  send_answers();
+  return end;
 }
 
 static void choose(const char *word) {
