@@ -69,7 +69,11 @@ new_store_goes() {
 maker() {
   (make_engine words <<<'echo "$*" >&2; exit 3')
   mkdir own && chown 65534:65534 own || return 1
-  refuses 3 "serve --db $PWD/own/store --owner 65534:65534 .*" env FUSEKEEP=./words $user "$program" own/store || return 1
+  if can_run_as_user; then
+    refuses 3 "serve --db $PWD/own/store --owner 65534:65534 .*" env FUSEKEEP=./words $user "$program" own/store || return 1
+  else
+    echo "maker: a caller who isn't root: skipped, only root opens /dev/null"
+  fi
   refuses 3 "serve --db $PWD/own/store --owner 0:0 .*" env FUSEKEEP=./words "$program" own/store || return 1
   touch own/store && chown 65534:100 own/store || return 1
   refuses 3 "serve --db $PWD/own/store --owner 65534:100 .*" env FUSEKEEP=./words "$program" own/store || return 1

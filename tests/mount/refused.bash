@@ -9,7 +9,7 @@ refuses() {
   began=$(date +%s)
   timeout -k 1 60 "$@" mnt 2>line
   ended=$?
-  expect "the status is $status (it is $ended)" [ "$ended" -eq "$status" ] || return 1
+  expect "the status is $status (it is $ended, and says: $(cat line))" [ "$ended" -eq "$status" ] || return 1
   expect "before any pause" [ $(($(date +%s) - began)) -le 10 ] || return 1
   expect "it says: $line (it says: $(cat line))" grep -qxE "$line" line || return 1
   expect "it leaves the files: $before (it leaves: $(files_here))" [ "$(files_here)" = "$before" ] || return 1
