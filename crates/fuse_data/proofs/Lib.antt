@@ -1,0 +1,11 @@
+mod Blocks
+mod Fillings
+mod Heads
+mod Keepings
+mod Listings
+mod Openings
+mod Order
+mod Parts
+mod Spaces
+mod Tails
+mod Writes

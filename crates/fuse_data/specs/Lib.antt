@@ -1,0 +1,9 @@
+pub mod Causes
+pub mod Extents
+pub mod Faults
+pub mod Header
+pub mod Laws
+pub mod Leaving
+pub mod Space
+pub mod State
+pub mod inner

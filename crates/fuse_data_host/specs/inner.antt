@@ -1,0 +1,2 @@
+-- What only private functions cite (defined by this project).
+pub mod Note
