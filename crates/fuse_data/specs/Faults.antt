@@ -11,6 +11,11 @@ abbrev pub CountsFault : DataFault → ℕ → ℕ → Type 0
 CountsFault (Disk e) old new = MoreFaults old new × (old ≤ new)
 CountsFault f old new = new ≡ old
 
+-- it is no fault of the disk
+abbrev pub IsRefusal : DataFault → Type 0
+IsRefusal (Disk e) = ⊥
+IsRefusal f = Unit {0}
+
 abbrev pub CountsIfErr : {T : Type 0} → Result T DataFault → ℕ → ℕ → Type 0
 CountsIfErr result old new = MatchResult result (λ _. new ≡ old) (λ e. CountsFault e old new)
 

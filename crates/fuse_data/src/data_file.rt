@@ -13,7 +13,7 @@ ghost use Rattle.fuse_data.specs.Space.{PutsIn, IsTail};
 ghost use Rattle.fuse_data.specs.Leaving.{KeepsInUse};
 ghost use Rattle.fuse_data.specs.Causes.{FailsToAsk, FailsToFit, FailsToWrite, FailsToRead};
 ghost use Rattle.fuse_data.specs.Causes.{FailsToGiveBack};
-ghost use Rattle.fuse_data.specs.Faults.{CountsIfErr, CountsFullIfErr};
+ghost use Rattle.fuse_data.specs.Faults.{IsRefusal, CountsIfErr, CountsFullIfErr};
 ghost use Rattle.fuse_data.specs.State.{state_of};
 
 use crate::extent::{BLOCK, END, Extent, MOST, is_placed, sum_of_bytes};
@@ -51,6 +51,11 @@ impl<D: Disk> DataFile<D> {
             ≡ (state_of D.Disk self.old).gaps) }
         ensures cause { IfErr result (FailsToWrite (state_of D.Disk self.old).is_usable
             (state_of D.Disk self.old).gaps (length bytes.now)) }
+        // What the disk isn't asked for stays. No failed write goes on after the place for the bytes.
+        ensures refused { IfErr result (λ f. IsRefusal f → self.new.disk ≡ self.old.disk) }
+        ensures reach { (q : AnExtent) → IsFreeExtent (state_of D.Disk self.old).gaps q
+            → q.count * limits.BLOCK ≡ length bytes.now → length (state_of D.Disk self.new).seen
+            ≤ max (length (state_of D.Disk self.old).seen) (past q * limits.BLOCK) }
         ensures asked { OnOk result (IsTrue (state_of D.Disk self.old).is_usable) }
         ensures usable { (state_of D.Disk self.new).is_usable
             ≡ (state_of D.Disk self.old).is_usable }
@@ -213,6 +218,10 @@ impl<D: Disk> DataFile<D> {
     pub fn cut(&mut self) -> Result<(), DataFault>
         ensures cut { OnOk result ((tail : ℕ) → IsTail (state_of D.Disk self.old).gaps tail
             → length (state_of D.Disk self.new).seen ≡ tail * limits.BLOCK) }
+        ensures refused { IfErr result (λ f. IsRefusal f → self.new.disk ≡ self.old.disk) }
+        ensures longest { (tail : ℕ) → IsTail (state_of D.Disk self.old).gaps tail
+            → length (state_of D.Disk self.new).seen
+            ≤ max (length (state_of D.Disk self.old).seen) (tail * limits.BLOCK) }
         ensures cause { IfErr result (FailsToAsk (state_of D.Disk self.old).is_usable) }
         ensures asked { OnOk result (IsTrue (state_of D.Disk self.old).is_usable) }
         ensures usable { (state_of D.Disk self.new).is_usable

@@ -1,4 +1,4 @@
-use Rattle.std.proofs.Common.{length, sym, arith, rules}
+use Rattle.std.proofs.Common.{◌≡◌, length, sym, arith, rules}
 use Rattle.fuse_data.specs.declared.extent.Extent.{Extent}
 use Rattle.fuse_data.specs.declared.gaps.Gap.{Gap}
 use Rattle.fuse_data.proofs.Keepings.{disjoint, same_bytes, held_whole}
@@ -92,3 +92,23 @@ returns-clause-lowest g c q same free =
     let first = c.in-Some-find.ensures.first q d (omega (arith, same, c.in-Some.ensures.some.0)) same free in
     let begins = c.begin-place.ensures.value d in
     omega arith
+
+pub returns-in-Err-clause-reach : goal.returns-in-Err-clause-reach
+returns-in-Err-clause-reach g c q free size =
+    let d : Gap = record { from = 0; to = 0 } in
+    let n = c.in-Some.ensures.some in
+    let same : q.count ≡ c.in-Some.count = omega (arith, size, n.2) in
+    let first = c.in-Some-find.ensures.first q d (omega (arith, same, n.0)) same free in
+    let begins = c.begin-place.ensures.value d in
+    let longest = c.write_at.ensures.others.no_longer in
+    omega (arith, longest, first, begins, same, n.2)
+
+pub returns-clause-reach : goal.returns-clause-reach
+returns-clause-reach g c q free size =
+    let d : Gap = record { from = 0; to = 0 } in
+    let n = c.in-Some.ensures.some in
+    let same : q.count ≡ c.in-Some.count = omega (arith, size, n.2) in
+    let first = c.in-Some-find.ensures.first q d (omega (arith, same, n.0)) same free in
+    let begins = c.begin-place.ensures.value d in
+    let longest = c.write_at.ensures.others.no_longer in
+    omega (arith, longest, first, begins, same, n.2)
