@@ -18,10 +18,12 @@
 enum { LOOKUP = 1, GETATTR = 3, MKNOD = 8, OPEN = 14, READ = 15, WRITE = 16, RELEASE = 18, INIT = 26, OPCODES = 64 };
 enum { NEWEST = 40, HEADER = 40, ANSWER = 16, PIECE = 135168, GROUP = 16, BLOCK = 4096, SECOND = 1000, DAY = 86400, KEEP_CACHE = 2 };
 
-/* The columns of nodes, and the numbers of meta from key 1 on. A plain store has none from PROFILE on. */
-enum { NODE, MODE, UID, GID, RDEV, SIZE, ATIME, ATIMENSEC, MTIME, MTIMENSEC, CTIME, CTIMENSEC, UP, SUBDIRS, COLUMNS };
+/* The columns of nodes, of which a plain store has none from LINKS on, and the numbers of meta from key 1 on, of which it has none from
+ * PROFILE on. */
+enum { NODE, MODE, UID, GID, RDEV, SIZE, ATIME, ATIMENSEC, MTIME, MTIMENSEC, CTIME, CTIMENSEC, UP, SUBDIRS, LINKS, WRITTEN, ATTRIBUTES,
+  COLUMNS };
 enum { VERSION, NEXT_NODE, NEXT_FH, NEXT_COOKIE, NODES, HANDLES, SETTINGS, MINOR, READAHEAD, FLAGS, NEXT_LOT, PROFILE, CAPACITY, USED,
-  NUMBERS };
+  NUMBER, NUMBERS };
 
 #define STATEMENTS(X) \
   X(BEGIN, "BEGIN") \
@@ -52,6 +54,15 @@ enum { VERSION, NEXT_NODE, NEXT_FH, NEXT_COOKIE, NODES, HANDLES, SETTINGS, MINOR
 #define TEXT(name, text) text,
 enum { STATEMENTS(NAME) STATEMENT_COUNT };
 static const char *const texts[] = { STATEMENTS(TEXT) };
+
+/* Those that differ in an everyday store. */
+static const char *const everyday_texts[STATEMENT_COUNT] = {
+  [SELECT_NODE] = "SELECT mode, uid, gid, rdev, size, atime, atimensec, mtime, mtimensec, ctime, ctimensec, up, subdirs, links, written, "
+    "attributes FROM nodes WHERE node = ?1",
+  [INSERT_NODE] = "INSERT INTO nodes VALUES (?1, ?2, ?3, ?4, ?5, ?6, ?7, ?8, ?9, ?10, ?11, ?12, ?13, ?14, ?15, ?16, ?17)",
+  [UPDATE_NODE] = "UPDATE nodes SET mode = ?2, uid = ?3, gid = ?4, rdev = ?5, size = ?6, atime = ?7, atimensec = ?8, mtime = ?9, "
+    "mtimensec = ?10, ctime = ?11, ctimensec = ?12, up = ?13, subdirs = ?14, links = ?15, written = ?16, attributes = ?17 WHERE node = ?1",
+};
 
 static sqlite3 *db;
 static sqlite3_stmt *statements[STATEMENT_COUNT];
@@ -132,18 +143,22 @@ static void write_numbers(int from, int until) {
 
 static void write_counters(void) {
   write_numbers(NEXT_NODE, SETTINGS);
-  write_numbers(USED, NUMBERS);
+  write_numbers(USED, NUMBER);
 }
 
 static void counters_changed(void) {
   if (!grouped) write_counters();
 }
 
+static int columns(void) {
+  return number_count < NUMBERS ? LINKS : COLUMNS;
+}
+
 static int select_node(int64_t node, int64_t *row) {
   sqlite3_stmt *s = with(SELECT_NODE, 1, &node);
   int found = has_row(s);
   row[NODE] = node;
-  for (int i = 1; found && i < COLUMNS; i++) row[i] = sqlite3_column_int64(s, i - 1);
+  for (int i = 1; found && i < columns(); i++) row[i] = sqlite3_column_int64(s, i - 1);
   sqlite3_reset(s);
   return found;
 }
@@ -151,7 +166,7 @@ static int select_node(int64_t node, int64_t *row) {
 static void put_node(const int64_t *row, bool is_new) {
   int64_t old[COLUMNS];
   check(known || select_node(row[NODE], old) != is_new, "the node");
-  run_with(is_new ? INSERT_NODE : UPDATE_NODE, COLUMNS, row);
+  run_with(is_new ? INSERT_NODE : UPDATE_NODE, columns(), row);
 }
 
 /* The node of a name, or 0. */
@@ -249,7 +264,8 @@ static int do_mknod(int64_t *dir, const uint8_t *header, const uint8_t *body, ui
   check(!select_named(dir[NODE], name), "the name is taken");
   look_at_meta();
   int64_t row[COLUMNS] = { [NODE] = numbers[NEXT_NODE], [MODE] = get(body, 4), [UID] = get(header + 24, 4),
-    [GID] = get(header + 28, 4), [ATIME] = SECOND, [MTIME] = SECOND, [CTIME] = SECOND, [UP] = dir[NODE] };
+    [GID] = get(header + 28, 4), [ATIME] = SECOND, [MTIME] = SECOND, [CTIME] = SECOND, [UP] = dir[NODE],
+    [LINKS] = 1 };
   dir[MTIME] = dir[CTIME] = SECOND;
   dir[MTIMENSEC] = dir[CTIMENSEC] = 0;
   put_node(dir, false);
@@ -283,6 +299,7 @@ static int do_write(int64_t *row, const uint8_t *body, uint8_t *out) {
   if (before < offset + size) row[SIZE] = offset + size;
   row[MTIME] = row[CTIME] = SECOND;
   row[MTIMENSEC] = row[CTIMENSEC] = 0;
+  row[WRITTEN] = (row[SIZE] + BLOCK - 1) / BLOCK;
   put_node(row, false);
   put_block((int64_t[]){ row[NODE], offset / BLOCK }, body + 40);
   if (!is_plain) {
@@ -436,15 +453,21 @@ static void choose(const char *word) {
   else fail("usage: tables STORE [changed] [held] [known] [grouped]");
 }
 
+static void prepare(int which) {
+  const char *other = number_count == NUMBERS ? everyday_texts[which] : NULL, *text = other ? other : texts[which];
+  check(sqlite3_prepare_v3(db, text, -1, SQLITE_PREPARE_PERSISTENT, &statements[which], NULL) == SQLITE_OK, text);
+}
+
 static void open_store(const char *path) {
   check(sqlite3_open(path, &db) == SQLITE_OK, "open");
   exec("PRAGMA locking_mode = EXCLUSIVE");
   exec("PRAGMA journal_mode = WAL");
   exec("PRAGMA synchronous = FULL");
   exec("PRAGMA foreign_keys = ON");
-  for (int i = 0; i < STATEMENT_COUNT; i++)
-    check(sqlite3_prepare_v3(db, texts[i], -1, SQLITE_PREPARE_PERSISTENT, &statements[i], NULL) == SQLITE_OK, texts[i]);
+  prepare(SELECT_META);
   select_meta();
+  for (int i = 0; i < STATEMENT_COUNT; i++)
+    if (i != SELECT_META) prepare(i);
 }
 
 int main(int argc, char **argv) {

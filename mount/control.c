@@ -1,6 +1,6 @@
 /* The socket beside a store, by which its mount is asked. A connection carries one request and its answer.
  *
- * The request is a line: `server`, `status`, `restart`, or `backup`, with which two descriptors come. The answer is lines of a name, a
+ * The request is a line: `server`, `status`, `restart`, or `backup`, with which descriptors of files come. The answer is lines of a name, a
  * blank and a value. Its last line is `ok`, or `error` with the reason. In a value a backslash stands before three octal digits.
  *
  * Root, the user who mounted and the owner of the store may ask. Nothing here waits: a client that is slow is dropped. */

@@ -123,3 +123,8 @@ bool is_named(const struct supervisor *s, int file, const char *suffix) {
 void remove_beside(const struct supervisor *s, const char *suffix) {
   unlinkat(s->folder, name_beside(s, suffix), 0);
 }
+
+bool has_no_bytes(int file) {
+  struct stat found;
+  return file >= 0 && fstat(file, &found) == 0 && found.st_size == 0;
+}

@@ -97,7 +97,7 @@ static void server_ended(struct supervisor *s, int status) {
 /* What is there when a server begins to serve. */
 static void prepare(struct supervisor *s) {
   keep_control(s);
-  keep_log_room(s);
+  share_room(s);
   s->started = now();
   s->sight = (struct sight){.since = s->started};
 }
@@ -199,7 +199,7 @@ static int pause_for_server(const struct supervisor *s) {
   if (s->server == 0) return until > 0 ? (int)until : 0;
   if (asked_at(s) == 0) return now() - s->started < SHORT_LIFE ? LOOK_PAUSE : LATER_LOOK_PAUSE;
   int pause = pause_of_watchdog(s);
-  if (s->is_full) return pause < 0 || pause > SHORT_LIFE ? SHORT_LIFE : pause;
+  if (waits_for_room(s)) return pause < 0 || pause > SHORT_LIFE ? SHORT_LIFE : pause;
   return pause < 0 && !s->has_reserve ? FULL_PAUSE : pause;
 }
 
@@ -237,7 +237,7 @@ static void await_event(struct supervisor *s) {
 static void say_giving_up(struct supervisor *s) {
   static const char fault[] = "ended by themselves before the kernel took an answer";
   if (s->trouble == REMOVED) {
-    say("gave up: %s was removed", s->store);
+    say("gave up: %s was removed", beside(s, s->troubled));
     return;
   }
   if (s->has_hole) {
@@ -321,6 +321,7 @@ static int run(struct supervisor *s, const char *store, const char *mountpoint) 
   if (status == 0) say_unconfined(s), watch_store(s);
   if (status == 0 && take_signals(s) && mount_store(s)) {
     status = supervise(s);
+    drop_data(s);
     close_control(s);
     return status;
   }

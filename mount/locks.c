@@ -1,4 +1,4 @@
-/* The locks on a store, its log and the lock's file beside them.
+/* The locks on a store, on its log and its contents, and on the lock's file beside them.
  *
  * SQLite and the servers lock bytes of a database, by a lock of an open file. Here this process locks them as long as the mount
  * lives, so that nobody gets between two servers. A server gets the same open files, and the library that it preloads makes its lock
@@ -64,6 +64,7 @@ void pass_locks(const struct supervisor *s) {
   char value[VALUE_SIZE];
   fcntl(s->store_file, F_SETFD, 0);
   fcntl(s->log_file, F_SETFD, 0);
-  snprintf(value, sizeof value, "%d,%d", s->store_file, s->log_file);
+  int size = snprintf(value, sizeof value, "%d,%d", s->store_file, s->log_file);
+  if (s->data_file >= 0 && fcntl(s->data_file, F_SETFD, 0) == 0) snprintf(value + size, sizeof value - (size_t)size, ",%d", s->data_file);
   setenv(LOCKED_VARIABLE, value, 1);
 }

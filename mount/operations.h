@@ -15,7 +15,8 @@ struct supervisor;
 #define ORDERED_WORD "ordered"                     /* the durability of a mount whose flushes may wait */
 
 enum { REQUEST_SIZE = 32, ANSWER_SIZE = 1 << 16 };             /* bytes */
-enum { MOST_CLIENTS = 8, MOST_FILES = 2, MOST_RESTARTS = 1024 };
+enum { MOST_CLIENTS = 8, MOST_RESTARTS = 1024 };
+enum { COPIED_STORE, COPIED_LOG, COPIED_DATA, MOST_FILES }; /* to which a store is copied */
 
 /* A process that is connected to the socket, and what it waits for. */
 struct client {
@@ -47,7 +48,7 @@ struct work {
   struct client *client;                           /* NULL once it has left */
   long long since;                                 /* milliseconds of the monotonic clock */
   int old_engine;                                  /* the program before */
-  int files[MOST_FILES];                           /* where the store and its log are copied to */
+  int files[MOST_FILES];                           /* where the store's files are copied to */
   pid_t copier;                                    /* 0 for none */
   bool is_torn;                                    /* a server ran during the copy */
 };

@@ -148,4 +148,5 @@ void put_status(const struct supervisor *s, struct text *to) {
   put_memory(s, to);
   put_length(to, "store_bytes", s->store_file);
   put_length(to, "log_bytes", s->log_file);
+  put_length(to, "data_bytes", s->data_file);
 }

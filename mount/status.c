@@ -20,7 +20,7 @@ static const struct { const char *name; enum { WORDS, NUMBER, BYTES } kind; } li
   {"servers", NUMBER}, {"deaths", NUMBER}, {"last_death", WORDS}, {"last_death_signal", NUMBER}, {"last_death_status", NUMBER},
   {"last_death_lived", NUMBER}, {"last_death_line", WORDS}, {"restart_median", NUMBER}, {"restart_longest", NUMBER},
   {"requests", NUMBER}, {"groups", NUMBER}, {"flushes", NUMBER}, {"unanswered", NUMBER}, {"waiting", NUMBER}, {"memory", BYTES}, {"store_bytes", BYTES},
-  {"log_bytes", BYTES}, {"capacity", BYTES}, {"used", BYTES},
+  {"log_bytes", BYTES}, {"data_bytes", BYTES}, {"capacity", BYTES}, {"used", BYTES},
 };
 
 static bool has_printed;

@@ -23,7 +23,8 @@ static bool has_one_name(const struct supervisor *s, const char *store) {
 }
 
 bool hold_store(struct supervisor *s, const char *store) {
-  s->store_file = s->log_file = s->watch = -1;
+  s->store_file = s->log_file = s->data_file = s->watch = -1;
+  s->troubled = "";
   return open_store(s, store) && suits_owner(s, s->store_file, store) && lock_store(s, store) && has_one_name(s, store) && take_lock(s);
 }
 
@@ -52,12 +53,10 @@ static bool awaits_device(struct supervisor *s) {
 
 /* Runs the engine with no input but the device, for which there is a socket. Returns whether it began a mount, and its status if it has
  * ended. */
-static bool begins(struct supervisor *s, int *status) {
+static bool begins(struct supervisor *s, int null, int *status) {
   *status = W_EXITCODE(FAILED, 0);
   clear_report(s);
-  int null = open("/dev/null", O_RDWR | O_CLOEXEC);
   pid_t engine = start_engine(s, "--fresh", null);
-  close(null);
   if (awaits_device(s)) return s->server = engine, true;
   return engine >= 0 && waitpid(engine, status, 0) == engine && *status == 0;
 }
@@ -76,17 +75,21 @@ static bool make_log(struct supervisor *s) {
 }
 
 int begin_in_store(struct supervisor *s) {
-  int status;
-  if (!make_log(s) || !make_socket(s)) return FAILED;
+  int status, null = open("/dev/null", O_RDWR | O_CLOEXEC);
+  if (null < 0) return refused("/dev/null"), FAILED;
   choose_profile(s);
-  bool has_begun = begins(s, &status);
-  if (!has_begun && may_begin_again(s) && make_socket(s)) has_begun = begins(s, &status);
+  open_data(s);
+  if (!suits_data(s) || !make_log(s) || !make_socket(s)) return FAILED;
+  bool has_begun = begins(s, null, &status);
+  if (!has_begun && may_begin_again(s) && make_socket(s)) has_begun = begins(s, null, &status);
+  close(null);
   if (has_begun && !has_library(s)) return FAILED;
-  if (has_begun) return keep_reserve(s), 0;
+  if (has_begun) return drop_data(s), keep_reserve(s), 0;
   const char *line = last_line(s);
   if (WIFEXITED(status) && *line) dprintf(STDERR_FILENO, "%s\n", line);
   else say("the engine ended, %s", ending(s, status));
   explain(s);
+  explain_data(s);
   return WIFEXITED(status) ? WEXITSTATUS(status) : FAILED;
 }
 
@@ -111,16 +114,14 @@ void dismiss_server(struct supervisor *s) {
   s->server = 0;
 }
 
-static bool is_empty(int file) {
-  struct stat found;
-  return file >= 0 && fstat(file, &found) == 0 && found.st_size == 0;
-}
-
-/* If this process doesn't hold the store, its files stay: another mount may use them. */
+/* If this process doesn't hold the store, its files stay: another mount may use them. Before it has opened a log nothing beside the store is
+ * this mount's. */
 void leave_no_trace(const struct supervisor *s) {
   bool was_made = s->made_store && s->has_store && is_named(s, s->store_file, "");
   if (was_made) remove_beside(s, "");
-  if (was_made) remove_beside(s, RESERVE_SUFFIX);
-  if (was_made || (s->made_log && is_empty(s->log_file))) remove_beside(s, LOG_SUFFIX);
+  bool was_begun = was_made && s->log_file >= 0;
+  if (was_begun) remove_beside(s, RESERVE_SUFFIX);
+  if (was_begun || (s->made_log && has_no_bytes(s->log_file))) remove_beside(s, LOG_SUFFIX);
+  if (s->made_data && (was_made || has_no_bytes(s->data_file))) remove_beside(s, DATA_SUFFIX);
   if (s->made_lock && s->has_lock && is_named(s, s->lock, LOCK_SUFFIX)) remove_beside(s, LOCK_SUFFIX);
 }

@@ -23,6 +23,7 @@ enum { FIRST_OTHER = STDERR_FILENO + 1 };       /* descriptor */
 /* What the names of the files beside a store have after that of the store. */
 #define LOCK_SUFFIX "-mount"
 #define LOG_SUFFIX "-wal"
+#define DATA_SUFFIX "-data"
 #define DEATHS_SUFFIX "-mount.log"
 #define RESERVE_SUFFIX "-reserve"
 
@@ -53,7 +54,7 @@ struct sight {
   bool hangs;                                      /* it was killed for that */
 };
 
-/* What another process has done to the files of a mounted store. */
+/* What another process has done to the files of a mounted store. LINKED, MOVED and REMOVED are the store's file or its data file. */
 enum trouble { NO_TROUBLE, LINKED, MOVED, REMOVED, LOG_REMOVED, OTHER_LOG };
 
 struct supervisor {
@@ -81,6 +82,7 @@ struct supervisor {
   int lock, device, signals, readiness;            /* descriptors; the last one reports that the mount is ready */
   int folder;                                      /* descriptor of the store's folder */
   int store_file, log_file, watch;                 /* descriptors: of the files, which are locked, and of inotify(7) */
+  int data_file;                                   /* descriptor of the data file, which is locked too; -1 where there is none */
   int library, report_file;                        /* descriptors: of what engines preload, and of the memory of `report` */
   int own_end, engine_end;                         /* descriptors of the socket over which the first server gets the device; or below 0 */
   struct report *report;                           /* of the server that runs, or ran last */
@@ -91,11 +93,16 @@ struct supervisor {
   long long next_flush;                            /* before that moment none is tried here */
   bool has_hole;                                   /* a commit of the log was acknowledged, and is lost */
   bool ready, stop_requested, is_unmounted;
-  bool made_store, made_lock, made_log;            /* by this process */
+  bool made_store, made_lock, made_log, made_data; /* by this process */
   bool has_store, has_lock;                        /* this process has the file locked */
   bool is_full;                                    /* the disk has no room: calls that take some wait */
   bool has_reserve, gave_reserve;                  /* the reserve is there; it was given up */
+  long long store_room, kept_room;                 /* bytes: what the reserve gave the store; what was there when a request needed more */
+  int tries;                                       /* so often calls may go on since the last removal */
+  bool tries_again;
+  unsigned long long failed_id;                    /* of the last request at which a server ended on a full disk */
   enum trouble trouble;
+  const char *troubled;                            /* how the name of that file ends */
   long long next_try, stop_asked;                  /* when a full disk may have room again; when the mount was to end */
   long long started, next_start;                   /* milliseconds of the monotonic clock */
   int failed_lives, idle_lives, last_status;       /* in a row: that failed, that did nothing; of waitpid(2) */
@@ -241,6 +248,9 @@ bool is_named(const struct supervisor *s, int file, const char *suffix);
 /* Removes a file beside the store. */
 void remove_beside(const struct supervisor *s, const char *suffix);
 
+/* Whether an open file has no bytes. */
+bool has_no_bytes(int file);
+
 /* late.c */
 
 /* The milliseconds until this process must look for a flush that the server owes; below 0 for any time. */
@@ -295,6 +305,24 @@ void dismiss_server(struct supervisor *s);
 /* Removes the files that a refused mount has made. */
 void leave_no_trace(const struct supervisor *s);
 
+/* data.c */
+
+/* Opens the data file and locks it, unless this store can have none. One that is missing is made. `data_file` stays -1 where that
+ * can't be done, or where another file has the name: most stores do without. */
+void open_data(struct supervisor *s);
+
+/* Removes a data file that was made here and that the engine has left empty: the store has none. */
+void drop_data(struct supervisor *s);
+
+/* Whether a store that was just made may lie beside this data file. Says so where it is another store's. */
+bool suits_data(const struct supervisor *s);
+
+/* Says why an engine couldn't open the data file, if its last line names that. */
+void explain_data(const struct supervisor *s);
+
+/* Whether a file is there that begins as a data file does. */
+bool has_contents(const char *path);
+
 /* profile.c */
 
 /* Read the words of the options profile= and size=, and return whether they are valid; together they are if `fits_profile`. */
@@ -316,8 +344,8 @@ bool lacks_room(const struct supervisor *s);
 /* Says why an engine could not write, if the disk is full or the store's folder is read-only. */
 void explain(const struct supervisor *s);
 
-/* Takes room for the log, unless the disk is full. A server has it until it ends in order. */
-void keep_log_room(const struct supervisor *s);
+/* Takes room before a server begins to serve: for the log, which has it until a server ends in order, or on a full disk for the store. */
+void share_room(struct supervisor *s);
 
 /* Makes the reserve where it is missing and the disk isn't full. */
 void keep_reserve(struct supervisor *s);
@@ -326,8 +354,11 @@ void keep_reserve(struct supervisor *s);
  * store. False where there was none. */
 bool use_reserve(struct supervisor *s);
 
-/* Whether the disk was full, and the next server may get all requests again. */
+/* Whether requests waited for room, and the next server may get them. */
 bool look_for_room(struct supervisor *s);
+
+/* Whether requests may wait for room. */
+bool waits_for_room(const struct supervisor *s);
 
 /* Whether a mount that was to end has only calls left that wait for room. */
 bool is_stuck(const struct supervisor *s);
@@ -462,8 +493,9 @@ const char *open_root(const struct supervisor *s, int *root);
 
 /* watch.c */
 
-/* Watches the store's file and its log. */
+/* Watches the store's files; the data file alone, if the others are watched. */
 void watch_store(struct supervisor *s);
+void watch_data(const struct supervisor *s);
 
 /* Looks at the files again, and says what has changed. The server whose log was removed is killed. */
 void look_at_files(struct supervisor *s);

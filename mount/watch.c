@@ -21,6 +21,11 @@ void watch_store(struct supervisor *s) {
   s->watch = inotify_init1(IN_CLOEXEC | IN_NONBLOCK);
   watch(s, s->store_file);
   watch(s, s->log_file);
+  watch_data(s);
+}
+
+void watch_data(const struct supervisor *s) {
+  if (s->data_file >= 0) watch(s, s->data_file);
 }
 
 static bool is_same(const struct stat *one, const struct stat *other) {
@@ -35,33 +40,50 @@ static enum trouble log_trouble(const struct supervisor *s) {
   return is_same(&own, &named) ? NO_TROUBLE : OTHER_LOG;
 }
 
-static enum trouble find_trouble(const struct supervisor *s) {
+/* Of a file that can't be made anew. */
+static enum trouble trouble_of(const struct supervisor *s, int file, const char *suffix) {
   struct stat own, named;
-  if (s->store_file < 0 || fstat(s->store_file, &own) != 0) return NO_TROUBLE;
+  if (file < 0 || fstat(file, &own) != 0) return NO_TROUBLE;
   if (own.st_nlink == 0) return REMOVED;
   if (own.st_nlink > 1) return LINKED;
-  if (lstat(s->store, &named) != 0 || !is_same(&own, &named)) return MOVED;
-  return log_trouble(s);
+  return lstat(beside(s, suffix), &named) == 0 && is_same(&own, &named) ? NO_TROUBLE : MOVED;
+}
+
+/* Notes how the name of the file ends that has the trouble. */
+static enum trouble find_trouble(struct supervisor *s) {
+  enum trouble found = trouble_of(s, s->store_file, s->troubled = "");
+  if (found == NO_TROUBLE) found = trouble_of(s, s->data_file, s->troubled = DATA_SUFFIX);
+  return found == NO_TROUBLE ? log_trouble(s) : found;
+}
+
+static int troubled_file(const struct supervisor *s) {
+  return *s->troubled ? s->data_file : s->store_file;
 }
 
 static void say_moved(const struct supervisor *s) {
   char link[LINE_SIZE], place[PATH_MAX];
-  snprintf(link, sizeof link, "/proc/self/fd/%d", s->store_file);
+  snprintf(link, sizeof link, "/proc/self/fd/%d", troubled_file(s));
   ssize_t length = readlink(link, place, sizeof place - 1);
   place[length > 0 ? length : 0] = '\0';
-  say("%s was moved to %s: no server can open it until it is back", s->store, place);
+  say("%s was moved to %s: no server can open it until it is back", beside(s, s->troubled), place);
+}
+
+static void say_removed(const struct supervisor *s) {
+  const char *path = beside(s, s->troubled);
+  int file = troubled_file(s), process = getpid();
+  if (*s->troubled) say("%s was removed while it was mounted: until its server ends, /proc/%d/fd/%d has its bytes", path, process, file);
+  else say("%s was removed while it was mounted: until its server ends, /proc/%d/fd/%d has its bytes, and /proc/%d/fd/%d has its log",
+           path, process, file, process, s->log_file);
 }
 
 static void say_trouble(const struct supervisor *s) {
-  const char *log = beside(s, LOG_SUFFIX);
+  char log[PATH_SIZE];
+  strcpy(log, beside(s, LOG_SUFFIX));
   switch (s->trouble) {
   case NO_TROUBLE: say("the files of %s are in their places again", s->store); break;
-  case LINKED: say("%s has another name (a hard link), so no server can open it: remove that name", s->store); break;
+  case LINKED: say("%s has another name (a hard link), so no server can open it: remove that name", beside(s, s->troubled)); break;
   case MOVED: say_moved(s); break;
-  case REMOVED:
-    say("%s was removed while it was mounted: until its server ends, /proc/%d/fd/%d has its bytes, and /proc/%d/fd/%d has its log",
-        s->store, getpid(), s->store_file, getpid(), s->log_file);
-    break;
+  case REMOVED: say_removed(s); break;
   case LOG_REMOVED:
     say("%s was removed while %s was mounted: its server is ended, and the log is written anew", log, s->store);
     break;
@@ -73,8 +95,10 @@ void look_at_files(struct supervisor *s) {
   char events[PIECE];
   while (s->watch >= 0 && read(s->watch, events, sizeof events) > 0) continue;
   enum trouble before = s->trouble;
+  const char *troubled = s->troubled;
   s->trouble = find_trouble(s);
-  if (s->trouble == before) return;
+  bool is_same_file = strcmp(s->troubled, troubled) == 0;
+  if (s->trouble == before && (is_same_file || before == NO_TROUBLE)) return;
   if (!(before == LOG_REMOVED && s->trouble == NO_TROUBLE)) say_trouble(s);
   if (s->trouble == LOG_REMOVED && s->server > 0) kill(s->server, SIGKILL);
   if (s->trouble == NO_TROUBLE) s->next_start = now();

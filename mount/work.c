@@ -49,6 +49,7 @@ static void ask_to_end(struct supervisor *s) {
   kill(s->server, now() - s->work.since < ENDING_TIME ? SIGUSR1 : SIGKILL);
 }
 
+/* A new program may migrate the store, and need a data file for it. */
 static void begin_restart(struct supervisor *s, struct client *client) {
   int before = fcntl(s->engine_file, F_DUPFD_CLOEXEC, FIRST_OTHER);
   if (before < 0 || !reopen_engine(s)) {
@@ -56,6 +57,7 @@ static void begin_restart(struct supervisor *s, struct client *client) {
     if (before >= 0) close(before);
     return;
   }
+  open_data(s);
   s->work = (struct work){.step = s->server > 0 ? ENDS : STARTS, .client = client, .since = now(), .old_engine = before};
   if (s->server > 0) ask_to_end(s);
   else s->next_start = now();
@@ -63,6 +65,7 @@ static void begin_restart(struct supervisor *s, struct client *client) {
 
 static void restarted(struct supervisor *s) {
   close(s->work.old_engine);
+  drop_data(s);
   say("server %d runs, of the program that is installed now", s->server);
   answer.length = 0;
   put(&answer, "server %d\n", s->server);
@@ -73,6 +76,7 @@ static void restarted(struct supervisor *s) {
 /* The new program can't serve the store: the one before does. */
 static void go_back(struct supervisor *s, int status) {
   char reason[LINE_SIZE + PATH_MAX];
+  drop_data(s);
   close(s->engine_file);
   s->engine_file = s->work.old_engine;
   snprintf(reason, sizeof reason, "%s can't serve the store: it ended, %s; the program before it goes on", s->engine, ending(s, status));
@@ -94,11 +98,17 @@ bool ended_for_work(struct supervisor *s, int status) {
 
 /* ---- a copy */
 
+/* No server runs meanwhile, so that the files are of one moment. With one that runs no order would do: if the tables are copied first, space
+ * that they list may be freed and written again before the contents are copied; if last, they list contents that were written later. */
 static int copy_files(const struct supervisor *s) {
-  bool store_is_reference, log_is_reference;
-  if (!copy_file(s->store_file, s->work.files[0], &store_is_reference)) return errno;
-  if (!copy_file(s->log_file, s->work.files[1], &log_is_reference)) return errno;
-  return store_is_reference && log_is_reference ? REFERRED : COPIED;
+  const int from[MOST_FILES] = {s->store_file, s->log_file, s->data_file};
+  bool is_reference, are_references = true;
+  for (int i = 0; i < MOST_FILES; i++) {
+    if (from[i] < 0) continue;
+    if (!copy_file(from[i], s->work.files[i], &is_reference)) return errno;
+    are_references = are_references && is_reference;
+  }
+  return are_references ? REFERRED : COPIED;
 }
 
 static void go_on(struct supervisor *s) {
@@ -122,10 +132,11 @@ static bool look_at(int file, struct statx *found) {
   return statx(file, "", AT_EMPTY_PATH | AT_STATX_DONT_SYNC, STATX_TYPE | STATX_SIZE, found) == 0;
 }
 
-static bool has_empty_files(const struct client *client) {
+/* A client of an older version brings none for contents. */
+static bool has_empty_files(const struct supervisor *s, const struct client *client) {
   struct statx found;
-  bool has_files = client->count == MOST_FILES;
-  for (int i = 0; has_files && i < MOST_FILES; i++)
+  bool has_files = client->count >= (s->data_file >= 0 ? MOST_FILES : COPIED_DATA);
+  for (int i = 0; has_files && i < client->count; i++)
     has_files = look_at(client->files[i], &found) && S_ISREG(found.stx_mode) && found.stx_size == 0;
   return has_files;
 }
@@ -139,7 +150,7 @@ static bool are_on_mount(const struct supervisor *s, const struct client *client
 }
 
 static void begin_backup(struct supervisor *s, struct client *client) {
-  const char *why = !has_empty_files(client) ? "a backup takes two empty files"
+  const char *why = !has_empty_files(s, client) ? "a backup takes an empty file for each of the store"
                   : are_on_mount(s, client) ? "the copy would lie on the mount itself, whose calls wait meanwhile"
                   : s->work.copier > 0 ? "the copy before it hasn't ended"
                   : s->trouble == LOG_REMOVED || s->trouble == OTHER_LOG ? "the log of the store isn't in its place" : NULL;

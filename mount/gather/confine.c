@@ -1,6 +1,6 @@
 /* Confines the engine into which this library is preloaded, after the loader has done its work and before `main`. It opens the store's
- * file, its log and the folder of both, and no other file, where the kernel has Landlock; and it makes the system calls that stand below,
- * and no other one. A call that doesn't returns ENOSYS, so that a C library which tries a newer one takes the older. */
+ * file, its log, its contents and the folder of these, and no other file, where the kernel has Landlock; and it makes the system calls that
+ * stand below, and no other one. A call that doesn't returns ENOSYS, so that a C library which tries a newer one takes the older. */
 #define _GNU_SOURCE
 #include "gather.h"
 #include <errno.h>
@@ -58,6 +58,8 @@ static void allow_files(int rules, const char *store, uint64_t rights) {
   char path[PATH_SIZE];
   snprintf(path, sizeof path, "%s-wal", store);
   allow(rules, path, rights);
+  snprintf(path, sizeof path, "%s-data", store);
+  if (has_held_data()) allow(rules, path, rights);
   snprintf(path, sizeof path, "%s", store);
   allow(rules, path, rights);
   *strrchr(path, '/') = '\0';

@@ -7,10 +7,10 @@
 #include <stddef.h>
 #include <sys/types.h>
 
-/* The environment of an engine: STORE the path of the one store that it may open, LOCKED the two descriptors of its files that
- * fusekeep-mount has locked; of a server, GROUPS where its reads gather, ORDERED where flushes of the log may be put off, and LINES the
- * descriptor for a line for each message. Of the first server, DEVICE the socket over which it gets the device, and VOLATILE where it
- * flushes nothing from then on. */
+/* The environment of an engine: STORE the path of the one store that it may open, LOCKED the descriptors of its files that fusekeep-mount
+ * has locked: of the store, of its log and, where it has one, of its contents; of a server, GROUPS where its reads gather, ORDERED where
+ * flushes of the log may be put off, and LINES the descriptor for a line for each message. Of the first server, DEVICE the socket over
+ * which it gets the device, and VOLATILE where it flushes nothing from then on. */
 #define STORE_VARIABLE "FUSEKEEP_STORE"
 #define GROUPS_VARIABLE "FUSEKEEP_GROUPS"
 #define ORDERED_VARIABLE "FUSEKEEP_ORDERED"
@@ -116,9 +116,17 @@ bool has_unflushed(void);
 void note_flushed(void);
 void note_asked(bool is_made);
 
+/* locks.c */
+
+/* Whether fusekeep-mount has a data file locked. Another one isn't opened. */
+bool has_held_data(void);
+
 /* hold.c */
 
-/* Whether a request isn't given out, since the disk is full. */
+/* Whether requests of this opcode bring content. */
+bool takes_room(uint32_t opcode);
+
+/* Whether a request isn't given out, since there is no room for it. */
 bool keep_back(const char *message, size_t size);
 
 /* show.c */

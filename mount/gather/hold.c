@@ -1,13 +1,13 @@
 /* While the store's disk is full a server gets no request that takes room, so that it has the room of the reserve for those that give
  * some back. A request that is kept back is dropped: the kernel sends it again to the server that fusekeep-mount starts when there is
- * room. So is one at which such a server ended for lack of room. */
+ * room. So is one at which such a server ended for lack of room, until there is more than then. */
 #include "gather.h"
 #include <linux/fuse.h>
 #include <string.h>
 
 /* Requests that bring content. One that makes a file is given out: it takes little, and the kernel keeps the directory locked while it
  * waits, so that nothing could be removed there. */
-static bool takes_room(uint32_t opcode) {
+bool takes_room(uint32_t opcode) {
   return opcode == FUSE_WRITE || opcode == FUSE_FALLOCATE || opcode == FUSE_COPY_FILE_RANGE;
 }
 
@@ -19,16 +19,18 @@ static bool gives_room(uint32_t opcode) {
 }
 
 static bool is_kept_back(uint64_t id) {
-  for (size_t i = 0; i < KEPT_BACK && id != 0; i++)
-    if (report()->kept_back[i] == id) return true;
-  return false;
+  size_t i = 0;
+  while (i < KEPT_BACK && report()->kept_back[i] != 0 && report()->kept_back[i] != id) i++;
+  return i < KEPT_BACK && id != 0 && report()->kept_back[i] == id;
 }
 
 bool keep_back(const char *message, size_t size) {
   struct fuse_in_header head;
-  if (!report()->is_full || size < sizeof head) return false;
+  if (size < sizeof head) return false;
   memcpy(&head, message, sizeof head);
-  if (takes_room(head.opcode) || is_kept_back(plain_id(head.unique))) return true;
+  if (is_kept_back(plain_id(head.unique))) return true;
+  if (!report()->is_full) return false;
+  if (takes_room(head.opcode)) return true;
   if (gives_room(head.opcode)) report()->removals++;
   return false;
 }

@@ -10,22 +10,28 @@
 #include <sys/syscall.h>
 #include <unistd.h>
 
-enum { FILES = 2 };
+enum { LEAST_FILES = 2, MOST_FILES };
 
 /* The open files of fusekeep-mount: their number. The first call reads them. */
 static int held_files(int *files) {
-  static int count = -1, held[FILES];
+  static int count = -1, held[MOST_FILES];
   const char *words = count < 0 ? getenv(LOCKED_VARIABLE) : NULL;
-  if (count < 0) count = words && sscanf(words, "%d,%d", &held[0], &held[1]) == FILES ? FILES : 0;
+  if (count < 0) count = words ? sscanf(words, "%d,%d,%d", &held[0], &held[1], &held[2]) : 0;
+  if (count < LEAST_FILES) count = 0;
   for (int i = 0; i < count; i++) files[i] = held[i];
   return count;
 }
 
-/* The open file of fusekeep-mount that is of the same file as this one. Another file than the two can't be locked, and so isn't served:
+bool has_held_data(void) {
+  int held[MOST_FILES];
+  return held_files(held) == MOST_FILES;
+}
+
+/* The open file of fusekeep-mount that is of the same file as this one. Another file than these can't be locked, and so isn't served:
  * it has got the name of one. */
 static int holder_of(int file) {
   struct stat own, other;
-  int held[FILES], count = held_files(held);
+  int held[MOST_FILES], count = held_files(held);
   for (int i = 0; i < count && fstat(file, &own) == 0; i++)
     if (fstat(held[i], &other) == 0 && other.st_dev == own.st_dev && other.st_ino == own.st_ino) return held[i];
   return count > 0 ? -1 : file;

@@ -2,6 +2,7 @@
  * flush of the log that may be put off (zeros.c) is owed, and made
  *
  * - before the store's file is written, into which the log is copied, and before the log begins again;
+ * - before the data file is written below its end, or is cut;
  * - before the answer of FSYNC or FSYNCDIR is written;
  * - five seconds after the first that is owed, while the server waits for a message or before it takes one;
  * - when the log is closed.
@@ -12,8 +13,10 @@
  * A plain store serves no FSYNC, so of one nothing is put off: its answer of INIT has no READDIRPLUS. The kernel sends no more FSYNC to a
  * server that has answered one by ENOSYS, so from then on nothing is put off either.
  *
- * So the order is data, log, store. A store has no file of data yet. Where it has one, a flush of it comes before the flush of the log that
- * covers what lists it, and a place in it is written again only once the commit that freed it is flushed.
+ * So the order is contents, log, store. A flush of the data file is never put off: the server asks for it before it writes the commit
+ * that lists the contents, and what it writes of that commit may reach the disk at any time. A commit may free space, which the server then
+ * writes again. If a cut of power loses that commit, the old contents must still be there. So the commit is flushed before anything is
+ * written below the end of the file, and before the file is cut. No commit that a cut of power can leave has contents after the end.
  *
  * A flush that is owed was acknowledged. If it fails, the server ends, and fusekeep-mount copies the log before the next one. */
 #define _GNU_SOURCE

@@ -34,6 +34,7 @@ struct report {
   _Atomic uint64_t flushing;  /* a flush of the log has begun, and how it ended isn't noted */
 
   _Atomic uint64_t removals;  /* requests given out that may give room back, while the disk is full */
+  _Atomic uint64_t writes;    /* answered requests that bring content */
 
   /* The first of those that are held. */
   _Atomic uint64_t since;     /* when it was given out, or the one before it was answered */
@@ -44,8 +45,8 @@ struct report {
   /* What fusekeep-mount asks, and what stays from one server to the next. */
   _Atomic uint64_t is_single; /* a turn has one request, until one above `beyond` that is no resend was answered */
   _Atomic uint64_t beyond;
-  _Atomic uint64_t is_full;   /* requests that take room aren't given out, and a turn has one request */
-  _Atomic uint64_t kept_back[KEPT_BACK]; /* nor are those of these ids, while the disk is full; 0 for none */
+  _Atomic uint64_t is_full;   /* requests that bring content aren't given out, and a turn has one request */
+  _Atomic uint64_t kept_back[KEPT_BACK]; /* nor are those of these ids; 0 after the last one */
   _Atomic uint64_t is_strict; /* no flush of the log is put off any more */
   _Atomic uint64_t put_off;   /* flushes of the log that were put off */
   _Atomic uint64_t owed;      /* when the first of those was put off that are owed; 0 where none is */

@@ -122,6 +122,7 @@ void note_answer(const char *answer, size_t size, bool is_taken) {
   uint64_t id = plain_id(head.unique);
   bool is_asking = id == 0 && head.error == NOTIFY_RESEND;
   if (is_taken && is_asking && shared->notice == 0) shared->notice = milliseconds();
+  if (is_taken && head.error == 0 && takes_room(opcode_of_answer(answer, size))) shared->writes++;
   if (is_taken && id != 0) note_taken(head.unique);
   if (!is_taken && id > shared->not_taken) shared->not_taken = id;
 }

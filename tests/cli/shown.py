@@ -1,4 +1,4 @@
-"""Compares the output of `store`, `ls` and `cat` with the rows that Python's own SQLite reads from a copy of a store and its log:
+"""Compares the output of `store`, `ls` and `cat` with the rows that Python's own SQLite reads from a copy of a store:
 shown PROGRAM STORE
 
 It looks at each directory of the tree, and at each file of up to 16 MiB. The bytes of all contents must also be the sum of the sizes that
@@ -13,8 +13,9 @@ import tempfile
 from pathlib import Path
 
 from lib import messages as m
+from lib.pieces import BLOCK, read_pieces
 
-BLOCK, LONGEST = 4096, 1 << 24
+LONGEST = 1 << 24
 # An id that no record of a store has, and the place of the size in an answer to GETATTR.
 FREE_ID = 1 << 40
 SIZE_AT = 40
@@ -47,7 +48,7 @@ class Store:
     """A copy of a store, and the output that is wanted of it."""
 
     def __init__(self, folder, file):
-        for end in ("", "-wal"):
+        for end in ("", "-wal", "-data"):
             if Path(file + end).exists():
                 shutil.copy(file + end, folder / f"copy{end}")
         self.db = sqlite3.connect(folder / "copy")
@@ -89,8 +90,10 @@ class Store:
         return f"{letters(mode)} {links} {uid} {gid} {size} {node} {escaped(name)}\n"
 
     def content(self, node):
-        """The bytes of a file."""
-        blocks = dict(self.db.execute("SELECT block, bytes FROM blocks WHERE node = ?", (node,)))
+        """The bytes of a file: a block in a row of its own is newer than a piece."""
+        pieces = read_pieces(self.db, node)
+        blocks = {first + at: whole[at * BLOCK:][:BLOCK] for _, first, whole in pieces for at in range(len(whole) // BLOCK)}
+        blocks.update(self.db.execute("SELECT block, bytes FROM blocks WHERE node = ?", (node,)))
         size = self.one("SELECT size FROM nodes WHERE node = ?", node)
         whole = b"".join(blocks.get(place, bytes(BLOCK)) for place in range((size + BLOCK - 1) // BLOCK))
         return whole[:size]

@@ -61,8 +61,8 @@ from lib.counts import print_counts
 
 KIT = Path(os.path.realpath(shutil.which("rt") or "rt")).parent.parent
 PARTS = ("src", "specs", "proofs")
-# The errors about a name that an edit removed.
-REMOVED = re.compile(r"has no field|is not in scope|has no `|was not admitted")
+# The errors about a name that an edit removed, or about what rests on another error or on a hole.
+REMOVED = re.compile(r"has no field|is not in scope|has no `|was not admitted|which has holes")
 # An error for which a source isn't read further.
 UNREAD = re.compile(r"(?m)^(?:\./)?(src/\S+?):(\d+):\d+: error\[")
 # The memory of a check of the largest crate with edits, in bytes.
@@ -271,11 +271,15 @@ def refusals_of(said, places):
 
 
 def first_error(said, path):
-    """The first error in a function's proof files that isn't about a removed name."""
+    """The first error in a function's proof files that isn't about a removed name. Its second line, which is indented, may say so."""
     folder = "/".join(path.split("::")[1:])
-    errors = re.findall(rf"(?m)^(?:\./)?proofs/{re.escape(folder)}/\S+?:\d+:\d+: error: (.*)", said)
-    real = [it for it in errors if not REMOVED.search(it)]
+    errors = re.findall(rf"(?m)^(?:\./)?proofs/{re.escape(folder)}/\S+?:\d+:\d+: error: (.*(?:\n .*)?)", said)
+    real = [first_line(it) for it in errors if not REMOVED.search(it)]
     return real[0][:110] if real else ""
+
+
+def first_line(text):
+    return text.split("\n", 1)[0]
 
 
 def try_batch(scratch, batch):
@@ -331,12 +335,12 @@ def without_own(edit, said):
     """The outcome of an edit alone where no function was refused for a reason of its own. A lemma may have been refused."""
     if re.search(r"(?m)^logic=proved", said):
         return Tried(edit, False, "NOT REFUSED: the crate is still proved with this edit")
-    errors = re.findall(r"(?m)^\S+: error: .*", said)
+    errors = re.findall(r"(?m)^\S+: error: .*(?:\n .*)?", said)
     removed = [it for it in errors if REMOVED.search(it)]
     if errors and len(removed) < len(errors) and re.search(r"(?m)^fn \S+: (not proved|no proof)", said):
-        return Tried(edit, True, f"refused: {next(it for it in errors if it not in removed)[:160]}")
+        return Tried(edit, True, f"refused: {first_line(next(it for it in errors if it not in removed))[:160]}")
     if removed:
-        return Tried(edit, False, f"NOT REFUSED: a proof names what the edit removed, and that is all: {removed[0][:160]}")
+        return Tried(edit, False, f"NOT REFUSED: a proof names what the edit removed, and that is all: {first_line(removed[0])[:160]}")
     lines = errors or said.strip().split("\n")
     return Tried(edit, False, f"BAD EDIT: no contract was tried: {' / '.join(lines[:3])[:300]}")
 

@@ -1,11 +1,10 @@
-"""Which edits the gate tries: all of a crate that has changed since all its edits were seen refused, and all of a quarter of the others.
+"""Which edits the gate tries: all of a crate that has changed since all its edits were seen refused, and an eighth of the others.
 
 The file `seen` has a line for each crate whose edits were all seen refused: its name, and the digest of what that check read, which is
-the toolchain, the crate, its edits and the sources of the crates below, without their lines of comment. Which quarter is tried follows from
-the digest of all crates, so that each change of the sources has another one tried. A quarter is of crates, and not of the edits of each,
-since a check of one edit takes nearly as long as one of ten."""
+the toolchain, the crate, its edits and the sources of the crates below, without their lines of comment. Which eighth is tried follows from
+the digest of all crates, so that each change of the sources has another one tried. An eighth is of groups of edits, most of which have all
+edits of a crate, since a check of one edit takes nearly as long as one of ten."""
 import hashlib
-from collections import Counter
 from functools import cache
 from pathlib import Path
 
@@ -15,8 +14,10 @@ SEEN = Path(__file__).resolve().parent / "seen"
 READ = ("src", "specs", "proofs")
 # What a line begins with that is a comment, by the kind of its file.
 COMMENTS = {".rt": b"//", ".antt": b"--"}
-# The crates that have not changed are tried in so many parts.
-PARTS = 4
+# The edits of crates that have not changed are tried in so many parts.
+PARTS = 8
+# The most edits of a group.
+GROUP = 50
 
 
 def code_of(path):
@@ -70,30 +71,34 @@ def digest_of_all():
     return found.hexdigest()
 
 
-def edits_by_crate():
-    """How many edits each crate has, the crates with most of them first."""
-    counts = Counter(it.parent.parent.name for it in (TOP / "crates").glob("*/must-fail/*.edit"))
-    return sorted(counts.items(), key=lambda it: (-it[1], it[0]))
+def groups():
+    """The edits of all crates in groups, each of one crate, those with most edits first: the crate, and the names of the files."""
+    found = {}
+    for path in sorted((TOP / "crates").glob("*/must-fail/*.edit")):
+        found.setdefault(path.parent.parent.name, []).append(path.name)
+    cut = [(crate, names[at :: -(-len(names) // GROUP)]) for crate, names in found.items() for at in range(-(-len(names) // GROUP))]
+    return sorted(cut, key=lambda it: (-len(it[1]), it))
 
 
 def parts():
-    """All crates with edits, in parts with about as many edits each."""
+    """All groups, in parts with about as many edits each."""
     found = [([], 0)] * PARTS
-    for crate, count in edits_by_crate():
-        (crates, edits), *others = sorted(found, key=lambda it: it[1])
-        found = [([*crates, crate], edits + count), *others]
-    return sorted(crates for crates, _ in found)
+    for crate, names in groups():
+        (chosen, count), *others = sorted(found, key=lambda it: it[1])
+        found = [([*chosen, (crate, names)], count + len(names)), *others]
+    return sorted(chosen for chosen, _ in found)
 
 
 @cache
-def part_now():
-    """The crates whose edits are tried although they have not changed."""
-    return parts()[int(digest_of_all(), 16) % PARTS]
+def names_now(crate):
+    """The edits of a crate that are tried although it has not changed."""
+    part = parts()[int(digest_of_all(), 16) % PARTS]
+    return {name for it, names in part if it == crate for name in names}
 
 
 def part_of(crate, edits, below):
     """The edits of a crate that the gate tries, and what it says of the choice, or an empty text where the crate has changed."""
     if read_seen().get(crate) != digest_of(crate, below):
         return edits, ""
-    unchanged = f"edits: {crate}: unchanged since all its {len(edits)} edits were refused"
-    return (edits, f"{unchanged}; they are tried again") if crate in part_now() else ([], f"{unchanged}; none is tried")
+    chosen = [it for it in edits if it.name in names_now(crate)]
+    return chosen, f"edits: {crate}: unchanged since all its {len(edits)} edits were refused; tried again: {len(chosen)}"

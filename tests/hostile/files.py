@@ -1,6 +1,7 @@
 """Opens hostile files with the program, and sends requests for all that is in them. README.md says what must come of them."""
 import argparse
 import collections
+import hashlib
 import multiprocessing
 import os
 import re
@@ -96,7 +97,7 @@ def wrong_look(ran, found, refused):
 def rows_of(folder):
     """The schema and the rows that sqlite3 reads from a copy of a store and its log, or its fault."""
     with tempfile.TemporaryDirectory(dir=quick_folder()) as there:
-        for name in os.listdir(folder):
+        for name in {"store", "store-wal"} & set(os.listdir(folder)):
             shutil.copy(f"{folder}/{name}", there)
         store = sqlite3.connect(f"{there}/store")
         store.text_factory = bytes
@@ -110,19 +111,29 @@ def rows_of(folder):
             store.close()
 
 
+def digest_of(path):
+    """A digest of a file that may be larger than the memory that there is."""
+    digest = hashlib.sha256()
+    with open(path, "rb") as file:
+        while part := file.read(1 << 20):
+            digest.update(part)
+    return digest.digest()
+
+
 def snapshot(folder):
-    """The files of a folder with their bytes, and the kinds of all else."""
+    """The files of a folder with their bytes, of a data file their digest, and the kinds of all else."""
     seen = {}
     for name in sorted(os.listdir(folder)):
         path = f"{folder}/{name}"
-        seen[name] = bytes_of(path) if os.path.isfile(path) and not os.path.islink(path) else os.lstat(path).st_mode
+        read = digest_of if name.endswith("-data") else bytes_of
+        seen[name] = read(path) if os.path.isfile(path) and not os.path.islink(path) else os.lstat(path).st_mode
     return seen
 
 
 def is_same(before, rows, folder):
     """Whether the file is as it was, and the log beside it, if it differs, changes no row that is read."""
     after = snapshot(folder)
-    if before.get("store") != after.get("store"):
+    if any(before.get(name) != after.get(name) for name in ("store", "store-data")):
         return False
     return before == after or len(after.get("store-wal", b"")) < LOG or rows == rows_of(folder)
 
@@ -139,7 +150,10 @@ class Try:
         """Makes the file, alone in its folder."""
         shutil.rmtree(self.folder, ignore_errors=True)
         os.mkdir(self.folder)
-        shutil.copyfile(self.good + ("-everyday" if self.hostile.everyday else ""), self.path)
+        good = self.good + ("-everyday" if self.hostile.everyday else "")
+        shutil.copyfile(good, self.path)
+        if os.path.exists(f"{good}-data"):
+            shutil.copyfile(f"{good}-data", f"{self.path}-data")
         self.hostile.make(self.path)
 
     def run(self, mode, messages, must_stay):

@@ -46,11 +46,13 @@ def making():
 
 
 def making_everyday():
-    """The same in an everyday store, with links, with files that CREATE makes, and with an open file and a directory without names."""
+    """The same in an everyday store, with links, with files that CREATE makes, and with an open file and a directory without names. One
+    file has a piece, and two blocks over it."""
     parts = making()
     parts += [(m.SYMLINK, 2, m.symlink_body(b"link", b"../f")), (m.SYMLINK, 1, m.symlink_body(b"far", b"t" * 4095))]
     parts += [(m.CREATE, 8, m.create_body(b"made", 2)), (m.WRITE, 53, m.write_body(7, 5000, b"m" * 100))]
     parts += [(m.MKDIR, 8, m.mkdir_body(b"lost")), (m.OPENDIR, 54, m.open_body(0)), (m.RMDIR, 8, b"lost\0")]
+    parts += [(m.CREATE, 8, m.create_body(b"big", 2)), (m.WRITE, 55, m.write_body(9, 0, b"p" * 100000)), (m.WRITE, 55, m.write_body(9, 8190, b"over"))]
     parts += [(m.READLINK, 51, b""), (m.STATFS, 1, b""), (m.READDIRPLUS, 1, m.read_body(4, 0, 4096)), (m.FSYNC, 4, m.fsync_body(1))]
     return parts
 

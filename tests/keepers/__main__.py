@@ -21,7 +21,7 @@ def count_tests(sources):
 
 def main():
     with tempfile.TemporaryDirectory(prefix="keepers-") as copy:
-        sources = copy_crates(copy, "spec_tests", "fuse_store_tables fuse_store_tree fuse_store sqlite")
+        sources = copy_crates(copy, "spec_tests", "fuse_store_tables fuse_store_tree fuse_store fuse_data sqlite sqlite_disk")
         leave_out_others(sources, KEPT)
         shutil.copy(f"{HERE}/keepers.rt.in", f"{sources}/keepers.rt")
         count = count_tests(sources)

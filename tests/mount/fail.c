@@ -1,6 +1,6 @@
 /* Preloaded into a server before the library of fusekeep-mount: while the file is there that FAIL_WHILE names, a flush of the store's log
- * fails as one of a disk with a fault, or by the error FAIL_BY; with FAIL_KILLS the server is killed in it. The library makes its calls by
- * syscall(2). */
+ * fails as one of a disk with a fault, or by the error FAIL_BY; with FAIL_KILLS the server is killed in it. With FAIL_SUFFIX it is one of
+ * the file whose name ends so, after the server has written to it: an opening flushes it, too. The library makes its calls by syscall(2). */
 #define _GNU_SOURCE
 #include <dlfcn.h>
 #include <errno.h>
@@ -16,7 +16,8 @@
 
 enum { ARGUMENTS = 6 };
 
-static long log_file = -1;
+static long failing_file = -1;
+static bool is_written;
 
 static bool fails(void) {
   const char *path = getenv("FAIL_WHILE");
@@ -29,9 +30,14 @@ static int error(void) {
   return number ? atoi(number) : EIO;
 }
 
-static bool is_log(const char *path) {
-  size_t length = strlen(path);
-  return length > 4 && strcmp(path + length - 4, "-wal") == 0;
+static bool is_failing(const char *path) {
+  const char *named = getenv("FAIL_SUFFIX"), *suffix = named ? named : "-wal";
+  size_t length = strlen(path), end = strlen(suffix);
+  return length > end && strcmp(path + length - end, suffix) == 0;
+}
+
+static bool is_flush(long number) {
+  return number == SYS_fsync || number == SYS_fdatasync;
 }
 
 long syscall(long number, ...) {
@@ -41,10 +47,11 @@ long syscall(long number, ...) {
   va_start(others, number);
   for (int i = 0; i < ARGUMENTS; i++) words[i] = va_arg(others, long);
   va_end(others);
-  bool fails_now = (number == SYS_fsync || number == SYS_fdatasync) && words[0] == log_file && fails();
+  bool is_due = is_written || !getenv("FAIL_SUFFIX"), fails_now = is_flush(number) && words[0] == failing_file && is_due && fails();
+  if (number == SYS_pwrite64 && words[0] == failing_file) is_written = true;
   if (fails_now && getenv("FAIL_KILLS")) raise(SIGKILL);
   if (fails_now) return errno = error(), -1;
   long done = next(number, words[0], words[1], words[2], words[3], words[4], words[5]);
-  if (number == SYS_openat && done >= 0 && !(words[2] & O_PATH) && is_log((const char *)words[1])) log_file = done;
+  if (number == SYS_openat && done >= 0 && !(words[2] & O_PATH) && is_failing((const char *)words[1])) failing_file = done;
   return done;
 }

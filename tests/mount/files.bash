@@ -23,7 +23,7 @@ private_files() {
   chmod 620 store || return 1
   refuses 1 "fusekeep-mount: others can write store: run chmod 600 store store-wal first" "$program" store || return 1
   chmod 600 store && chmod 777 . || return 1
-  cp store others && chown 65534:65534 others && start others mnt log-others && python3 "$here/killer.py" "$supervisor" 1 || return 1
+  cp store others && copy_contents store others && chown 65534:65534 others* && start others mnt log-others && python3 "$here/killer.py" "$supervisor" 1 || return 1
   mkdir mnt/b && are_owned 600 65534 others others-wal others-mount others-mount.log others-reserve || return 1
   unmount_and_end mnt || return 1
   refuses 1 "fusekeep-mount: store belongs to another user" $opener "$program" store

@@ -281,7 +281,7 @@ END
 }
 
 bytes_of_store() {
-  cat store store-wal | wc -c
+  find . -maxdepth 1 \( -name store -o -name store-wal -o -name store-data \) -exec cat {} + | wc -c
 }
 
 # A request is committed, its server dies before it answers, and its caller is killed after the next server has asked for the pending requests

@@ -10,7 +10,7 @@ Each writer has a directory of its own and a model of it (model.py). A step is o
 fail. Some servers live for some milliseconds, so that the next one is killed while it resumes, some for a third of a second, and each
 fifth at the latest for more than a second after it asked for the pending requests: after ten that didn't ask the supervisor gives up.
 
-Now and then the supervisor is stopped while its server is killed, and a copy of the store and its log, as the dead server left them, is
+Now and then the supervisor is stopped while its server is killed, and a copy of the store's files, as the dead server left them, is
 read by SQL: each writer's tree is the model's before the step that it waits in or after it. Now and then the writers pause, and
 the whole tree is compared, as the mount shows it, and parts of it as the program's `ls` and `cat` do, while servers are killed."""
 import copy
@@ -57,7 +57,7 @@ class Run:
         try:
             if not self.end(server):
                 return False
-            for part in "", "-wal", "-shm":
+            for part in "", "-wal", "-data", "-shm":
                 copy_if_there(f"{self.store}{part}", f"left{part}")
             waits = [writer.snapshot() for writer in self.writers]
         finally:

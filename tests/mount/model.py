@@ -8,6 +8,8 @@ import subprocess
 from dataclasses import dataclass, field
 from typing import NamedTuple, Optional
 
+from lib.pieces import read_pieces
+
 BLOCK = 4096
 
 
@@ -190,8 +192,10 @@ def tree_of_mount(top):
 
 
 def content_in(store, node, size):
-    """A file's bytes: a block without a row is zeros, and bytes past the size are none of it."""
+    """A file's bytes: a block without a row and without a piece is zeros, and bytes past the size are none of it."""
     data = bytearray(-(-size // BLOCK) * BLOCK)
+    for _, block, piece in read_pieces(store, node):
+        data[BLOCK * block:BLOCK * block + len(piece)] = piece
     for block, piece in store.execute("SELECT block, bytes FROM blocks WHERE node = ?", (node,)):
         if BLOCK * block >= size:
             raise AssertionError(f"node {node}: block {block} lies past the size, {size}")

@@ -293,10 +293,10 @@ number_in() {
   expr "$(cat "$1")" + 0
 }
 
-# The copy is sound, is one file of mode 600, mounts, and holds a state between: is_backup COPY LEAST MOST
+# The copy is sound, is one file of mode 600, but for its contents, mounts, and holds a state between: is_backup COPY LEAST MOST
 is_backup() {
   local first second
-  expect "it is one file" [ "$(find . -maxdepth 1 \( -name "$1*" -o -name ".fusekeep*" \) | wc -l)" -eq 1 ] || return 1
+  expect "it is one file" [ "$(find . -maxdepth 1 \( -name "$1*" -o -name ".fusekeep*" \) ! -name "$1-data" | wc -l)" -eq 1 ] || return 1
   expect "its mode" [ "$(stat -c %a "$1")" = 600 ] || return 1
   if command -v sqlite3 >/dev/null; then
     expect "it is sound" [ "$(sqlite3 "$1" "PRAGMA integrity_check")" = ok ] || return 1
@@ -364,7 +364,7 @@ os.chdir("folder")
 print("begun", flush=True)
 names = []
 while not names:
-    names = [name for name in os.listdir() if name.startswith(".fusekeep-backup-")]
+    names = sorted(name for name in os.listdir() if name.startswith(".fusekeep-backup-"))
 os.rename(names[0], "stolen")
 os.symlink("../victim/empty", names[0])' >swapper &
   record $!

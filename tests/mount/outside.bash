@@ -192,7 +192,7 @@ removed_store() {
   await 10 grep -q "/store was removed while it was mounted: until its server ends, .* has its log" log || return 1
   mkdir mnt/after || return 1
   cp "$(grep -o '/proc/[0-9]*/fd/[0-9]* has its bytes' log | cut -d ' ' -f 1)" copy || return 1
-  cp "$(grep -o '/proc/[0-9]*/fd/[0-9]* has its log' log | cut -d ' ' -f 1)" copy-wal || return 1
+  cp "$(grep -o '/proc/[0-9]*/fd/[0-9]* has its log' log | cut -d ' ' -f 1)" copy-wal && copy_contents store copy || return 1
   kill -KILL "$(server_by_parent)"
   ended 1 || return 1
   expect "it says why" grep -q "gave up: .*/store was removed" log || return 1

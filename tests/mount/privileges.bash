@@ -75,10 +75,10 @@ owners() {
   expect "it says why" grep -qx "fusekeep-mount: $PWD/closed can't be read by the owner of $PWD/closed/store (user 65534), as whom its servers run" line
 }
 
-# An engine opens the store and its log, and no other file. Other calls of the system than its own are refused.
+# An engine opens the store, its log and its contents, and no other file. Other calls of the system than its own are refused.
 confined() {
   "${CC:-cc}" -std=c11 -O2 -Wall -Wextra -Wpedantic -Werror -o prober "$here/prober.c" && touch store-other || return 1
-  refuses 3 "store=0 log=0 other=13 new=13 passwd=13 self=13 execve=38 fork=38 socket=38 kill=38 unlink=38 prctl=38 suid=1 readable=1 owner=1 signal=1 mode=0 code=1" \
+  refuses 3 "store=0 log=0 data=0 other=13 new=13 passwd=13 self=13 execve=38 fork=38 socket=38 kill=38 unlink=38 prctl=38 suid=1 readable=1 owner=1 signal=1 mode=0 code=1" \
     env FUSEKEEP=./prober "$program" store
 }
 

@@ -24,6 +24,7 @@ static int error_beside(const char *store, const char *suffix, int flags) {
 int main(int argc, char **argv) {
   if (argc < 4) return 1;
   fprintf(stderr, "store=%d log=%d", error_beside(argv[3], "", O_RDWR), error_beside(argv[3], "-wal", O_RDWR));
+  fprintf(stderr, " data=%d", error_beside(argv[3], "-data", O_RDWR));
   fprintf(stderr, " other=%d new=%d", error_beside(argv[3], "-other", O_RDONLY), error_beside(argv[3], "-new", O_WRONLY | O_CREAT));
   fprintf(stderr, " passwd=%d self=%d", error_of(open("/etc/passwd", O_RDONLY)), error_of(open("/proc/self/mem", O_RDWR)));
   fprintf(stderr, " execve=%d fork=%d", error_of(execl("/bin/true", "true", NULL)), error_of(fork()));

@@ -64,14 +64,14 @@ is_locked() {
   grep -q ":$(stat -c %i "$1") " /proc/locks
 }
 
-# A server that was started by hand holds the store.
+# A server that was started by hand holds the store. It makes a data file for a plain store, too, which stays empty and goes when it ends.
 held_store() {
   mkfifo silence
   "$engine" serve --db store --fresh <silence >answers 2>counts &
   local server=$!
   record "$server"
   exec 9>silence
-  await 120 is_locked store || return 1
+  await 120 is_locked store && await 120 [ -e store-data ] || return 1
   refuses 1 "fusekeep-mount: store is held by process $server .fusekeep., another server or a program that has it open" "$program" store || return 1
   "$engine" serve --db store --resume </dev/null 2>line
   expect "the engine's status is 3" [ $? -eq 3 ] || return 1
@@ -80,6 +80,14 @@ held_store() {
   wait "$server"
   expect "the first server ends well" [ $? -eq 0 ] || return 1
   start store mnt log && unmount_and_end mnt
+}
+
+# An engine has /dev/null as its input. Where the caller can't open it, none is started.
+null_of_root() {
+  touch null && chmod 600 null && mkdir own && chown 65534:65534 own || return 1
+  # shellcheck disable=SC2016
+  refuses 1 "fusekeep-mount: /dev/null: Permission denied" \
+    unshare --mount sh -c 'mount --bind null /dev/null && exec "$@"' - $user "$program" own/store
 }
 
 # A file, a folder and a file system that can't be written.

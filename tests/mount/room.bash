@@ -172,32 +172,54 @@ filled_by_others() {
   record "$writer"
   await 60 [ -e mnt/4 ] && sleep 1 || return 1
   expect "a file is removed beside one that is made" timeout 30 rm mnt/3 && expect "the writer still waits" kill -0 "$writer" || return 1
-  rm disk/filler disk/filler-too && await 60 isnt_running "$writer" && yes | head -c 16000000 | cmp - mnt/4 || return 1
+  rm disk/filler disk/filler-too && await 240 isnt_running "$writer" && yes | head -c 16000000 | cmp - mnt/4 || return 1
   expect "files that stayed are there" [ "$(ls mnt | xargs)" = "4 waits" ] && unmount_and_end mnt && umount disk
 }
 
-# A file that needs more room for its removal than the reserve has: its `rm` waits, and files of other directories are removed. Another one
-# is made shorter by steps, and then it is removed.
+# Gives a file of an unmounted store so many pieces of one block of zeros, with holes between them: add_pieces STORE NAME COUNT
+add_pieces() {
+  local node
+  node=$(sqlite3 "$1" "SELECT child FROM entries WHERE name = CAST('$2' AS BLOB)") && sqlite3 "$1" >/dev/null "PRAGMA journal_mode = memory;
+    INSERT INTO pieces SELECT $node, 2 * value, 1, 0, 0 FROM (WITH RECURSIVE n (value) AS (VALUES (0) UNION ALL SELECT value + 1 FROM n
+      WHERE value + 1 < $3) SELECT value FROM n);
+    UPDATE nodes SET written = $3, size = $3 * 8192 WHERE node = $node;
+    UPDATE meta SET v = v + $3 WHERE k = 14;
+    PRAGMA journal_mode = wal;"
+}
+
+# Two files need more room for their removal than there is: some 2.6 and 1.9 MB for the log. The `rm` of one waits. The other is made shorter by
+# steps, and then it is removed. Writes go on meanwhile, beside the call that waits, which is tried again when there is more room.
 large_removals() {
-  options=size=1G
-  mkdir disk && mount -t tmpfs -o size=240m none disk && start disk/store mnt log && mkdir mnt/one mnt/other || return 1
-  dd if=/dev/urandom of=mnt/one/large bs=1M count=80 status=none && cp mnt/one/large mnt/other && fill disk/filler || return 1
+  options=size=2G
+  mkdir disk && mount -t tmpfs -o size=8m none disk && start disk/store mnt log-before && mkdir mnt/one mnt/other || return 1
+  : >mnt/one/large && : >mnt/other/long && stop_and_end || return 1
+  add_pieces disk/store large 80000 && add_pieces disk/store long 60000 && start disk/store mnt log || return 1
+  fill disk/filler && truncate -s -256K disk/filler || return 1
   rm mnt/one/large &
   local remover=$! length
   record "$remover"
-  await 120 grep -q 'UNLINK .* "large" needs more room than there is: it waits' log || return 1
-  for length in 50M 25M 0; do
-    expect "the other is made shorter, to $length" timeout 60 truncate -s "$length" mnt/other/large || return 1
+  await 240 grep -q 'UNLINK .* "large" needs more room than there is: it waits' log || return 1
+  expect "calls that take room wait" has_lines 0 "room again" || return 1
+  for length in 360M 240M 120M 0; do
+    expect "the other is made shorter, to $length" timeout 120 truncate -s "$length" mnt/other/long || return 1
   done
-  expect "it is removed" timeout 60 rm mnt/other/large && expect "the first waits" kill -0 "$remover" && rm disk/filler || return 1
-  await 120 isnt_running "$remover" && expect "both are gone" [ -z "$(ls -A mnt/one)$(ls -A mnt/other)" ] && unmount_and_end mnt && umount disk
+  expect "it is removed" timeout 60 rm mnt/other/long && expect "a write goes on" write_in 120 mnt/other/new || return 1
+  expect "the first waits" kill -0 "$remover" && expect "it was tried once" has_lines 1 "needs more room than there is" || return 1
+  rm disk/filler && await 240 isnt_running "$remover" || return 1
+  expect "it was tried again" has_lines 1 "calls that need more than there was are tried again" || return 1
+  expect "both are gone" [ "$(find mnt -type f)" = mnt/other/new ] && unmount_and_end mnt && umount disk
 }
 
-# A disk that has less room than it shows: the reserve isn't written again and again.
+# Writes a file in so many seconds: write_in SECONDS FILE
+write_in() {
+  timeout "$1" sh -c 'yes | head -c 200000 >"$1"' sh "$2" && [ "$(stat -c %s "$2")" -eq 200000 ]
+}
+
+# A disk that has less room than it shows, since no server runs beside the reserve: that isn't written again and again.
 false_room() {
   local count
   make_engine full-engine <<END
-if [ "\$4" = --resume ] && [ -e "$PWD/full" ]; then
+if [ "\$4" = --resume ] && [ -e "$PWD/full" ] && [ -e "$PWD/store-reserve" ]; then
   sleep 0.3
   echo "$PWD/store: no room left" >&2
   exit 1

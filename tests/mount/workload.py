@@ -130,7 +130,8 @@ class Worker:
             return
         fd, data = self.held[self.random.randrange(len(self.held))]
         place, size = self.random.randrange(len(data) + 1), self.random.randrange(1, 9000)
-        check(os.pread(fd, size, place) == data[place:place + size], "a held file: other bytes")
+        found, wanted = os.pread(fd, size, place), data[place:place + size]
+        check(found == wanted, f"a held file: other bytes, {len(found)} of {len(wanted)} at {place}")
         if self.random.random() < 0.2:
             self.held = [entry for entry in self.held if entry[0] != fd]
             os.close(fd)

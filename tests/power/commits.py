@@ -5,6 +5,12 @@ HEADER, SALT, GATE, PAGE_NUMBER = 32, 16, 8, 4
 COUNTED = b"\xff\0\0\0"  # the page number with which a commit begins that counts its zeros
 
 
+def is_upon_zeros(left, content):
+    """Whether each byte is 0 or new."""
+    sectors = [(left[at:at + disk.SECTOR], content[at:at + disk.SECTOR]) for at in range(0, len(content), disk.SECTOR)]
+    return all(byte in (0, new) for old, news in sectors if old != news for byte, new in zip(old, news))
+
+
 class Commits:
     """`found` has where each commit of the log begins, and its bytes up to the last one before zeros, once its gate was opened."""
 
@@ -35,7 +41,7 @@ class Commits:
             if left == content:
                 continue
             is_counted = content[:PAGE_NUMBER] == COUNTED
-            if is_counted and any(byte not in (0, new) for byte, new in zip(left, content)):
+            if is_counted and not is_upon_zeros(left, content):
                 return f"the commit at {start} lies upon bytes that are no zeros"
             if not is_counted and left[GATE] == image[SALT]:
                 return f"the gate of the commit at {start} is open, and it isn't whole"

@@ -3,18 +3,12 @@
 
     cuts.py TRACE LOG PROCESSES WAY COUNT SEED   makes COUNT cuts, and prints how many failed, and why
 
-After a cut the program must open the store, and the tree of each process must be the one after some of its steps: after all that had
-returned before the last fsync that returned began, and after all that had returned five seconds before the cut. What is left of the log
-must be right without its checksums, too.
+After a cut the program must open the store and find nothing wrong with it, and the tree of each process must be the one after some of its
+steps: after all that had returned before the last fsync that returned began, and after all that had returned five seconds before the cut.
+What is left of the log must be right without its checksums, too.
 
-WAY is `ordered`; `durable`, where all steps that had returned are there; `volatile`, where no flush is made; or a broken rule, which must
-fail: the flush that the rule wants is left out. With one of these cuts are made until one fails.
-
-    log       the log is not flushed before the store's file is written
-    store     the store's file is not flushed before the log begins again
-    header    the log's new header is not flushed
-    fsync     nothing is flushed for an fsync
-    time      nothing is flushed after five seconds"""
+WAY is `ordered`; `durable`, where all steps that had returned are there; `volatile`, where no flush is made; or a broken rule of rules.py,
+which must fail. With one of these cuts are made until one fails, and where a rule keeps contents whole, steps may be lost."""
 import bisect
 import os
 import pickle
@@ -25,13 +19,12 @@ import sys
 import tempfile
 
 from lib.folders import quick_folder
-from power import commits, disk, trace, tree
+from power import commits, disk, rules, trace, tree
 
 PROGRAM = os.environ["FUSEKEEP"]
 OWED = 5.0
 SLACK = float(os.environ.get("POWER_SLACK", "2"))  # seconds by which a flush that is due may be late on a busy machine
-BROKEN = ("log", "store", "header", "fsync", "time")
-NEAR = 12  # records before and after
+NEAR = 12  # records before and after one
 
 
 class Process:
@@ -53,8 +46,11 @@ class Process:
 
 class Cuts:
     def __init__(self, records, processes, way, seed):
-        self.records, self.processes, self.way, self.rng = records, processes, way, random.Random(f"{seed} {way}")
-        self.files = {trace.STORE: disk.File(), trace.LOG: disk.File()}
+        broken = rules.Broken(records, way)
+        self.records, self.marks = broken.records, broken.marks
+        self.processes, self.way, self.rng = processes, way, random.Random(f"{seed} {way}")
+        self.files = {trace.LOG: disk.File(), trace.STORE: disk.File(), trace.CONTENTS: disk.File()}
+        self.first_base = trace.first_base(self.records)
         self.commits = commits.Commits()
         fsyncs = sorted(pair for process in processes for pair in process.fsyncs)
         self.returned = [ended for ended, _ in fsyncs]
@@ -65,37 +61,25 @@ class Cuts:
     # ---- where to cut
 
     def places(self, count):
-        """The records after which the power is cut: a half anywhere, the others where the log is copied and begins again."""
+        """The records after which the power is cut: a half anywhere, the others where the log is copied and begins again, and where the data
+        file is cut. Of a broken rule, where that can be seen."""
         begun = min(process.began[0] for process in self.processes)
-        known = [at for at, record in enumerate(self.records) if record.kind in "PTZF" and record.time >= begun and self.has_base(at)]
-        near = [at for at in known if self.is_near(at, lambda record: record.file == trace.STORE)]
-        ends = [at for at in near if self.is_near(at, lambda record: record.file == trace.LOG, NEAR // 2)]
+        known = [at for at, record in enumerate(self.records) if record.kind in "PTZFt" and record.time >= begun and at > self.first_base]
         if self.way == "header":
-            known = near = ends = [at for at in known if self.is_near(at, trace.Record.begins_log, 10)]
-        pick = lambda places, share: [self.rng.choice(places or known) for _ in range(share)]
-        return sorted(pick(known, count - count // 2) + pick(near, count // 6) + pick(ends, count // 2 - count // 6))
+            known = self.those_near(known, trace.Record.begins_log, 10)
+        if self.way in rules.SPOILING:
+            known = [at for at in self.marks if at > self.first_base]
+        copied = self.those_near(known, lambda record: record.file == trace.STORE, NEAR)
+        begins = self.those_near(copied, lambda record: record.file == trace.LOG, NEAR // 2)
+        cut = self.those_near(known, lambda record: record.file == trace.CONTENTS and record.kind == "T", NEAR)
+        shares = {1: copied, 2: begins, 3: begins, 4: cut, 5: cut}
+        return sorted(self.rng.choice(shares.get(number % 10) or known) for number in range(count)) if known else []
 
-    def has_base(self, at):
-        return at > self.first_base
-
-    @property
-    def first_base(self):
-        return next(at for at, record in enumerate(self.records) if record.kind == "B" and record.file == trace.LOG)
-
-    def is_near(self, at, wanted, distance=NEAR):
-        return any(wanted(record) for record in self.records[max(0, at - distance):at + distance])
+    def those_near(self, places, wanted, distance):
+        near = {place for at, record in enumerate(self.records) if wanted(record) for place in range(at - distance + 1, at + distance + 1)}
+        return [at for at in places if at in near]
 
     # ---- what is flushed
-
-    def is_left_out(self, at):
-        """Whether the broken rule, or the way, leaves a flush out."""
-        record, following = self.records[at], self.records[at + 1] if at + 1 < len(self.records) else None
-        before = next((self.records[place] for place in range(at - 1, max(0, at - 4), -1) if self.records[place].kind == "P"), None)
-        begins = before is not None and before.begins_log()
-        of_log, for_store = record.file == trace.LOG, following is not None and following.file == trace.STORE and following.writes()
-        for_fsync = following is not None and following.kind == "Y"
-        return {"log": of_log and for_store, "store": not of_log, "header": of_log and begins, "fsync": of_log and for_fsync,
-                "time": of_log and not (for_store or for_fsync or begins), "volatile": True}.get(self.way, False)
 
     def take(self, at):
         record = self.records[at]
@@ -107,7 +91,7 @@ class Cuts:
             self.commits.begin(record.content)
         elif record.file == trace.LOG and record.writes():
             self.commits.note(record)
-        if record.kind == "F" and not self.is_left_out(at):
+        if record.kind == "F":
             self.files[record.file].flush()
 
     # ---- what is left
@@ -118,18 +102,20 @@ class Cuts:
         fsynced = bisect.bisect_right(process.ended, self.begun[place]) if place >= 0 else 0
         old = bisect.bisect_right(process.ended, moment - int((OWED + SLACK) * 1e9))
         done = bisect.bisect_right(process.ended, moment)
-        return done if self.way == "durable" else max(fsynced, old), bisect.bisect_right(process.began, moment), done
+        least = done if self.way == "durable" else 0 if self.way in rules.SPOILING else max(fsynced, old)
+        return least, bisect.bisect_right(process.began, moment), done
 
     def open(self, store):
-        """Opens what is left as a server does, and each tenth time as `store` does. Returns why that fails."""
-        commands = [["replay", "--db", store, "--at", "2000000000", "/dev/null"]]
-        if self.made % 10 == 0:
-            commands.insert(0, ["store", store])
-        for words in commands:
+        """Looks at what is left as `verify` does, and then opens it as a server does. Returns why that fails."""
+        for words in ["verify", store], ["replay", "--db", store, "--at", "2000000000", "/dev/null"]:
             done = subprocess.run([PROGRAM, *words], capture_output=True, text=True, check=False)
             if done.returncode != 0:
-                return f"{words[0]}: status {done.returncode}, {done.stderr.strip()[:200]}"
+                return f"{words[0]}: status {done.returncode}, {done.stdout.strip()[:200]} {done.stderr.strip()[:200]}"
         return None
+
+    def fault_of_log(self, log):
+        """What is wrong with a log. With a flush that comes late, the library takes zeros for flushed that aren't yet."""
+        return None if self.way in rules.SPOILING else self.commits.fault(log)
 
     def compare(self, store, moment):
         """Why the trees aren't what they may be, or None."""
@@ -145,15 +131,11 @@ class Cuts:
 
     def cut(self, at, folder):
         moment = self.records[at + 1].time if at + 1 < len(self.records) else self.records[at].time
-        ways = [self.rng.choice(disk.WAYS)]
-        ways.append(ways[0] if self.rng.random() < 0.5 else self.rng.choice(disk.WAYS))
+        images, ways = disk.cut_all(self.rng, self.files)
         store = f"{folder}/store"
-        images = [self.files[name].cut(self.rng, way) for name, way in zip((trace.LOG, trace.STORE), ways)]
         self.unflushed += bool(self.files[trace.LOG].pending)
-        for image, path in zip(images, (f"{store}-wal", store)):
-            with open(path, "wb") as file:
-                file.write(image)
-        why = self.commits.fault(images[0]) or self.open(store) or self.compare(store, moment)
+        write_images(images, store)
+        why = self.fault_of_log(images[trace.LOG]) or self.open(store) or self.compare(store, moment)
         self.made += 1
         if why:
             self.failures.append(f"after call {at}, {' and '.join(ways)}: {why}")
@@ -165,8 +147,31 @@ class Cuts:
             while places and places[0] == at:
                 places.pop(0)
                 self.cut(at, folder)
-                if self.failures and (self.way in BROKEN or self.way == "volatile"):
+                if self.failures and (self.way in rules.RULES or self.way == "volatile"):
                     return
+
+
+def uses_of_space(records):
+    """How often contents are written, how often of that where others were, and how often the data file is cut short."""
+    size = written = again = short = 0
+    for record in records:
+        if record.file != trace.CONTENTS or record.kind not in "BPT":
+            continue
+        written += record.kind == "P"
+        again += record.kind == "P" and record.at < size
+        short += record.kind == "T" and record.at < size
+        end = record.at + len(record.content)
+        size = max(size, end) if record.kind == "P" else end
+    return f"{written} pieces written, {again} of them in freed space, {short} times the data file got shorter"
+
+
+def write_images(images, store):
+    """Contents that were never written have no file."""
+    for name, suffix in (trace.STORE, ""), (trace.LOG, "-wal"), (trace.CONTENTS, "-data"):
+        with open(store + suffix, "wb") as file:
+            file.write(images[name])
+    if not images[trace.CONTENTS]:
+        os.remove(f"{store}-data")
 
 
 def load(log, processes):
@@ -177,7 +182,8 @@ def load(log, processes):
 
 def main():
     path, log, processes, way, count, seed = sys.argv[1:]
-    cuts = Cuts(trace.read(path), list(load(log, int(processes))), way, seed)
+    records = trace.read(path)
+    cuts = Cuts(records, list(load(log, int(processes))), way, seed)
     folder = tempfile.mkdtemp(prefix="cuts-", dir=quick_folder())
     try:
         cuts.make(int(count), folder)
@@ -186,7 +192,7 @@ def main():
     for failure in cuts.failures[:3]:
         print(f"{way}: {failure}")
     print(f"{way}: {cuts.made} cuts, {cuts.unflushed} of them with calls of the log that weren't flushed, "
-          f"{cuts.older} trees without their last steps, {len(cuts.failures)} failed")
+          f"{cuts.older} trees without their last steps, {uses_of_space(records)}, {len(cuts.failures)} failed")
     sys.exit(bool(cuts.failures))
 
 

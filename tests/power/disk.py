@@ -128,3 +128,10 @@ def chosen(rng, way, sectors, calls):
         kept = rng.sample(sorted(sectors), min(len(sectors), rng.choice([1, 2, 5, 20])))
         return {sector: rng.choice(sectors[sector])[1] for sector in kept}
     return {}
+
+
+def cut_all(rng, files):
+    """The images that a cut of power leaves, and the ways in which they were chosen: of half of the cuts one way."""
+    way = rng.choice(WAYS)
+    ways = [way if rng.random() < 0.5 else rng.choice(WAYS) for _ in files]
+    return {name: file.cut(rng, way) for (name, file), way in zip(files.items(), ways)}, ways

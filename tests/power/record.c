@@ -1,4 +1,4 @@
-/* Preloaded into a server before the library of fusekeep-mount: records each call on the store's file and its log, with its bytes, in the
+/* Preloaded into a server before the library of fusekeep-mount: records each call on the store's files, with its bytes, in the
  * file of the descriptor that POWER_TRACE names, and that a FSYNC or FSYNCDIR was answered. The library makes these calls by syscall(2),
  * which is caught here. */
 #define _GNU_SOURCE
@@ -16,7 +16,7 @@
 #include <time.h>
 #include <unistd.h>
 
-enum { MOST_FILES = 1024, ARGUMENTS = 6, MOST_SYNCS = 64, LARGEST_FILE = 1 << 26 };
+enum { MOST_FILES = 1024, ARGUMENTS = 6, MOST_SYNCS = 64, LARGEST_FILE = 1 << 27 };
 
 /* A record, before its bytes. power/trace.py reads it. */
 struct record {
@@ -26,10 +26,10 @@ struct record {
   uint64_t at, time;
 };
 
-static char kinds[MOST_FILES];     /* of descriptors: S the store's file, L its log, 0 others */
+static char kinds[MOST_FILES];     /* of descriptors: S the store's file, L its log, C its contents, 0 others */
 static uint64_t syncs[MOST_SYNCS]; /* the ids of FSYNCs that came */
 static size_t next_sync;
-static bool has_base;
+static char based[4];              /* the kinds whose base is recorded */
 
 static long call(long number, const long *words) {
   static long (*next)(long, ...);
@@ -49,17 +49,14 @@ static void put(char kind, char file, uint64_t at, const void *bytes, size_t siz
   errno = error;
 }
 
-/* What both files hold once a server has flushed them. */
-static void put_base(void) {
+/* What a file holds once a server has flushed it. */
+static void put_base(long file) {
   char *bytes = malloc(LARGEST_FILE);
-  for (int file = 0; file < MOST_FILES; file++) {
-    if (!kinds[file]) continue;
-    ssize_t size = pread(file, bytes, LARGEST_FILE, 0);
-    if (size < 0 || size == LARGEST_FILE) abort();
-    put('B', kinds[file], 0, bytes, (size_t)size);
-  }
+  ssize_t size = pread((int)file, bytes, LARGEST_FILE, 0);
+  if (size < 0 || size == LARGEST_FILE) abort();
+  put('B', kinds[file], 0, bytes, (size_t)size);
   free(bytes);
-  has_base = true;
+  based[strlen(based)] = kinds[file];
 }
 
 static void note_open(const char *path, long flags, long file) {
@@ -68,7 +65,8 @@ static void note_open(const char *path, long flags, long file) {
   if (file < 0 || file >= MOST_FILES) return;
   kinds[file] = 0;
   if (!store || flags & O_PATH || strncmp(path, store, length) != 0) return;
-  kinds[file] = path[length] == '\0' ? 'S' : strcmp(path + length, "-wal") == 0 ? 'L' : 0;
+  path += length;
+  kinds[file] = *path == '\0' ? 'S' : strcmp(path, "-wal") == 0 ? 'L' : strcmp(path, "-data") == 0 ? 'C' : 0;
 }
 
 static void note_message(const void *message, long size) {
@@ -84,9 +82,9 @@ static bool is_sync(uint64_t id) {
   return false;
 }
 
-static void note_flush(char file, bool is_done) {
-  put(is_done ? 'F' : 'f', file, 0, NULL, 0);
-  if (is_done && file == 'S' && !has_base) put_base();
+static void note_flush(long file, bool is_done) {
+  put(is_done ? 'F' : 'f', kinds[file], 0, NULL, 0);
+  if (is_done && !strchr(based, kinds[file])) put_base(file);
 }
 
 static char kind_of(long file) {
@@ -97,7 +95,7 @@ static void note_after(long number, const long *words, long done) {
   char kind = kind_of(words[0]);
   if (number == SYS_openat) note_open((const char *)words[1], words[2], done);
   if (number == SYS_read && words[0] == STDIN_FILENO) note_message((const void *)words[1], done);
-  if ((number == SYS_fsync || number == SYS_fdatasync) && kind) note_flush(kind, done == 0);
+  if ((number == SYS_fsync || number == SYS_fdatasync) && kind) note_flush(words[0], done == 0);
   if (number == SYS_fallocate && kind && done == 0) put('Z', kind, (uint64_t)words[2], &words[3], sizeof words[3]);
 }
 

@@ -1,4 +1,4 @@
-"""What power/record.c has recorded: the calls on the store's file and its log."""
+"""What power/record.c has recorded: the calls on the store's file, its log and its contents."""
 import glob
 import mmap
 import os
@@ -6,7 +6,7 @@ import struct
 
 HEAD = struct.Struct("=ccHLQQ")
 
-STORE, LOG = "S", "L"
+STORE, LOG, CONTENTS, DEVICE = "S", "L", "C", "D"
 
 
 class Record:
@@ -17,7 +17,7 @@ class Record:
         self.kind, self.file, self.at, self.time, self.content = kind, file, at, time, content
 
     def writes(self):
-        return self.kind in "PZT" and self.file in (STORE, LOG)
+        return self.kind in "PZT" and self.file in (STORE, LOG, CONTENTS)
 
     def begins_log(self):
         """Whether this writes to the header of the log."""
@@ -43,3 +43,9 @@ def read_of(path):
 def read(path):
     """The records of all servers, whose files have the time of their begin after their names."""
     return [record for part in sorted(glob.glob(f"{path}.*")) if os.path.getsize(part) for record in read_of(part)]
+
+
+def first_base(records):
+    """The first record from which on it is known what each file held."""
+    files = {record.file for record in records if record.writes()} | {STORE, LOG}
+    return max(next(at for at, record in enumerate(records) if record.kind == "B" and record.file == name) for name in files)

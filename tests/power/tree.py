@@ -1,13 +1,51 @@
-"""The trees of the processes of power/work.py: after each step, and as a store has them. A tree is a sum of its files, so that thousands
-of states can be compared."""
+"""The trees of the processes of power/work.py: after each step, and as a store has them. A tree is a sum of its files, and a file one of its
+blocks, so that thousands of states can be compared."""
 import hashlib
 import sqlite3
 
+from lib.pieces import read_pieces
+
 BLOCK = 4096
+ZEROS = bytes(BLOCK)
 
 
-def sum_of(name, content):
-    return int.from_bytes(hashlib.sha1(name.encode() + b"\0" + content).digest()[:16], "big")
+def sum_of(*parts):
+    return int.from_bytes(hashlib.sha1(b"\0".join(parts)).digest()[:16], "big")
+
+
+class Content:
+    """A file's size, and its blocks, each with zeros up to its end. One of zeros isn't kept."""
+
+    def __init__(self, size=0):
+        self.size, self.blocks, self.sums, self.sum = size, {}, {}, 0
+
+    def put(self, number, block):
+        self.sum ^= self.sums.pop(number, 0)
+        self.blocks.pop(number, None)
+        if block != ZEROS:
+            self.blocks[number], self.sums[number] = block, sum_of(b"%d" % number, block)
+            self.sum ^= self.sums[number]
+
+    def write(self, place, piece):
+        """Bytes that lie in one block."""
+        number, at = divmod(place, BLOCK)
+        before = self.blocks.get(number, ZEROS)
+        self.put(number, before[:at] + piece + before[at + len(piece):])
+        self.size = max(self.size, place + len(piece))
+
+    def resize(self, size):
+        number, left = divmod(size, BLOCK)
+        for cut in [block for block in self.blocks if block > number]:
+            self.put(cut, ZEROS)
+        self.put(number, self.blocks.get(number, ZEROS)[:left].ljust(BLOCK, b"\0"))
+        self.size = size
+
+    def named(self, name):
+        return sum_of(name.encode(), b"file", b"%d" % self.size, b"%d" % self.sum)
+
+
+def sum_of_directory(name):
+    return sum_of(name.encode(), b"directory")
 
 
 class Tree:
@@ -21,7 +59,7 @@ class Tree:
             self.sum ^= self.sums.pop(name, 0)
             if name in self.paths:
                 content = self.paths[name]
-                self.sums[name] = sum_of(name, b"directory" if content is None else b"file" + content)
+                self.sums[name] = sum_of_directory(name) if content is None else content.named(name)
                 self.sum ^= self.sums[name]
 
     def step(self, kind, name="", *words):
@@ -34,16 +72,13 @@ class Tree:
         self.paths[name] = None
 
     def create(self, name):
-        self.paths[name] = b""
+        self.paths[name] = Content()
 
     def write(self, name, place, content):
-        before = self.paths[name]
-        before += bytes(max(0, place - len(before)))
-        self.paths[name] = before[:place] + content + before[place + len(content):]
+        self.paths[name].write(place, content)
 
     def truncate(self, name, size):
-        before = self.paths[name]
-        self.paths[name] = before[:size] + bytes(max(0, size - len(before)))
+        self.paths[name].resize(size)
 
     def rename(self, old, new):
         self.paths[new] = self.paths.pop(old)
@@ -77,7 +112,7 @@ def sums_after(steps):
 
 
 class Store:
-    """The rows of a store."""
+    """The rows of a store. Where a block has a row and lies in a piece, the row counts."""
 
     def __init__(self, path):
         rows = sqlite3.connect(f"file:{path}?mode=ro&immutable=1", uri=True)
@@ -85,17 +120,19 @@ class Store:
         self.entries, self.blocks = {}, {}
         for directory, name, child in rows.execute("SELECT dir, name, child FROM entries"):
             self.entries.setdefault(directory, []).append((name.decode(), child))
+        for node, first, content in read_pieces(rows):
+            blocks = {first + at // BLOCK: content[at:at + BLOCK] for at in range(0, len(content), BLOCK)}
+            self.blocks.setdefault(node, {}).update(blocks)
         for node, block, content in rows.execute("SELECT node, block, bytes FROM blocks"):
-            self.blocks.setdefault(node, []).append((block, content))
+            self.blocks.setdefault(node, {})[block] = content
         rows.close()
 
     def content(self, node):
         size = self.nodes[node][1]
-        content = bytearray(size)
-        for block, piece in self.blocks.get(node, ()):
-            piece = piece[:max(0, size - block * BLOCK)]
-            content[block * BLOCK:block * BLOCK + len(piece)] = piece
-        return bytes(content)
+        content = Content(size)
+        for number, block in self.blocks.get(node, {}).items():
+            content.put(number, block[:max(0, size - number * BLOCK)].ljust(BLOCK, b"\0"))
+        return content
 
     def sum(self, top):
         """The sum of the tree below an entry of the root, or None."""
@@ -106,6 +143,6 @@ class Store:
         while left:
             path, node = left.pop()
             is_directory = self.nodes[node][0] >> 12 == 4
-            total ^= sum_of(path, b"directory" if is_directory else b"file" + self.content(node))
+            total ^= sum_of_directory(path) if is_directory else self.content(node).named(path)
             left += [(f"{path}/{name}", child) for name, child in self.entries.get(node, ())] if is_directory else []
         return total

@@ -1,9 +1,11 @@
 #!/usr/bin/env python3
 """Processes that work on a mount, each in a directory of its own, by steps that are one request each.
 
-    work.py MOUNT LOG PROCESSES SECONDS SEED PACE [SYNCS]   writes the steps of each process, with their times, into LOG.NUMBER
+    work.py MOUNT LOG PROCESSES SECONDS SEED PACE SYNCS FREED   writes the steps of each process, with their times, into LOG.NUMBER
 
-PACE is the mean pause between two steps, in seconds. SYNCS is how many of 87 steps are fsyncs (2), and half as many are of directories."""
+PACE is the mean pause between two steps, in seconds. SYNCS is how many of 111 steps are fsyncs, and half as many are of directories.
+A process that has MOST_BYTES removes its newest files until it has FEWEST_BYTES. Where FREED isn't 0, it makes large files, too, and goes
+on after SECONDS until it has freed so many bytes."""
 import os
 import pickle
 import random
@@ -11,19 +13,23 @@ import sys
 import time
 
 STEPS = {"mkdir": 6, "create": 12, "write": 20, "append": 10, "truncate": 4, "rename": 10, "replace": 3, "unlink": 6, "rmdir": 3,
-         "fsync": 2, "fsync_directory": 1, "read": 10}
+         "large": 24, "fsync": 2, "fsync_directory": 1, "read": 10}
 MOST_DIRECTORIES, MOST_FILES, FEWEST_FILES, LARGEST = 30, 120, 5, 600000
 SIZES = (1, 100, 4096, 4096, 5000, 20000, 65536)
+BLOCK, PIECE, MOST_BLOCKS = 4096, 16, 64  # a WRITE of 16 whole blocks goes to the data file
+MOST_BYTES, FEWEST_BYTES = 18 << 20, 1 << 20  # more is freed than the 16 MiB after which a server looks for free space
+FILLS = 40
+LONGEST = 120  # seconds
 
 
 class Writer:
     """A process. `log` has its steps: what it was, when it began, when it had returned."""
 
-    def __init__(self, mount, number, seed, syncs):
+    def __init__(self, mount, number, seed, syncs, fills):
         self.rng = random.Random(f"{seed} {number}")
-        self.steps = STEPS | {"fsync": syncs, "fsync_directory": syncs / 2}
+        self.steps = STEPS | {"fsync": syncs, "fsync_directory": syncs / 2, "fill": FILLS if fills else 0}
         self.base = f"{mount}/own-{number}"
-        self.log, self.directories, self.files, self.names = [], [""], {}, 0
+        self.log, self.directories, self.files, self.names, self.freed = [], [""], {}, 0, 0
         self.do(("mkdir", ""), lambda: os.mkdir(self.base))
 
     def do(self, step, call):
@@ -48,15 +54,21 @@ class Writer:
             self.do(("mkdir", name), lambda: os.mkdir(self.path(name)))
             self.directories.append(name)
 
-    def create(self):
+    def make(self, content):
         if len(self.files) >= MOST_FILES:
             return
         name = self.new_name()
         file = self.do(("create", name), lambda: os.open(self.path(name), os.O_CREAT | os.O_EXCL | os.O_RDWR, 0o644))
         self.files[name] = 0
-        if self.rng.random() < 0.8:
-            self.put(file, name, 0, self.rng.randbytes(4096))
+        if content:
+            self.put(file, name, 0, content)
         os.close(file)
+
+    def create(self):
+        self.make(self.rng.randbytes(BLOCK) if self.rng.random() < 0.8 else b"")
+
+    def fill(self):
+        self.make(self.rng.randbytes(self.rng.randint(MOST_BLOCKS, 2 * MOST_BLOCKS) * BLOCK))
 
     def put(self, file, name, place, content):
         self.do(("write", name, place, content), lambda: os.pwrite(file, content, place))
@@ -77,6 +89,15 @@ class Writer:
         if name := self.any_file():
             self.write_at(name, self.files[name])
 
+    def large(self):
+        """Whole blocks, at the end of a file or upon what it has."""
+        if name := self.any_file():
+            blocks = self.files[name] // BLOCK
+            first = blocks if self.rng.random() < 0.8 and blocks * BLOCK < LARGEST else self.rng.randrange(blocks + 1)
+            file = os.open(self.path(name), os.O_RDWR)
+            self.put(file, name, first * BLOCK, self.rng.randbytes(self.rng.randint(PIECE, MOST_BLOCKS) * BLOCK))
+            os.close(file)
+
     def truncate(self):
         if name := self.any_file():
             size = self.rng.choice([0, 10, self.files[name] // 2, self.files[name] + 3000])
@@ -95,11 +116,22 @@ class Writer:
         if len(self.files) > 1:
             self.move(*self.rng.sample(list(self.files), 2))
 
+    def remove(self, name):
+        self.do(("unlink", name), lambda: os.unlink(self.path(name)))
+        return self.files.pop(name)
+
     def unlink(self):
         if len(self.files) > FEWEST_FILES:
-            name = self.any_file()
-            self.do(("unlink", name), lambda: os.unlink(self.path(name)))
-            del self.files[name]
+            self.remove(self.any_file())
+
+    def bytes(self):
+        return sum(self.files.values())
+
+    def clear(self):
+        """All that is removed is on the disk before, and no removal is."""
+        self.fsync()
+        while self.bytes() > FEWEST_BYTES and len(self.files) > 1:
+            self.freed += self.remove(list(self.files)[-1])
 
     def rmdir(self):
         name = self.rng.choice(self.directories)
@@ -127,24 +159,24 @@ class Writer:
             os.path.exists(self.path(f"{self.rng.choice(self.directories)}/absent"))
 
 
-def work(mount, log, number, seconds, seed, pace, syncs):
-    writer = Writer(mount, number, seed, syncs)
+def work(mount, log, number, seconds, seed, pace, syncs, freed):
+    writer = Writer(mount, number, seed, syncs, freed > 0)
     end = time.monotonic() + seconds
-    while time.monotonic() < end:
+    while time.monotonic() < end or (writer.freed < freed and time.monotonic() < end + LONGEST):
         step, = writer.rng.choices(list(writer.steps), writer.steps.values())
-        getattr(writer, step)()
+        getattr(writer, "clear" if writer.bytes() > MOST_BYTES else step)()
         time.sleep(pace and writer.rng.random() * 2 * pace)
     with open(f"{log}.{number}", "wb") as file:
         pickle.dump(writer.log, file)
 
 
 def main():
-    mount, log, processes, seconds, seed, pace, syncs = [*sys.argv[1:], "2"][:7]
+    mount, log, processes, seconds, seed, pace, syncs, freed = sys.argv[1:]
     children = []
     for number in range(int(processes)):
         child = os.fork()
         if child == 0:
-            work(mount, log, number, float(seconds), seed, float(pace), float(syncs))
+            work(mount, log, number, float(seconds), seed, float(pace), float(syncs), int(freed))
             os._exit(0)
         children.append(child)
     sys.exit(any([os.waitpid(child, 0)[1] for child in children]))

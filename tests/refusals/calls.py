@@ -28,13 +28,17 @@ class Sweep:
     more: str = ""
 
 
-# The ranges end beyond today's last places, which are some 375, 775, 100, and 3382. The gate tries each place of the commands, which are
-# few: only one of them is the room for a replay's answer.
+# What keepers.rt and everyday.rt of store_tests use.
+STORES = {"stores", "groups", "observations", "requests"}
+
+# The ranges end beyond today's last places, which are some 375, 775, 100, 3382, and between 5000 and 6000. The gate tries each place of
+# the commands, which are few: only one of them is the room for a replay's answer.
 SWEEPS = [
     Sweep("spec_tests", {"sessions": range(1, 481), "events": range(1, 961), "commands": range(1, 121)},
           {"sessions": 7, "events": 7, "commands": 1}, {"hex", "keepers", "links", "requests", "run", "texts"}),
     # The places before make the store and perform the first two requests. stores.py refuses such ones.
-    Sweep("store_tests", {"keepers": range(2751, 3701)}, {"keepers": 13}, set(), "fuse_session fuse_sim"),
+    Sweep("store_tests", {"keepers": range(2751, 3701), "everyday": range(2751, 6501)}, {"keepers": 13, "everyday": 61}, STORES,
+          "fuse_session fuse_sim"),
 ]
 
 ALLOCATE = """

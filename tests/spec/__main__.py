@@ -72,7 +72,8 @@ def wanted_in_file(chain, lots, left):
     case = chain[-1]
     counted = re.sub(r"left (.*) records=.*", r"counted \1", case.left)
     said = [left] * bool(left) + last_said(chain, "settings") + [case.blocks] * bool(case.blocks)
-    return ["ok", "version=2", "answers=0", f"lots={lots}", counted, *said]
+    version = ["version=3"] if "everyday" in words_of_store(chain) else ["version=2", "answers=0"]
+    return ["ok", *version, f"lots={lots}", counted, *said]
 
 
 def left_by_serve(case):

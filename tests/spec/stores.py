@@ -19,10 +19,19 @@ def run_lives(program, way, work, new):
     return ran
 
 
+def has_answers(work):
+    """Whether the store's file has a table of answers."""
+    sql = "SELECT count(*) FROM sqlite_schema WHERE name = 'answers'"
+    return subprocess.run(["sqlite3", f"{work}/store", sql], capture_output=True, text=True, check=False).stdout != "0\n"
+
+
 def look_into(work):
     """The content of the store's file, in lines."""
     with open(f"{HERE}/left.sql", encoding="utf-8") as sql:
-        shell = subprocess.run(["sqlite3", f"{work}/store"], stdin=sql, capture_output=True, text=True, check=False)
+        text = sql.read()
+    if has_answers(work):
+        text = text.replace("-- answers\n", "SELECT 'answers=' || count(*) FROM answers;\n")
+    shell = subprocess.run(["sqlite3", f"{work}/store"], input=text, capture_output=True, text=True, check=False)
     return (shell.stdout + shell.stderr).splitlines()
 
 

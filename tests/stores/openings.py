@@ -25,12 +25,14 @@ OPENINGS = (["replay", "--db", "STORE", "--at", "2000", "/dev/null"], ["serve", 
 
 @dataclass
 class Case:
-    """A database: the text that makes it, the statements that change it, and the line that refuses it; an empty line opens it."""
+    """A database: the text that makes it, the statements that change it, and the line that refuses it; an empty line opens it. Beside it may
+    lie an empty data file, of the store with this number."""
     name: str
     text: str
     changes: tuple
     refused: str
     openings: tuple = OPENINGS
+    number: int = 0
 
 
 def of_version(number):
@@ -41,7 +43,7 @@ STRANGE = """CREATE TABLE notes (id INTEGER PRIMARY KEY, note TEXT); CREATE INDE
     CREATE VIEW long_notes AS SELECT * FROM notes WHERE length(note) > 3;
     INSERT INTO notes VALUES (1, 'here'), (2, 'there'); PRAGMA user_version = 7"""
 # A store of a later version may have any tables beside `meta`.
-NEWER = ("UPDATE meta SET v = 3 WHERE k = 1", "ALTER TABLE kept ADD COLUMN at INTEGER NOT NULL DEFAULT 0",
+NEWER = ("UPDATE meta SET v = 4 WHERE k = 1", "ALTER TABLE kept ADD COLUMN at INTEGER NOT NULL DEFAULT 0",
          "CREATE TABLE links (node INTEGER PRIMARY KEY, target BLOB NOT NULL) STRICT", "INSERT INTO links VALUES (7, x'612f62')",
          "INSERT INTO lots VALUES (1)", "INSERT INTO kept VALUES (2, 1, 0, x'00', 5)")
 FULL = ("INSERT INTO lots VALUES (1)", "INSERT INTO kept VALUES (2, 1, 2, x''), (4, 1, 17, x'')", "UPDATE meta SET v = 2 WHERE k = 11")
@@ -50,11 +52,20 @@ FULL = ("INSERT INTO lots VALUES (1)", "INSERT INTO kept VALUES (2, 1, 2, x''), 
 def refusals():
     second, first = of_version(2), of_version(1)
     yield Case("a stranger's database", STRANGE, ("UPDATE notes SET note = 'elsewhere' WHERE id = 2",), "store: NotAStore")
-    yield Case("a newer store", second, NEWER, "store: Version(3)")
+    yield Case("a newer store", second, NEWER, "store: Version(4)")
     yield Case("version 0", second, (*FULL, "UPDATE meta SET v = 0 WHERE k = 1"), "store: Version(0)")
     yield Case("no version", second, (*FULL, "DELETE FROM meta WHERE k = 1"), "store: NotAStore")
     yield Case("no version and a table less", second, ("DROP TABLE kept", "DELETE FROM meta WHERE k = 1"), "store: NotAStore")
-    yield Case("a newer store with a table less", second, ("DROP TABLE kept", "UPDATE meta SET v = 3 WHERE k = 1"), "store: Version(3)")
+    yield Case("a newer store with a table less", second, ("DROP TABLE kept", "UPDATE meta SET v = 4 WHERE k = 1"), "store: Version(4)")
+    yield Case("version 3 with the tables of version 2", second, (*FULL, "UPDATE meta SET v = 3 WHERE k = 1"), "store: Damaged")
+    yield Case("version 2 with the tables of version 3", third_with(), (*FULL, "UPDATE meta SET v = 2 WHERE k = 1"), "store: Damaged")
+    yield Case("version 3 without its version", third_with(), ("DELETE FROM meta WHERE k = 1",), "store: NotAStore")
+    for key in range(2, 16):
+        yield Case(f"version 3 without row {key} of meta", third_with(), (*FULL, f"DELETE FROM meta WHERE k = {key}"), "store: Damaged",
+                   number=NUMBER)
+    for table in ("pieces", "xattrs", "handles", "kept"):
+        yield Case(f"version 3 without {table}", third_with(), (f"DROP TABLE {table}",), "store: Damaged", number=NUMBER)
+    yield Case("version 3 without its data file", third_with(), FULL, "store: Damaged")
     yield Case("an empty meta", second, (*FULL, "DELETE FROM meta"), "store: NotAStore")
     for key in range(2, 12):
         yield Case(f"no row {key} of meta", second, (*FULL, f"DELETE FROM meta WHERE k = {key}"), "store: Damaged")
@@ -64,6 +75,14 @@ def refusals():
     yield Case("version 1 with a table less", first, ("DROP TABLE blocks",), "store: Damaged")
     for key in range(2, 11):
         yield Case(f"version 1 without row {key} of meta", first, (f"DELETE FROM meta WHERE k = {key}",), "store: Damaged")
+
+
+NUMBER = 7
+
+
+def third_with():
+    """A new everyday store of version 3, with the number 7, without its data file."""
+    return of_version(3) + f"INSERT INTO meta VALUES (15, {NUMBER});"
 
 
 # A table, an index or their text that is another, by what it is: the text of the layout, and what stands in its place.
@@ -100,6 +119,27 @@ LAYOUTS = {
 }
 
 
+# The same of version 3.
+THIRD = {
+    "the index of the entries is missing": (", UNIQUE (dir, cookie)) STRICT", ") STRICT"),
+    "the index of the entries is on cookie and directory": ("UNIQUE (dir, cookie)", "UNIQUE (cookie, dir)"),
+    "the index of the entries comes first": ("UNIQUE (dir, name), UNIQUE (dir, cookie)", "UNIQUE (dir, cookie), UNIQUE (dir, name)"),
+    "the index of the entries is made by itself": (", UNIQUE (dir, cookie)) STRICT;", ") STRICT;\nCREATE INDEX entries_in_order ON entries (dir, cookie);"),
+    "the index of the handles is missing": (", UNIQUE (node, fh)) STRICT", ") STRICT"),
+    "the index of the handles is on the access": ("UNIQUE (node, fh)", "UNIQUE (access, fh)"),
+    "the index of the handles is on fh and node": ("UNIQUE (node, fh)", "UNIQUE (fh, node)"),
+    "the index of the handles is made by itself": (", UNIQUE (node, fh)) STRICT;", ") STRICT;\nCREATE INDEX handles_by_node ON handles (node);"),
+    "two entries may not have one child": ("child INTEGER NOT NULL,", "child INTEGER NOT NULL UNIQUE,"),
+    "`entries` refers to nodes": ("child INTEGER NOT NULL,", "child INTEGER NOT NULL REFERENCES nodes (node),"),
+    "`nodes` has its blocks before its names": ("links INTEGER NOT NULL, written INTEGER NOT NULL", "written INTEGER NOT NULL, links INTEGER NOT NULL"),
+    "`pieces` has its place before its count": ("count INTEGER NOT NULL, place INTEGER NOT NULL", "place INTEGER NOT NULL, count INTEGER NOT NULL"),
+    "two pieces may begin at one block": ("sum INTEGER NOT NULL, PRIMARY KEY (node, first)) STRICT", "sum INTEGER NOT NULL) STRICT"),
+    "two attributes may have one name": (", PRIMARY KEY (node, name)) STRICT", ") STRICT"),
+    "it has the answers of version 1": ("CREATE TABLE lots", "CREATE TABLE answers (id INTEGER PRIMARY KEY, errno INTEGER NOT NULL,\n"
+                                        "  body BLOB NOT NULL) STRICT;\nCREATE TABLE lots"),
+}
+
+
 # What the program's SQLite doesn't understand makes a table unread, and a file no database where that table has references or is referred
 # to by a row.
 UNREAD = dict.fromkeys(("the index has some of the entries", "`handles` has a column that is computed", "a trigger on our table",
@@ -112,6 +152,10 @@ def layouts():
     for what, (old, new) in LAYOUTS.items():
         assert second.count(old) == 1, what
         yield Case(what, second.replace(old, new), (), UNREAD.get(what, "store: Damaged"))
+    third = third_with()
+    for what, (old, new) in THIRD.items():
+        assert third.count(old) == 1, what
+        yield Case(f"version 3, {what}", third.replace(old, new), (), "store: Damaged", number=NUMBER)
     first = of_version(1)
     yield Case("version 1 with an index", first, ("CREATE INDEX entries_in_order ON entries (dir, cookie)",), "store: Damaged")
     yield Case("version 1 with the tables of version 2", second, ("UPDATE meta SET v = 1 WHERE k = 1", "DELETE FROM meta WHERE k = 11"),
@@ -146,6 +190,7 @@ def beside():
     for what, changes in BESIDE.items():
         yield Case(f"{what} beside", of_version(2), (*FULL, *changes), "store: Damaged")
         yield Case(f"{what} beside, everyday", everyday_with(*EVERYDAY), (*FULL, *changes), "store: Damaged")
+        yield Case(f"{what} beside, version 3", third_with(), (*FULL, *changes), "store: Damaged", number=NUMBER)
         yield Case(f"{what} beside, version 1", of_version(1), changes, UNREAD.get(what, "store: Damaged"))
         yield Case(f"{what} beside, and no index", of_version(2), (*FULL, *changes, "DROP INDEX entries_in_order"), "store: Damaged")
 
@@ -218,6 +263,9 @@ def make(case, path, in_log):
     for end in ("", "-wal"):
         if os.path.exists(made + end):
             shutil.copy(made + end, path + end)
+    if case.number:
+        with open(f"{path}-data", "wb") as data:
+            data.write(b"fusekeep content" + (3).to_bytes(8, "little") + case.number.to_bytes(8, "little"))
     database.close()
 
 
@@ -271,13 +319,14 @@ def try_refusal(tally, case, room):
 # ---- stores that open
 
 
-def store_with(room, name, *changes, version=2):
-    """A store with an INIT, a directory `a` and a file `f` of 5,000 bytes, made by the program, and then changed."""
+def store_with(room, name, *changes, profile="plain"):
+    """A store with an INIT, a directory `a` and a file `f` of 5,000 bytes, made by the program, and then changed. A plain one is of version
+    2, an everyday one of version 3."""
     path = f"{room}/{name}"
     given = [m.message(m.INIT, 2, 0, m.init_body(), owner=(0, 0)), m.message(m.MKDIR, 4, 1, m.mkdir_body(b"a")),
              m.message(m.MKNOD, 6, 1, m.mknod_body(b"f")), m.message(m.OPEN, 8, 3, m.open_body(2)),
              m.message(m.WRITE, 10, 3, m.write_body(1, 0, b"x" * 5000))]
-    _, ended = run(path, ["replay", "--db", "STORE", "--at", "1000", "-"], b"".join(given))
+    _, ended = run(path, ["replay", "--db", "STORE", "--at", "1000", "--profile", profile, "-"], b"".join(given))
     if ended != [0]:
         sys.exit(f"stores: the store can't be made: {ended}")
     database = sqlite3.connect(path, isolation_level=None)
@@ -297,19 +346,31 @@ def answers(path, *parts):
 
 def try_copies(tally, room):
     """A store that `sqlite3` copied, made smaller or read from its text opens, as its tables are in the same order."""
-    whole = store_with(room, "copied")
+    for profile in ("plain", "everyday"):
+        try_copies_of(tally, room, profile)
+
+
+def try_copies_of(tally, room, profile):
+    whole = store_with(room, f"copied-{profile}", profile=profile)
     ways = {"VACUUM": f"cp {whole} PATH; sqlite3 PATH VACUUM", "VACUUM INTO": f"sqlite3 {whole} \"VACUUM INTO 'PATH'\"",
             "a backup": f"sqlite3 {whole} '.backup PATH'", "its text": f"sqlite3 {whole} .dump | sqlite3 PATH",
             "an index made anew": f"cp {whole} PATH; sqlite3 PATH 'REINDEX'",
             "a table that came and went": f"cp {whole} PATH; sqlite3 PATH 'CREATE TABLE notes (note); DROP TABLE notes'",
             "ANALYZE taken back": f"cp {whole} PATH; sqlite3 PATH 'ANALYZE; DROP TABLE sqlite_stat1'"}
     for number, (way, command) in enumerate(ways.items()):
-        path = f"{room}/copied-{number}"
+        path = f"{room}/copied-{profile}-{number}"
         subprocess.run(command.replace("PATH", path), shell=True, check=True)
         asked = ((m.LOOKUP, 1, b"a\0"), (m.MKNOD, 1, m.mknod_body(b"g")), (m.READ, 3, m.read_body(1, 0, 9000)))
         again = f"{path}-again"
         shutil.copy(whole, again)
-        tally.compare(f"{way}: the answers", answers(again, *asked), answers(path, *asked))
+        if profile == "everyday":
+            shutil.copy(f"{whole}-data", f"{path}-data")
+            shutil.copy(f"{whole}-data", f"{again}-data")
+        for look in (["store", "STORE"], ["ls", "STORE"]):
+            (wanted, kept), (found, ended) = run(again, look), run(path, look)
+            tally.compare(f"{profile}, {way}: `{look[0]}`", (kept, wanted.out), (ended, found.out))
+        tally.compare(f"{profile}, {way}: `ls` ends well", [0], ended)
+        tally.compare(f"{profile}, {way}: the answers", answers(again, *asked), answers(path, *asked))
 
 
 def try_index(tally, room):
@@ -354,7 +415,7 @@ def try_many(tally, room):
 
 def try_everyday(tally, room):
     """An everyday store opens, up to the last block in use, and keeps its profile and its capacity. No file is there, so that no block is
-    in use after a mount begins."""
+    in use once it is of version 3."""
     for used in (0, 5, 100):
         for number, words in enumerate(OPENINGS):
             path = f"{room}/everyday-{used}-{number}"
@@ -363,9 +424,17 @@ def try_everyday(tally, room):
             found = content_of(path)[1]["meta"]
             tally.compare("everyday: its profile and capacity", [(12, 2), (13, 100)], [row for row in found if row[0] in (12, 13)])
         said = run(path, ["store", "STORE"])[0].out.decode().splitlines()
-        wanted = ["profile=everyday", "capacity=409600", f"used={used * BLOCK}"]
+        wanted = ["profile=everyday", "capacity=409600", "used=0"]
         found = [line for line in said if line.split("=")[0] in ("profile", "capacity", "used")]
         tally.compare("everyday: what `store` prints", wanted, found)
+
+
+def try_third(tally, room):
+    """A store of version 3 with its data file opens."""
+    for number, words in enumerate(OPENINGS):
+        path = f"{room}/third-{number}"
+        make(Case("version 3", third_with(), FULL, "", number=NUMBER), path, False)
+        tally.compare(f"version 3, {' '.join(words[:1] + words[3:4])}", [0], run(path, words)[1])
 
 
 def try_later_minor(tally, room):
@@ -465,6 +534,7 @@ def main():
         try_values(tally, f"{folder}/opened")
         try_blocks(tally, f"{folder}/opened")
         try_everyday(tally, f"{folder}/opened")
+        try_third(tally, f"{folder}/opened")
         try_later_minor(tally, f"{folder}/opened")
     return print_counts("stores openings", tally.passed, tally.failed)
 

@@ -28,9 +28,12 @@ class Damage:
     printed: str
     refused: str = "store: Damaged"
     profile: tuple = EVERYDAY
+    # The byte of the data file that is changed.
+    byte: int = 0
 
 
-# The store has the directories a (2) and a/b (3), a/b/f (4) of 5,000 bytes, the link l (5), the empty file g (6) and the pipe p (7).
+# The store has the directories a (2) and a/b (3), a/b/f (4) of 5,000 bytes, the link l (5), the empty file g (6) and the pipe p (7). An
+# everyday one has h (8), too: 24 whole blocks in a piece at place 1, and a part of one in `blocks`.
 DAMAGES = (
     Damage("a size below zero", ("UPDATE nodes SET size = -1 WHERE node = 4",), "/a/b/f: its rows can't be read"),
     Damage("a size above the limit", (f"UPDATE nodes SET size = {BEYOND} WHERE node = 4",), "/a/b/f: its size is none of such a node"),
@@ -60,11 +63,24 @@ DAMAGES = (
            "UPDATE nodes SET subdirs = 1 WHERE node = 3", "UPDATE nodes SET subdirs = 0 WHERE node = 1"), "/: fewer nodes lie in it than are counted"),
     Damage("an entry less", ("DELETE FROM entries WHERE child = 6",), "/: fewer nodes lie in it than are counted"),
     Damage("a block more is counted", ("UPDATE meta SET v = v + 1 WHERE k = 14",), "/: its files take not as many blocks as are counted"),
-    Damage("a node of no entry", ("INSERT INTO nodes SELECT 8, mode, 0, 0, 0, 0, 0, 0, 0, 0, 0, 0, 2, 0 FROM nodes WHERE node = 6",
-           "UPDATE meta SET v = 9 WHERE k = 2"), "/: fewer nodes lie in it than are counted"),
+    Damage("a node of no entry", ("INSERT INTO nodes SELECT 9, mode, 0, 0, 0, 0, 0, 0, 0, 0, 0, 0, 2, 0, 1, 0, 0 FROM nodes WHERE node = 6",
+           "UPDATE meta SET v = 10 WHERE k = 2"), "/: fewer nodes lie in it than are counted"),
     Damage("a block after the end", ("INSERT INTO blocks VALUES (4, 7, x'61')",), "/: a file has blocks after its end"),
     Damage("a block of a directory", ("INSERT INTO blocks VALUES (2, 0, x'61')",), "/: a file has blocks after its end"),
     Damage("a node that is missing", ("DELETE FROM blocks WHERE node = 4", "DELETE FROM nodes WHERE node = 4"), "", "store: NotAStore"),
+    Damage("a node that is missing, and its handle", ("DELETE FROM blocks WHERE node = 4", "DELETE FROM handles", "UPDATE meta SET v = 0 WHERE k = 6",
+           "DELETE FROM nodes WHERE node = 4"), "/a/b/f: its node is missing"),
+    Damage("written blocks of another number", ("UPDATE nodes SET written = written + 1 WHERE node = 4", "UPDATE meta SET v = v + 1 WHERE k = 14"),
+           "/a/b/f: its written blocks are not those that are counted"),
+    Damage("a piece with another digest", ("UPDATE pieces SET sum = sum + 1",), "/h: its rows can't be read"),
+    Damage("a byte of a piece", (), "/h: its rows can't be read", byte=2 * 4096 + 17),
+    Damage("a piece one block later", ("UPDATE pieces SET place = place + 1",), ""),
+    Damage("two pieces in one place", ("INSERT INTO pieces VALUES (4, 100, 1, 3, 0)",), ""),
+    Damage("a piece of 33 blocks", ("UPDATE pieces SET count = 33",), ""),
+    Damage("a piece of zeros after the end", ("INSERT INTO pieces VALUES (4, 9, 5, 0, 0)",), "/: a file has blocks after its end"),
+    Damage("a piece of no node", ("INSERT INTO pieces VALUES (777, 0, 1, 0, 0)",), "/: the tables have rows of no node or entry in the tree"),
+    Damage("the data file of another store", ("UPDATE meta SET v = v - 1 WHERE k = 15",), ""),
+    Damage("a data file of another version", (), "", byte=17),
     Damage("a counter that was given out", ("UPDATE meta SET v = 3 WHERE k = 4",), ""),
     Damage("no table of handles", ("DROP TABLE handles",), ""),
 )
@@ -77,6 +93,9 @@ def make(path, profile):
             m.message(m.SYMLINK if profile else m.MKNOD, 10, 1, b"l\0target\0" if profile else m.mknod_body(b"l")),
             m.message(m.MKNOD, 12, 1, m.mknod_body(b"g")), m.message(m.MKNOD, 14, 1, m.mknod_body(b"p", stat.S_IFIFO | 0o644)),
             m.message(m.OPEN, 16, 4, m.open_body(2)), m.message(m.WRITE, 18, 4, m.write_body(1, 0, b"x" * 5000))]
+    if profile:
+        made += [m.message(m.MKNOD, 20, 1, m.mknod_body(b"h")), m.message(m.OPEN, 22, 8, m.open_body(2)),
+                 m.message(m.WRITE, 24, 8, m.write_body(2, 0, b"x" * 100000))]
     ran = program.run(["replay", "--db", path, *profile, "--at", "1000", "-"], b"".join(made), SECONDS)
     if ran.status:
         sys.exit(f"stores: the store can't be made: {ran.status} {ran.err}")
@@ -89,13 +108,21 @@ def change(path, changes):
     database.close()
 
 
+def change_byte(path, at):
+    with open(path, "r+b") as changed:
+        changed.seek(at)
+        byte = changed.read(1)[0]
+        changed.seek(at)
+        changed.write(bytes([byte ^ 1]))
+
+
 def verify(path):
     ran = program.run(["verify", path], b"", SECONDS)
     return ran.status, ran.out.decode(), (ran.err.decode().splitlines() or [""])[0]
 
 
 def sums_of(path):
-    return [hashlib.sha256(Path(path + end).read_bytes()).hexdigest() for end in ("", "-wal") if Path(path + end).exists()]
+    return [hashlib.sha256(Path(path + end).read_bytes()).hexdigest() for end in ("", "-wal", "-data") if Path(path + end).exists()]
 
 
 def counted_in(path):
@@ -128,6 +155,8 @@ def try_vectors(tally, room):
 def try_damage(tally, damage, path):
     make(path, damage.profile)
     change(path, damage.changes)
+    if damage.byte:
+        change_byte(path + "-data", damage.byte)
     before = sums_of(path)
     printed = damage.printed + "\n" if damage.printed else ""
     tally.compare(f"verify, {damage.name}", (3, printed, damage.refused), verify(path))

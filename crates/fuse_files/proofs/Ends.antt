@@ -58,24 +58,30 @@ outside_so d NotAStore so = absurd so
 outside_so d (Version n) so = absurd so
 outside_so d Damaged so = absurd so
 
--- ---- of a store of one of the two versions
+-- ---- of a store of one of the versions
 
 -- its version is its own
-own : (d : Database) (n : ℕ) → (n ≡ 1) ⊎ (n ≡ 2) → ReportsVersion d n → Says d Damaged
+own : (d : Database) (n : ℕ) → (n ≡ 1) ⊎ ((n ≡ 2) ⊎ (n ≡ 3)) → ReportsVersion d n → Says d Damaged
 own d n (inl one) (rows, shows, first) = (rows, shows, in_rows rows first)
   where
     in_rows : (rows : _) → HasFirst n rows → HasOwn rows
     in_rows [] first = first
     in_rows (row ∷ rows) first = rw (first, one) (inl refl)
-own d n (inr two) (rows, shows, first) = (rows, shows, in_rows rows first)
+own d n (inr (inl two)) (rows, shows, first) = (rows, shows, in_rows rows first)
   where
     in_rows : (rows : _) → HasFirst n rows → HasOwn rows
     in_rows [] first = first
-    in_rows (row ∷ rows) first = rw (first, two) (inr refl)
+    in_rows (row ∷ rows) first = rw (first, two) (inr (inl refl))
+own d n (inr (inr three)) (rows, shows, first) = (rows, shows, in_rows rows first)
+  where
+    in_rows : (rows : _) → HasFirst n rows → HasOwn rows
+    in_rows [] first = first
+    in_rows (row ∷ rows) first = rw (first, three) (inr (inr refl))
 
 pub tabled_own : (d : Database) → IsTabled d → Says d Damaged
 tabled_own d (inl first) = own d 1 (inl refl) first.0
-tabled_own d (inr second) = own d 2 (inr refl) second.0
+tabled_own d (inr (inl second)) = own d 2 (inr (inl refl)) second.0
+tabled_own d (inr (inr third)) = own d 3 (inr (inr refl)) third.0
 
 pub plain_so : (d : Database) → IsTabled d → (f : StoreFault) → IsPlain f → SaysSo d (store_ending f)
 plain_so d tabled Memory so = tt

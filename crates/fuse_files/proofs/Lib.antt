@@ -2,6 +2,7 @@ mod Ends
 mod FileRuns
 mod InMemory
 mod Looks
+mod Numbered
 mod Opened
 mod Refused
 mod Scripted

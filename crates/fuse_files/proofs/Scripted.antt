@@ -1,12 +1,14 @@
 -- A script over a new store, if one was made.
-use Rattle.std.proofs.Common.{◌≡◌, ◌≤◌, ◌⊎◌, ℕ, List, [], Option, Some, None, Result, Ok, Err, inl, inr, sym, subst, arith}
-use Rattle.std.specs.Prelude.{IfOk, IfErr, IfSome}
+use Rattle.std.proofs.Common.{◌≡◌, ◌≤◌, ◌⊎◌, ℕ, List, [], Option, Some, None, Result, Ok, Err, inl, inr, refl, sym, subst, arith}
+use Rattle.std.specs.Prelude.{IsTrue, IfOk, IfErr, IfSome}
 use Rattle.std.specs.Io.KnownBytes.{Appends}
 use Rattle.sqlite_disk.specs.declared.Disk.{Ghosts}
 use Rattle.sqlite_disk.specs.declared.Files.{Files}
 use Rattle.sqlite_store.specs.declared.store.FileStore.{FileStore}
 use Rattle.sqlite.specs.Files.{over_files, image_of}
 use Rattle.fuse_init.specs.declared.profile.Profile.{Profile}
+use Rattle.fuse_data.specs.declared.data_file.DataFile.{DataFile}
+use Rattle.fuse_data.specs.State.{state_in}
 use Rattle.fuse_keeper.specs.declared.fault.StoreFault.{StoreFault}
 use Rattle.fuse_keeper.specs.declared.fault.StoreFault.TheVariants.{Memory, Sql, NotAStore, Version, Damaged}
 use Rattle.fuse_keeper.specs.KeeperState.{StandsFor, IsFirm}
@@ -35,10 +37,18 @@ never : (X : List ℕ → Type 0) (known : Option (List ℕ)) (f : StoreFault) (
 never X None f ending is = tt
 never X (Some script) f ending is = λ low. absurd (high f (subst (λ e. status_of e ≤ 1) is low))
 
+-- keepers over disks that are never in doubt are honest
+data_clean : {D : Type 0} (g : Ghosts D) → AreSure g → (file : Option (DataFile D)) → IsTrue (state_in g file).is_clean
+data_clean g sure None = refl
+data_clean g sure (Some file) = sure file.disk
+
+always_honest : {P D : Type 0} {g : Ghosts D} → AreSure g → (p : Profile) (k : CrashKeeper P D D g) → (crash_told p g k).is_honest
+always_honest {g = g} sure p k = (always_clean sure k.inner.look.conn, data_clean g sure k.inner.look.contents.file)
+
 module _ {P D : Type 0} {g : Ghosts D} (p : Profile) (kind : StoreKind) (crashed : D → D → Type 0) (streams : Streams) (ending : Ending) where
-  pub ran_new : (files : Files D) (r : Result (CrashKeeper P (FileStore D g) over_files) StoreFault)
-      → IfOk r (λ k. (crash_told p over_files k).is_honest → StandsFor (crash_told p over_files k) (new_state p kind) [] [])
-      → IfOk r (λ k. (crash_told p over_files k).is_honest → IsFirm (crash_told p over_files k))
+  pub ran_new : (files : Files D) (r : Result (CrashKeeper P D D g) StoreFault)
+      → IfOk r (λ k. (crash_told p g k).is_honest → StandsFor (crash_told p g k) (new_state p kind) [] [])
+      → IfOk r (λ k. (crash_told p g k).is_honest → IsFirm (crash_told p g k))
       → IfOk r (λ k. WereBlank g files) → IfErr r (λ f. AreSure g → IsUnopened (image_of g files) (store_ending f)) → IfOk r (λ k. SimulatesOver (crashing P p g crashed) k streams ending)
       → IfErr r (λ f. (ending ≡ store_ending f) × (streams.written' ≡ streams.written))
       → (StoreSimulated p kind (crashing P p g crashed) streams ending × WereBlank g files) ⊎ NotSimulated g files streams ending
@@ -50,12 +60,12 @@ module _ {P D : Type 0} {g : Ghosts D} (p : Profile) (kind : StoreKind) (crashed
     sure = λ sure. subst (IsUnopened (image_of g files)) (sym failed.0) (fault sure);
   })
 
-  pub simulated_new : AreSure g → (r : Result (CrashKeeper P (FileStore D g) over_files) StoreFault)
-      → IfOk r (λ k. (crash_told p over_files k).is_honest → StandsFor (crash_told p over_files k) (new_state p kind) [] [])
+  pub simulated_new : AreSure g → (r : Result (CrashKeeper P D D g) StoreFault)
+      → IfOk r (λ k. (crash_told p g k).is_honest → StandsFor (crash_told p g k) (new_state p kind) [] [])
       → IfOk r (λ k. SimulatesOver (crashing P p g crashed) k streams ending)
       → IfErr r (λ f. (ending ≡ store_ending f) × (streams.written' ≡ streams.written))
       → IfSome streams.input (λ script. status_of ending ≤ 1 → SimulatedFrom (tree_of p) (new_state p kind) (Appends streams.written streams.written') script ending)
   simulated_new sure (Ok k) stands ran failed =
-      simulated (crashing P p g crashed) (new_state p kind) k streams ending (λ x. always_clean sure x.inner.look.conn) (stands (always_clean sure k.inner.look.conn)) ran
+      simulated (crashing P p g crashed) (new_state p kind) k streams ending (always_honest sure p) (stands (always_honest sure p k)) ran
   simulated_new sure (Err f) stands ran failed =
       never (λ script. SimulatedFrom (tree_of p) (new_state p kind) (Appends streams.written streams.written') script ending) streams.input f ending failed.0

@@ -2,25 +2,18 @@
 use Rattle.std.proofs.Common.{◌≡◌, ◌∙◌, ℕ, List, [], ap, Option, Some, None, true, IsTrue, inl, inr, refl, sym, subst}
 use Rattle.std.specs.Prelude.{◌⊎◌, Result, Ok, Err, IfSome}
 use Rattle.std.specs.declared.io.Error.{Error}
-use Rattle.fuse_init.specs.declared.profile.Profile.{Profile}
 use Rattle.sqlite.specs.Effect.{Database}
 use Rattle.sqlite.specs.State.{State, HasCleanDisk}
 use Rattle.sqlite_wal.specs.Recovery.{Image}
-use Rattle.fuse_keeper.specs.Stands.{Records}
 use Rattle.fuse_keeper.specs.declared.fault.StoreFault.{StoreFault}
 use Rattle.fuse_keeper.specs.declared.fault.StoreFault.TheVariants as store
 use Rattle.fuse_tree.specs.declared.look.LookFault.{LookFault}
-use Rattle.fuse_tree.specs.Rowed.{IsRowed}
-use Rattle.fuse_store_tables.specs.Faults.{IsPlain}
+use Rattle.fuse_store_tables.specs.Faults.{IsOutside, IsPlain}
 use Rattle.fuse_store_tables.specs.Moves.{IsReady}
 use Rattle.fuse_store_tables.specs.Saying.{IsTabled}
-use Rattle.fuse_store_tree.specs.Holding.{HeldFor, store_of}
-use Rattle.fuse_store_tree.specs.Looking.{as_look_fault, sees_with, MayFail}
-use Rattle.fuse_store_tree.specs.Knowing.{Knows, Recalls}
-use Rattle.fuse_store_tree.specs.declared.look.LastNode.{LastNode}
-use Rattle.fuse_store_tree.specs.declared.meta.Meta.{Meta}
-use Rattle.fuse_store.specs.Opening.{Stored}
-use Rattle.fuse_store.specs.TableState.{HoldsIn}
+use Rattle.fuse_store_tree.specs.Holding.{HeldFor}
+use Rattle.fuse_store_tree.specs.Looking.{as_look_fault, MayFail}
+use Rattle.fuse_store_tree.specs.Knowing.{KnownTables}
 use Rattle.fuse_show.specs.declared.fault.ShowFault.{ShowFault}
 use Rattle.fuse_show.specs.declared.fault.ShowFault.TheVariants.{Output}
 use Rattle.fuse_show.specs.declared.tally.Tally.{Tally}
@@ -33,45 +26,13 @@ use Rattle.fuse_commands.specs.declared.ending.Ending.{Ending}
 use Rattle.fuse_commands.specs.declared.ending.Ending.TheVariants as ending
 use Rattle.fuse_commands.specs.Endings.{store_ending}
 use Rattle.fuse_files.specs.StoreShown.{SaysNothing, SaysSo, IsUnopened, OutputsAs}
-use Rattle.fuse_files.specs.StoreVerified.{rows_begun, IsStoreEnding, IsLineOf, Verdicts}
+use Rattle.fuse_files.specs.StoreVerified.{IsStoreEnding, IsLineOf, Verdicts}
 use Rattle.fuse_files.specs.inner.Showing.{showing_ending}
-use Rattle.fuse_files.specs.inner.Verifying.{SeesBegun, walk_ending}
+use Rattle.fuse_files.specs.inner.Verifying.{walk_ending}
 use Rattle.fuse_files.proofs.Ends.{says_nothing, tabled_own, plain_so}
-
-module _ (z : Stored) where
-  pub sees_begun : {p : Profile} {m : Option Meta} → (old new : State) (records : Records) → HoldsIn p m old (rows_begun z) records
-      → IsTrue new.is_open × (new.in_transaction ≡ true) × (new.now ≡ old.now) → SeesBegun z new
-  sees_begun old new records held begun = record {
-    holding = held.holding;
-    inside = record { is_open = begun.0; in_transaction = begun.1; holds = subst (HeldFor held.holding) (sym begun.2) held.rests.holds };
-    same = sym held.is_of.rows_are;
-  }
-
-  module _ (s : State) (sees : SeesBegun z s) where
-    -- by a look that knows nothing yet
-    pub begun_seen : (known : Option Meta) (last : Option LastNode) → known ≡ None → last ≡ None → sees_with known last s (rows_begun z)
-    begun_seen known last none fresh = (
-      (
-        (
-          store_of sees.holding,
-          record { is_open = sees.inside.is_open; in_transaction = sees.inside.in_transaction; holds = sees.inside.holds.held },
-          sees.same,
-        ),
-        subst (λ m. Knows m (rows_begun z)) (sym none) tt,
-      ),
-      subst (λ l. Recalls l (rows_begun z)) (sym fresh) (λ rowed. tt),
-    )
-
-    pub begun_tree : IsRowed (rows_begun z)
-    unfolding IsRowed
-    begun_tree = (sees.holding.tree, sees.inside.holds.tree, sym sees.same)
+use Rattle.fuse_files.proofs.Looks.{sure_after}
 
 -- ---- what is written of it
-
--- a look that had no fault has a plain one
-pub plain_after : (a b : State) (was is : Option StoreFault) → as_look_fault was ≡ None → MayFail a b was is → IfSome is IsPlain
-plain_after a b None is none may = may.plain refl
-plain_after a b (Some f) is none may = absurd (cc)
 
 pub of_store : (f : StoreFault) → IsStoreEnding (store_ending f)
 of_store store.Memory = tt
@@ -81,11 +42,13 @@ of_store (store.Version n) = tt
 of_store store.Damaged = tt
 
 -- and one that says nothing of a store that it saw
-pub outside_after : (a b : State) (was is : Option StoreFault) (x : LookFault) → as_look_fault was ≡ None → HasCleanDisk b → IsReady HeldFor a → MayFail a b was is
-    → as_look_fault is ≡ Some x → SaysNothing (showing_ending is)
-outside_after a b None None x none clean on may told = absurd (cc)
-outside_after a b None (Some g) x none clean on may told = says_nothing g (may.sure refl clean on)
-outside_after a b (Some f) is x none clean on may told = absurd (cc)
+pub outside_after : (a b : KnownTables) (was is : Option StoreFault) (x : LookFault) → as_look_fault was ≡ None → HasCleanDisk b.tables → IsTrue b.file.is_clean
+    → IsReady (HeldFor a.file.bytes) a.tables → MayFail a b was is → as_look_fault is ≡ Some x → SaysNothing (showing_ending is)
+outside_after a b was is x none clean good on may told = by is told (sure_after a b was is none clean good on may)
+  where
+    by : (is : Option StoreFault) → as_look_fault is ≡ Some x → IfSome is IsOutside → SaysNothing (showing_ending is)
+    by None told so = absurd (cc)
+    by (Some f) told so = says_nothing f so
 
 pub look_of_store : (fault : Option StoreFault) → IsStoreEnding (showing_ending fault)
 look_of_store None = tt
@@ -160,7 +123,7 @@ module _ {W : Type 0} (written : W → W → Result ℕ Error → List ℕ → T
 
 -- ---- what its ending says
 
-nothing_of_store : (e : Ending) → SaysNothing e → IsStoreEnding e
+pub nothing_of_store : (e : Ending) → SaysNothing e → IsStoreEnding e
 nothing_of_store ending.Memory so = tt
 nothing_of_store (ending.Sql _) so = tt
 nothing_of_store _ so = absurd so

@@ -33,7 +33,7 @@ look_cut : (fault : Option StoreFault) → MayCutShort (showing_ending fault)
 look_cut None = tt
 look_cut (Some f) = store_cut f
 
-nothing_cut : (e : Ending) → SaysNothing e → MayCutShort e
+pub nothing_cut : (e : Ending) → SaysNothing e → MayCutShort e
 nothing_cut ending.Memory so = tt
 nothing_cut (ending.Sql _) so = tt
 nothing_cut _ so = absurd so

@@ -1,5 +1,5 @@
 -- What is shown of the store in files that were read (defined by this project).
-use Rattle.std.specs.Prelude.{◌≡◌, ◌⊎◌, ⊤, ℕ, List, length, Option, Result, Ok, Err}
+use Rattle.std.specs.Prelude.{◌≡◌, ◌⊎◌, ⊤, ℕ, List, length, Option, IsSome, Result, Ok, Err}
 use Rattle.std.specs.List.{sum_by}
 use Rattle.std.specs.Io.KnownBytes.{Appends}
 use Rattle.std.specs.declared.io.Error.{Error}
@@ -12,9 +12,13 @@ use Rattle.fuse_keeper.specs.Stands.{Records, CountsRecords}
 use Rattle.fuse_rows.specs.Rows.{Rows}
 use Rattle.fuse_tree.specs.Rowed.{rowed}
 use Rattle.fuse_store_tables.specs.Saying.{Says, IsTabled}
-use Rattle.fuse_store_tree.specs.Store.{records_of}
+use Rattle.fuse_store_tree.specs.Store.{HasNumber, records_of}
+use Rattle.fuse_store_tree.specs.Holding.{Holding}
 use Rattle.fuse_store.specs.Opening.{Stored, opened_for, version_for}
-use Rattle.fuse_store_files.specs.Files.{AreTheirs}
+use Rattle.fuse_store.specs.Opening.Stored.{Second}
+use Rattle.sqlite_disk.specs.declared.Disk.{Ghosts}
+use Rattle.fuse_store.specs.TableKeeper.{disk_in}
+use Rattle.fuse_store_files.specs.Files.{StoreImage, FilesHold, AreTheirs}
 use Rattle.fuse_show.specs.declared.fault.ShowFault.{ShowFault}
 use Rattle.fuse_show.specs.declared.fault.ShowFault.TheVariants.{Look, NotATree, NoSuchPath, NotDirectory, NotFile, Output}
 use Rattle.fuse_show.specs.Paths.{names_of}
@@ -31,6 +35,10 @@ use Rattle.fuse_files.specs.declared.showing.StoreBytes.{StoreBytes}
 
 abbrev pub image_in : StoreBytes → Image
 image_in read = record { log = read.log.items; db = read.db.items }
+
+-- with what a read returns of the data file beside them
+abbrev pub store_read : {E : Type 0} → Ghosts E → StoreBytes → Option E → StoreImage
+store_read h read disk = record { tables = image_in read; contents = (disk_in h disk).seen }
 
 -- ---- of a store
 
@@ -99,7 +107,7 @@ Shows (show.File path) z old new e = PrintsFile path.now z old new e
 
 -- ---- of any files
 
--- what the ending says of a database is so; only of a store of one of the two versions something is shown
+-- what the ending says of a database is so; only of a store of a version that is known something is shown
 abbrev pub SaysSo : Database → Ending → Type 0
 SaysSo d ending.Memory = ⊤
 SaysSo d (ending.Sql _) = ⊤
@@ -119,6 +127,11 @@ pub record SaysTrue (image : Image) (e : Ending) : Type 0 where
 abbrev pub IsUnopened : Image → Ending → Type 0
 IsUnopened image e =
     SaysNothing e ⊎ ((e ≡ ending.NotAStore) × ((db : Trees) → HoldsDatabase image db → ⊥) × (IsNothing image → ⊥))
+
+-- the data file of an everyday store of version 3 with these tables has this number
+abbrev pub IsStoreNumber : Image → ℕ → Type 0
+IsStoreNumber image n = (y : Holding) (file : List ℕ) → IsSome y.tree.capacity
+    → FilesHold (record { tables = image; contents = file }) (Second y) → HasNumber n file
 
 -- an output that ended so wrote bytes of which this is so
 abbrev pub OutputsAs : {W : Type 0} → (W → W → Result ℕ Error → List ℕ → Type 0) → (W → W → Result (Unit {0}) Error → Type 0) → W → W

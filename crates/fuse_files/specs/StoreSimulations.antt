@@ -22,6 +22,7 @@ use Rattle.fuse_store.specs.Creating.{origin_of}
 use Rattle.fuse_store_files.specs.declared.crash_keeper.CrashKeeper.{CrashKeeper}
 use Rattle.fuse_store_tables.specs.Layout.{no_schema}
 use Rattle.fuse_store_files.specs.Files.{AreTheirs}
+use Rattle.fuse_store_files.specs.Crashing.{crash_relations}
 use Rattle.fuse_store_files.specs.Restarting.{crash_told, CrashRefuses}
 use Rattle.fuse_commands.specs.declared.ending.Ending.{Ending}
 use Rattle.fuse_commands.specs.Endings.{status_of, store_ending}
@@ -31,11 +32,11 @@ use Rattle.fuse_files.specs.StoreShown.{IsUnopened}
 
 -- the new store of a simulation
 abbrev pub new_state : Profile → StoreKind → State
-new_state p kind = new_store p kind.capacity (origin_of (made_then kind))
+new_state p kind = new_store p kind.capacity (origin_of (made_then kind 0))
 
--- how contracts see keepers whose files crash before they are opened again
-abbrev pub crashing : {D : Type 0} → (P : Type 0) → (p : Profile) → (g : Ghosts D) → (D → D → Type 0) → Seen (tree_of p) (CrashKeeper P (FileStore D g) over_files)
-crashing P p g crashed = driven (crash_told p over_files) (λ a b n. Unit {0}) (λ a b list. Unit {0}) (CrashRefuses p crashed)
+-- how contracts see keepers whose files crash, all of one kind of disk, before they are opened again
+abbrev pub crashing : {D : Type 0} → (P : Type 0) → (p : Profile) → (g : Ghosts D) → (D → D → Type 0) → Seen (tree_of p) (CrashKeeper P D D g)
+crashing P p g crashed = driven (crash_told p g) (λ a b n. Unit {0}) (λ a b list. Unit {0}) (CrashRefuses g p (crash_relations crashed crashed))
 
 -- the script was run over this keeper, and no other: the clauses of `run_simulate`
 pub record SimulatesOver {M : Model} {K : Type 0} (k : Seen M K) (keeper : K) (streams : Streams) (ending : Ending) : Type 0 where

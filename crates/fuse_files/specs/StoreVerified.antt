@@ -1,11 +1,10 @@
 -- What is verified of the store in files that were read (defined by this project).
 use Rattle.std.specs.Prelude.{◌≡◌, ◌⊎◌, ⊤, ℕ, List, []}
-use Rattle.sqlite_wal.specs.Recovery.{Image}
 use Rattle.fuse_rows.specs.Rows.{Rows}
 use Rattle.fuse_tree.specs.Rowed.{rowed}
 use Rattle.fuse_store.specs.Opening.{Stored}
 use Rattle.fuse_store.specs.Starting.{begun_for}
-use Rattle.fuse_store_files.specs.Files.{FilesHold}
+use Rattle.fuse_store_files.specs.Files.{StoreImage, FilesHold}
 use Rattle.fuse_show.specs.declared.tally.Tally.{Tally}
 use Rattle.fuse_show.specs.Sinks.{IsPartOf, Way, Flushed, Failed, Left}
 use Rattle.fuse_show.specs.Verdict.{Counts, tally_text}
@@ -44,12 +43,12 @@ Verdicts Unsaid Counted e Failed bytes =
 Verdicts Unsaid Counted e Left bytes = Unsaid e × (bytes ≡ [])
 
 -- an ending without a verdict says nothing of a store that the files hold
-abbrev pub IsUnsaid : Image → Ending → Type 0
-IsUnsaid image e = IsStoreEnding e × ((z : Stored) → FilesHold image z → SaysNothing e)
+abbrev pub IsUnsaid : StoreImage → Ending → Type 0
+IsUnsaid it e = IsStoreEnding e × ((z : Stored) → FilesHold it z → SaysNothing e)
 
 -- as many nodes and blocks as the store that the files hold has, once a mount begins of it
-abbrev pub IsCounted : Image → Tally → Type 0
-IsCounted image t = (z : Stored) → FilesHold image z → Counts (rows_begun z).counters t
+abbrev pub IsCounted : StoreImage → Tally → Type 0
+IsCounted it t = (z : Stored) → FilesHold it z → Counts (rows_begun z).counters t
 
-abbrev pub Verifies : Image → Ending → Way → List ℕ → Type 0
-Verifies image e = Verdicts (IsUnsaid image) (IsCounted image) e
+abbrev pub Verifies : StoreImage → Ending → Way → List ℕ → Type 0
+Verifies it e = Verdicts (IsUnsaid it) (IsCounted it) e

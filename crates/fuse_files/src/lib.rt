@@ -15,6 +15,6 @@ pub use kinds::kind_asked;
 pub use lives::{files_live, lots_outlive_files, runs_are_file_lives};
 pub use replaying::{replay_in_memory, replay_store};
 pub use serving::{StoreRun, serve_store};
-pub use showing::{Show, StoreBytes, show_store};
+pub use showing::{Show, ShownStore, StoreBytes, number_of, show_store};
 pub use simulating::simulate_store;
 pub use verifying::verify_store;

@@ -1,8 +1,8 @@
 // A replay over the files of a store.
 ghost use Rattle.std.specs.Prelude.{◌≡◌, ◌≢◌, ◌⊎◌, [], false, codes, IfOk};
-ghost use Rattle.sqlite_wal.specs.Files.{image_at};
 ghost use Rattle.sqlite.specs.Files.{over_files};
 ghost use Rattle.fuse_store.specs.TableKeeper.{keeper_told};
+ghost use Rattle.fuse_store_files.specs.Files.{found_at};
 ghost use Rattle.fuse_store_files.specs.Starting.{path_of};
 ghost use Rattle.fuse_commands.specs.Endings.{status_of};
 ghost use Rattle.fuse_keeper.specs.KeeperState.{StandsFor};
@@ -14,28 +14,29 @@ ghost use Rattle.fuse_files.specs.StoreSimulations.{new_state};
 
 use crate::serving::{ending_of, left_of};
 use fuse_commands::{Ending, START, run_replay, shows_seen};
+use fuse_data_host::DataFrom;
 use fuse_init::{EverydayProfile, PlainProfile, Profile, Profiled};
 use fuse_plan::new_store_is_tree;
 use fuse_rows::Origin;
 use fuse_store::{NewStore, PlainKeeper, PlainTree, StoreKeeper, StoreKind, TableKeeper};
-use fuse_store_files::{Opening, StoreFiles, close_store, open_store};
+use fuse_store_files::{Opening, StoreFiles, StoreLeft, close_store, open_store};
 use fuse_wire::{Memory, Moment};
-use sqlite::{FileFrom, FileStore, Leftover, Start};
+use sqlite::{FileFrom, FileStore, Start};
 use sqlite_disk::Disk;
 use std::alloc::Global;
 use std::io::{Read, Write};
 
 // Serves the stream of a reader over a keeper, with one moment for all requests, and prints the
 // answers and the line of counts that its profile has. Then closes its files.
-fn replay_keeper<P: Profiled, D: Disk + Drop, R: Read + Drop, W: Write>(
+fn replay_keeper<P: Profiled, D: Disk + Drop, E: Disk + Drop, R: Read + Drop, W: Write>(
     alloc: Global,
-    mut keeper: TableKeeper<P, FileStore<D>>,
+    mut keeper: TableKeeper<P, FileStore<D>, E>,
     reader: R,
     writer: &mut W,
     moment: Moment,
-) -> (Ending, Option<Leftover<D>>)
-    requires going { (keeper_told P.PROFILE over_files keeper).has_failed ≡ false }
-    ensures ran { KeeperReplayed P.PROFILE keeper moment
+) -> (Ending, Option<StoreLeft<D, E>>)
+    requires going { (keeper_told P.PROFILE over_files E.Disk keeper).has_failed ≡ false }
+    ensures ran { KeeperReplayed E.Disk P.PROFILE keeper moment
         (streams (R.remaining reader) (W.contents writer.old) (W.contents writer.new)) result }
     ensures usage { status_of result.0 ≢ 2 }
 {
@@ -44,28 +45,44 @@ fn replay_keeper<P: Profiled, D: Disk + Drop, R: Read + Drop, W: Write>(
     (ending, Some(left_of(close_store(keeper))))
 }
 
-/// Opens the store in these files, or makes one of this kind where they hold nothing. Serves the
+/// Opens the store in these files, or makes one of this kind where they hold nothing, with this number
+/// if it is everyday. Serves the
 /// stream of a reader over it, with one moment for all requests, and prints the answers. Then closes
 /// the files. Returns the ending, and what is left of the files if they were opened.
-pub fn replay_store<S: Start, R: Read + Drop, W: Write>(
+pub fn replay_store<S: Start, T: Start, R: Read + Drop, W: Write>(
     alloc: Global,
-    files: StoreFiles<'_, '_, S>,
-    kind: StoreKind,
+    files: StoreFiles<'_, '_, S, T>,
+    new: (StoreKind, u64),
     reader: R,
     writer: &mut W,
     moment: Moment,
-) -> (Ending, Option<Leftover<FileFrom<S>>>)
-    ensures ran { IsReplayed
-        (record { first = image_at S.Start; kind = kind; moment = moment })
+) -> (Ending, Option<StoreLeft<FileFrom<S>, DataFrom<T>>>)
+    ensures ran { IsReplayed ⟦<DataFrom<T> as Disk>⟧ (record {
+      first = found_at S.Start T.Start;
+      kind = new.0;
+      number = new.1;
+      moment = moment;
+    })
         (streams (R.remaining reader) (W.contents writer.old) (W.contents writer.new)) result
-        ⊎ NotReplayed (record { first = image_at S.Start; kind = kind; moment = moment })
+        ⊎ NotReplayed ⟦<DataFrom<T> as Disk>⟧ (record {
+          first = found_at S.Start T.Start;
+          kind = new.0;
+          number = new.1;
+          moment = moment;
+        })
         (streams (R.remaining reader) (W.contents writer.old) (W.contents writer.new)) result }
-    ensures memory { path_of files.entry ≡ codes ":memory:" → NotReplayed
-        (record { first = image_at S.Start; kind = kind; moment = moment })
+    ensures memory { path_of files.entry ≡ codes ":memory:" → NotReplayed ⟦<DataFrom<T> as Disk>⟧
+        (record { first = found_at S.Start T.Start; kind = new.0; number = new.1; moment = moment })
         (streams (R.remaining reader) (W.contents writer.old) (W.contents writer.new)) result }
     ensures usage { status_of result.0 ≢ 2 }
 {
-    match open_store(files, Opening::Any(NewStore { kind, now: START })) {
+    let (kind, number) = new;
+    let new = NewStore {
+        kind,
+        now: START,
+        number,
+    };
+    match open_store(files, Opening::Any(new)) {
         Ok(StoreKeeper::Plain(keeper)) => replay_keeper(alloc, keeper, reader, writer, moment),
         Ok(StoreKeeper::Everyday(keeper)) => replay_keeper(alloc, keeper, reader, writer, moment),
         Err((fault, left)) => (ending_of(fault), left),

@@ -1,5 +1,6 @@
 // What is shown of the store in files that were read.
-ghost use Rattle.std.specs.Prelude.{◌≡◌, ◌⊎◌, ⊤, None, IfOk, IfErr, IsTrue};
+ghost use Rattle.std.specs.Prelude.{◌≡◌, ◌<◌, ◌^◌, ◌⊎◌, ⊤, None, IfOk, IfErr, IfSome, IsTrue};
+ghost use Rattle.std.specs.Prelude.{option_map};
 ghost use Rattle.sqlite_disk.specs.Memory.{memory_bytes, memory_is_usable};
 ghost use Rattle.sqlite.specs.Held.{state};
 ghost use Rattle.sqlite.specs.Files.{file_state, IsOpened};
@@ -10,23 +11,33 @@ ghost use Rattle.fuse_store_tree.specs.Store.{records_of};
 ghost use Rattle.fuse_store_tree.specs.Holding.{lots_of};
 ghost use Rattle.fuse_store.specs.Opening.{Stored, WasFor, opened_for};
 ghost use Rattle.fuse_tree.specs.State.{profile_of};
-ghost use Rattle.fuse_store.specs.StoreKeeper.{own_profile, store_told};
+ghost use Rattle.fuse_data.specs.State.{state_in};
+ghost use Rattle.fuse_keeper.specs.Stands.{Records};
+ghost use Rattle.fuse_rows.specs.Rows.{Rows};
+ghost use Rattle.fuse_store_tables.specs.Content.{Content, Holds};
+ghost use Rattle.fuse_store_tree.specs.Viewing.{view_in};
+ghost use Rattle.fuse_store.specs.StoreKeeper.{own_file, own_profile, store_told};
+ghost use Rattle.fuse_store.specs.TableKeeper.{disk_in, parts_state};
 ghost use Rattle.fuse_store_files.specs.Files.{FilesHold, AreTheirs};
-ghost use Rattle.fuse_files.specs.StoreShown.{image_in, rows_in, ListsDirectory, PrintsFile, Shows};
-ghost use Rattle.fuse_files.specs.StoreShown.{SaysTrue, IsUnopened, IsRefused};
-ghost use Rattle.fuse_files.specs.StoreShown.{MayCutShort, IsTextOf, OutputsAs, ShowsText};
+ghost use Rattle.fuse_files.specs.StoreShown.{image_in, store_read, rows_in, ListsDirectory};
+ghost use Rattle.fuse_files.specs.StoreShown.{PrintsFile, Shows, SaysNothing};
+ghost use Rattle.fuse_files.specs.StoreShown.{SaysSo, SaysTrue, IsUnopened, IsRefused};
+ghost use Rattle.fuse_files.specs.StoreShown.{IsStoreNumber, MayCutShort, IsTextOf, OutputsAs, ShowsText};
 ghost use Rattle.fuse_show.specs.Listing.{AreLines};
-ghost use Rattle.fuse_files.specs.inner.Showing.{IsAlwaysClean, Fails, LooksAt, ShowsOver};
-ghost use Rattle.fuse_files.specs.inner.Showing.{showing_ending, shown_ending};
+ghost use Rattle.fuse_files.specs.inner.Showing.{IsAlwaysClean, Fails, Sees, LooksAt, ShowsOver};
+ghost use Rattle.fuse_files.specs.inner.Showing.{WasInside, is_third, showing_ending};
+ghost use Rattle.fuse_files.specs.inner.Showing.{shown_ending};
+ghost use Rattle.fuse_files.specs.StoreSimulations.{AreSure};
 
 use crate::summing::summary_of;
 use fuse_commands::Ending;
 use fuse_keeper::StoreFault;
 use fuse_session::Sink;
 use fuse_show::{ShowFault, show_content, show_listing};
-use fuse_store::{StoreKeeper, opening_fault};
-use fuse_store_tables::begin;
-use fuse_store_tree::TableLook;
+use fuse_store::{StoreKeeper, StoreParts, opening_fault};
+use fuse_store_files::plain_over_any;
+use fuse_store_tables::{Layout, begin, layout_of, number_at_rest};
+use fuse_store_tree::{Data, TableLook, held_is_shown};
 use sqlite::{Alter, Connection, FileStore, Files, Options};
 use sqlite_disk::{Disk, Memory};
 use std::alloc::Global;
@@ -51,48 +62,108 @@ pub struct StoreBytes {
     pub db: Vec<u8>,
 }
 
-// The keeper of a database.
-pub(crate) fn open_keeper<S: Alter + Drop>(
+/// What was shown, and the disk of the data file.
+#[derive(Drop)]
+pub struct ShownStore<D: Disk> {
+    pub ending: Ending,
+    /// None where there was none, and of a plain store.
+    pub disk: Option<D>,
+}
+
+// A store of version 2 that becomes one of version 3 in memory gets this number.
+const NUMBER: u64 = 0;
+
+// The keeper over a database and a data file.
+pub(crate) fn open_keeper<S: Alter + Drop, D: Disk + Drop>(
     alloc: Global,
-    conn: Connection<S>,
-) -> Result<StoreKeeper<S>, Ending>
-    ensures holds { IfOk result (λ k. (store_told k).is_honest → (z : Stored)
-        → WasFor z (state S.Store conn) → (store_told k).holds (rows_in z)
+    parts: StoreParts<S, D>,
+) -> Result<StoreKeeper<S, D>, ShownStore<D>>
+    ensures holds { IfOk result (λ k. (store_told S.Store D.Disk k).is_honest → (z : Stored)
+        → WasFor z (parts_state S.Store D.Disk parts) → (store_told S.Store D.Disk k).holds (rows_in z)
         (records_of (opened_for z).kept)) }
-    ensures profile { IfOk result (λ k. (store_told k).is_honest → (z : Stored)
-        → WasFor z (state S.Store conn) → profile_of (opened_for z).tree ≡ own_profile k) }
-    ensures lots { IfOk result (λ k. (store_told k).is_honest → (z : Stored)
-        → WasFor z (state S.Store conn)
-        → SameLots (lots_of None (opened_for z)) (store_told k).lots) }
-    ensures tabled { IfOk result (λ k. (store_told k).is_honest
-        → IsTabled (state S.Store conn).now) }
-    ensures fails { IfErr result (λ e. IsAlwaysClean S.Store → Fails (state S.Store conn) e) }
-    ensures cut { IfErr result MayCutShort }
+    ensures profile { IfOk result (λ k. (store_told S.Store D.Disk k).is_honest → (z : Stored)
+        → WasFor z (parts_state S.Store D.Disk parts)
+        → profile_of (opened_for z).tree ≡ own_profile k) }
+    ensures lots { IfOk result (λ k. (store_told S.Store D.Disk k).is_honest → (z : Stored)
+        → WasFor z (parts_state S.Store D.Disk parts)
+        → SameLots (lots_of None (opened_for z)) (store_told S.Store D.Disk k).lots) }
+    ensures tabled { IfOk result (λ k. (store_told S.Store D.Disk k).is_honest
+        → IsTabled (state S.Store parts.conn).now) }
+    ensures fails { IfErr result (λ e. IsAlwaysClean S.Store
+        → IsTrue (disk_in D.Disk e.disk).is_clean
+        → Fails (parts_state S.Store D.Disk parts) e.ending) }
+    ensures cut { IfErr result (λ e. MayCutShort e.ending) }
 {
-    match StoreKeeper::open(alloc, conn) {
+    match StoreKeeper::open(alloc, parts, Some(NUMBER)) {
         Ok(keeper) => Ok(keeper),
-        Err((fault, _)) => Err(Ending::of(fault)),
+        Err((fault, StoreParts { disk, .. })) => Err(ShownStore {
+            ending: Ending::of(fault),
+            disk,
+        }),
+    }
+}
+
+// What was shown over a look, whose data file it hands back.
+pub(crate) fn shown_over<S: Alter + Drop, D: Disk + Drop>(
+    look: TableLook<S, Data<D>>,
+    ending: Ending,
+) -> ShownStore<D>
+    ensures ending { result.ending ≡ ending }
+    ensures disk { result.disk ≡ option_map (λ f. f.disk) look.contents.file }
+{
+    let TableLook { contents, .. } = look;
+    let Data { file, .. } = contents;
+    match file {
+        Some(file) => ShownStore {
+            ending,
+            disk: Some(file.into_disk()),
+        },
+        None => ShownStore { ending, disk: None },
+    }
+}
+
+// A look at the store of a keeper, in a transaction.
+pub(crate) fn look_in<S: Alter + Drop, D: Disk + Drop>(
+    alloc: Global,
+    keeper: StoreKeeper<S, D>,
+) -> Result<TableLook<S, Data<D>>, ShownStore<D>>
+    ensures begins { IfOk result (λ look. as_look_fault look.fault ≡ None) }
+    ensures unknown { IfOk result (λ look. look.known ≡ None) }
+    ensures fresh { IfOk result (λ look. look.last ≡ None) }
+    ensures file { IfOk result (λ look. look.contents.file ≡ own_file keeper) }
+    ensures sees { IfOk result (λ look. IsAlwaysClean S.Store → (rows : Rows) (records : Records)
+        → (store_told S.Store D.Disk keeper).holds rows records
+        → Sees rows (view_in D.Disk look.contents).bytes (state S.Store look.conn)) }
+    ensures quiet { IfErr result (λ e. SaysNothing e.ending) }
+{
+    held_is_shown();
+    let mut look = keeper.into_look(alloc);
+    match begin(&mut look.conn) {
+        Ok(()) => Ok(look),
+        Err(error) => Err(shown_over(look, Ending::of(StoreFault::from(error)))),
     }
 }
 
 // A look at the store of a database.
-fn look_at<S: Alter + Drop>(alloc: Global, conn: Connection<S>) -> Result<TableLook<S>, Ending>
+fn look_at<S: Alter + Drop, D: Disk + Drop>(
+    alloc: Global,
+    parts: StoreParts<S, D>,
+) -> Result<TableLook<S, Data<D>>, ShownStore<D>>
     ensures begins { IfOk result (λ look. as_look_fault look.fault ≡ None) }
     ensures unknown { IfOk result (λ look. look.known ≡ None) }
     ensures fresh { IfOk result (λ look. look.last ≡ None) }
     ensures looks { IfOk result (λ look. IsAlwaysClean S.Store
-        → LooksAt (state S.Store conn) (state S.Store look.conn)) }
-    ensures fails { IfErr result (λ e. IsAlwaysClean S.Store → Fails (state S.Store conn) e) }
-    ensures cut { IfErr result MayCutShort }
+        → IsTrue (state_in D.Disk look.contents.file).is_clean
+        → LooksAt rows_in (parts_state S.Store D.Disk parts)
+        (view_in D.Disk look.contents).bytes (state S.Store look.conn)) }
+    ensures fails { IfErr result (λ e. IsAlwaysClean S.Store
+        → IsTrue (disk_in D.Disk e.disk).is_clean
+        → Fails (parts_state S.Store D.Disk parts) e.ending) }
+    ensures cut { IfErr result (λ e. MayCutShort e.ending) }
 {
-    let keeper = match open_keeper(alloc, conn) {
-        Ok(keeper) => keeper,
-        Err(ending) => return Err(ending),
-    };
-    let mut conn = keeper.into_connection();
-    match begin(&mut conn) {
-        Ok(()) => Ok(TableLook::new(alloc, conn)),
-        Err(error) => Err(Ending::of(StoreFault::from(error))),
+    match open_keeper(alloc, parts) {
+        Ok(keeper) => look_in(alloc, keeper),
+        Err(shown) => Err(shown),
     }
 }
 
@@ -122,67 +193,99 @@ fn ending_of_shown(shown: Result<(), ShowFault>, fault: Option<StoreFault>) -> E
 }
 
 // Lists a directory of the store of a database.
-fn list_of<S: Alter + Drop, W: Sink>(
+fn list_of<S: Alter + Drop, D: Disk + Drop, W: Sink>(
     alloc: Global,
-    conn: Connection<S>,
+    parts: StoreParts<S, D>,
     path: &str,
     writer: &mut W,
-) -> Ending
-    ensures shown { IsAlwaysClean S.Store → ShowsOver (λ z. ListsDirectory path.now z (W.contents
-        writer.old) (W.contents writer.new) result) (state S.Store conn) (W.contents writer.old)
-        (W.contents writer.new) result }
+) -> ShownStore<D>
+    ensures shown { IsAlwaysClean S.Store → IsTrue (disk_in D.Disk result.disk).is_clean
+        → ShowsOver (λ z. ListsDirectory path.now z (W.contents writer.old) (W.contents writer.new)
+        result.ending) (parts_state S.Store D.Disk parts) result.ending }
+    ensures silent { IsRefused result.ending
+        → W.contents writer.new ≡ W.contents writer.old }
     ensures written { OutputsAs W.was_written W.was_flushed writer.old writer.new
-        (ShowsText AreLines result) }
+        (ShowsText AreLines result.ending) }
 {
-    let mut look = match look_at(alloc, conn) {
+    let mut look = match look_at(alloc, parts) {
         Ok(look) => look,
-        Err(ending) => return ending,
+        Err(shown) => return shown,
     };
     let shown = show_listing(&mut look, path.as_bytes(), writer);
-    let TableLook { fault, .. } = look;
-    ending_of_shown(shown, fault)
+    let fault = look.fault.take();
+    shown_over(look, ending_of_shown(shown, fault))
 }
 
 // Prints a file of the store of a database.
-fn print_of<S: Alter + Drop, W: Sink>(
+fn print_of<S: Alter + Drop, D: Disk + Drop, W: Sink>(
     alloc: Global,
-    conn: Connection<S>,
+    parts: StoreParts<S, D>,
     path: &str,
     writer: &mut W,
-) -> Ending
-    ensures shown { IsAlwaysClean S.Store → ShowsOver (λ z. PrintsFile path.now z (W.contents
-        writer.old) (W.contents writer.new) result) (state S.Store conn) (W.contents writer.old)
-        (W.contents writer.new) result }
+) -> ShownStore<D>
+    ensures shown { IsAlwaysClean S.Store → IsTrue (disk_in D.Disk result.disk).is_clean
+        → ShowsOver (λ z. PrintsFile path.now z (W.contents writer.old) (W.contents writer.new)
+        result.ending) (parts_state S.Store D.Disk parts) result.ending }
+    ensures silent { IsRefused result.ending
+        → W.contents writer.new ≡ W.contents writer.old }
     ensures written { OutputsAs W.was_written W.was_flushed writer.old writer.new
-        (ShowsText (λ _. ⊤) result) }
+        (ShowsText (λ _. ⊤) result.ending) }
 {
-    let mut look = match look_at(alloc, conn) {
+    let mut look = match look_at(alloc, parts) {
         Ok(look) => look,
-        Err(ending) => return ending,
+        Err(shown) => return shown,
     };
     let shown = show_content(&mut look, path.as_bytes(), writer);
-    let TableLook { fault, .. } = look;
-    ending_of_shown(shown, fault)
+    let fault = look.fault.take();
+    shown_over(look, ending_of_shown(shown, fault))
 }
 
 // Shows a part of the store of a database.
-fn show_of<S: Alter + Drop, W: Sink>(
+fn show_of<S: Alter + Drop, D: Disk + Drop, W: Sink>(
+    alloc: Global,
+    parts: StoreParts<S, D>,
+    show: Show<'_>,
+    writer: &mut W,
+) -> ShownStore<D>
+    ensures shown { IsAlwaysClean S.Store → IsTrue (disk_in D.Disk result.disk).is_clean
+        → ShowsOver (λ z. Shows show.entry z (W.contents writer.old) (W.contents writer.new)
+        result.ending) (parts_state S.Store D.Disk parts) result.ending }
+    ensures silent { IsRefused result.ending
+        → W.contents writer.new ≡ W.contents writer.old }
+    ensures written { OutputsAs W.was_written W.was_flushed writer.old writer.new
+        (ShowsText (IsTextOf show.entry) result.ending) }
+{
+    match show {
+        Show::Summary => summary_of(alloc, parts, writer),
+        Show::Directory(path) => list_of(alloc, parts, path, writer),
+        Show::File(path) => print_of(alloc, parts, path, writer),
+    }
+}
+
+// Shows a part of the store of a database whose contents lie in its tables. What it becomes gets this
+// disk, which always returns what was written.
+fn show_inside<S: Alter + Drop, D: Disk + Drop, W: Sink>(
     alloc: Global,
     conn: Connection<S>,
+    memory: D,
     show: Show<'_>,
     writer: &mut W,
 ) -> Ending
-    ensures shown { IsAlwaysClean S.Store → ShowsOver (λ z. Shows show.entry z (W.contents
-        writer.old) (W.contents writer.new) result) (state S.Store conn) (W.contents writer.old)
-        (W.contents writer.new) result }
+    ensures shown { IsAlwaysClean S.Store → AreSure D.Disk → (z : Stored)
+        → WasInside z (state S.Store conn)
+        → Shows show.entry z (W.contents writer.old) (W.contents writer.new) result }
+    ensures says { IsAlwaysClean S.Store → AreSure D.Disk
+        → SaysSo (state S.Store conn).now result }
+    ensures silent { IsRefused result → W.contents writer.new ≡ W.contents writer.old }
     ensures written { OutputsAs W.was_written W.was_flushed writer.old writer.new
         (ShowsText (IsTextOf show.entry) result) }
 {
-    match show {
-        Show::Summary => summary_of(alloc, conn, writer),
-        Show::Directory(path) => list_of(alloc, conn, path, writer),
-        Show::File(path) => print_of(alloc, conn, path, writer),
-    }
+    let parts = StoreParts {
+        conn,
+        disk: Some(memory),
+    };
+    let ShownStore { ending, .. } = show_of(alloc, parts, show, writer);
+    ending
 }
 
 // A disk in memory with these bytes.
@@ -231,27 +334,64 @@ pub(crate) fn open_copy(
     }
 }
 
+// Whether contents of a store lie in its data file, and not in its tables.
+pub(crate) fn lies_beside<S: Alter>(conn: &Connection<S>) -> bool
+    ensures { (c : Content) → Holds c (state S.Store conn.now).now
+        → result ≡ is_third c.layout }
+{
+    matches!(layout_of(conn), Layout::Third)
+}
+
 /// Shows a part of the store in files of which these bytes were read. A copy of them in memory is
-/// opened, so the files stay as they are.
-pub fn show_store<W: Sink>(
+/// opened, so the files stay as they are. What they list of the data file is read from its disk, which
+/// is handed back. One of version 2 becomes one of version 3 in memory alone.
+pub fn show_store<D: Disk + Drop, W: Sink>(
     alloc: Global,
     read: StoreBytes,
+    disk: Option<D>,
     show: Show<'_>,
     writer: &mut W,
-) -> Ending
-    // Of a store what is asked for is shown.
-    ensures shown { (z : Stored) → FilesHold (image_in read) z
-        → Shows show.entry z (W.contents writer.old) (W.contents writer.new) result }
-    // Whatever the rows are, a text of that form is written, whole at `Done` alone. The output failed where
-    // the ending says so, and only there.
+) -> ShownStore<D>
+    // Of a store what is asked for is shown, if the disk has returned what was written.
+    ensures shown { IsTrue (disk_in D.Disk result.disk).is_clean → (z : Stored)
+        → FilesHold (store_read D.Disk read disk) z
+        → Shows show.entry z (W.contents writer.old) (W.contents writer.new) result.ending }
+    // Whatever the rows are, a text of that form is written, whole at `Done` alone. The output
+    // failed where the ending says so, and only there.
     ensures written { OutputsAs W.was_written W.was_flushed writer.old writer.new
-        (ShowsText (IsTextOf show.entry) result) }
+        (ShowsText (IsTextOf show.entry) result.ending) }
     // Of any files the ending says what is so.
-    ensures says { IsUnopened (image_in read) result ⊎ SaysTrue (image_in read) result }
-    ensures silent { IsRefused result → W.contents writer.new ≡ W.contents writer.old }
+    ensures says { IsTrue (disk_in D.Disk result.disk).is_clean
+        → IsUnopened (image_in read) result.ending ⊎ SaysTrue (image_in read) result.ending }
+    ensures silent { IsRefused result.ending
+        → W.contents writer.new ≡ W.contents writer.old }
 {
-    match open_copy(alloc, read) {
-        Ok(conn) => show_of(alloc, conn, show, writer),
-        Err(ending) => ending,
+    plain_over_any();
+    let conn = match open_copy(alloc, read) {
+        Ok(conn) => conn,
+        Err(ending) => return ShownStore { ending, disk },
+    };
+    if lies_beside(&conn) {
+        return show_of(alloc, StoreParts { conn, disk }, show, writer);
+    }
+    let ending = show_inside(alloc, conn, Memory::new(alloc), show, writer);
+    ShownStore { ending, disk }
+}
+
+/// The number of the store in files of which these bytes were read, where it has one.
+pub fn number_of(alloc: Global, read: StoreBytes) -> Option<u64>
+    // The data file of an everyday store of version 3 has it.
+    ensures number { IfSome result (IsStoreNumber (image_in read)) }
+    ensures small { IfSome result (λ n. n < 2 ^ 63) }
+{
+    let Ok(mut conn) = open_copy(alloc, read) else {
+        return None;
+    };
+    if !lies_beside(&conn) {
+        return None;
+    }
+    match number_at_rest(&mut conn) {
+        Ok(number) => Some(number),
+        Err(_) => None,
     }
 }

@@ -1,23 +1,30 @@
 // Whether the store in files that were read is sound.
-ghost use Rattle.std.specs.Prelude.{◌≡◌, ◌⊎◌, None, IfOk, IfErr};
+ghost use Rattle.std.specs.Prelude.{◌≡◌, ◌⊎◌, None, IfOk, IfErr, IsTrue};
 ghost use Rattle.sqlite.specs.Held.{state};
-ghost use Rattle.fuse_store_tables.specs.Saying.{IsTabled};
+ghost use Rattle.fuse_data.specs.State.{state_in};
 ghost use Rattle.fuse_store_tree.specs.Looking.{as_look_fault};
-ghost use Rattle.fuse_store.specs.Opening.{Stored, WasFor};
-ghost use Rattle.fuse_files.specs.StoreShown.{image_in, OutputsAs, SaysSo, SaysTrue, IsUnopened};
-ghost use Rattle.fuse_files.specs.StoreVerified.{IsStoreEnding, Verdicts, Verifies};
-ghost use Rattle.fuse_files.specs.inner.Showing.{Fails, IsAlwaysClean};
-ghost use Rattle.fuse_files.specs.inner.Verifying.{SeesBegun, VerifiesOver, walk_ending};
+ghost use Rattle.fuse_store_tree.specs.Viewing.{view_in};
+ghost use Rattle.fuse_store.specs.TableKeeper.{disk_in, parts_state};
+ghost use Rattle.fuse_files.specs.StoreShown.{image_in, store_read, OutputsAs, SaysSo, SaysTrue};
+ghost use Rattle.fuse_files.specs.StoreShown.{IsUnopened};
+ghost use Rattle.fuse_files.specs.StoreVerified.{rows_begun, IsStoreEnding, Verdicts, Verifies};
+ghost use Rattle.fuse_files.specs.inner.Showing.{Fails, IsAlwaysClean, LooksAt};
+ghost use Rattle.fuse_files.specs.inner.Verifying.{VerifiesInside, VerifiesOver, walk_ending};
+ghost use Rattle.fuse_files.specs.StoreSimulations.{AreSure};
 
-use crate::showing::{StoreBytes, ending_of_look, open_copy};
+use crate::showing::{
+    ShownStore, StoreBytes, ending_of_look, lies_beside, look_in, open_copy, shown_over,
+};
 use fuse_commands::Ending;
 use fuse_keeper::StoreFault;
 use fuse_session::Sink;
 use fuse_show::{Finding, Tally, VerifyFault, show_finding, show_tally, verify_tree};
-use fuse_store::StoreKeeper;
-use fuse_store_tables::begin;
-use fuse_store_tree::TableLook;
+use fuse_store::{StoreKeeper, StoreParts};
+use fuse_store_files::plain_over_any;
+use fuse_store_tables::{Layout, layout_of};
+use fuse_store_tree::{Data, TableLook};
 use sqlite::{Alter, Connection, Error};
+use sqlite_disk::{Disk, Memory};
 use std::alloc::Global;
 
 const NODES: &str = "SELECT count(*) FROM nodes";
@@ -28,26 +35,41 @@ const ENTRIES: &str = "SELECT count(*) FROM entries";
 const BLOCKS: &str = "SELECT count(*) FROM blocks JOIN nodes ON nodes.node = blocks.node \
     WHERE blocks.block * 4096 >= nodes.size OR blocks.block < 0";
 
+// All pieces, and those of the nodes that are there.
+const PIECES: &str = "SELECT count(*) FROM pieces";
+
+const OWNED: &str = "SELECT count(*) FROM pieces JOIN nodes ON nodes.node = pieces.node";
+
+// The pieces that end after the last block of their file.
+const BEYOND: &str = "SELECT count(*) FROM pieces JOIN nodes ON nodes.node = pieces.node \
+    WHERE (pieces.first + pieces.count - 1) * 4096 >= nodes.size OR pieces.first < 0";
+
+// A store of version 2 that becomes one of version 3 in memory gets this number.
+const NUMBER: u64 = 0;
+
 // A look at the store of a database, once a mount begins of it.
-fn look_begun<S: Alter + Drop>(alloc: Global, conn: Connection<S>) -> Result<TableLook<S>, Ending>
+fn look_begun<S: Alter + Drop, D: Disk + Drop>(
+    alloc: Global,
+    parts: StoreParts<S, D>,
+) -> Result<TableLook<S, Data<D>>, ShownStore<D>>
     ensures begins { IfOk result (λ look. as_look_fault look.fault ≡ None) }
     ensures unknown { IfOk result (λ look. look.known ≡ None) }
     ensures fresh { IfOk result (λ look. look.last ≡ None) }
-    ensures sees { IfOk result (λ look. IsAlwaysClean S.Store → (z : Stored)
-        → WasFor z (state S.Store conn) → SeesBegun z (state S.Store look.conn)) }
-    ensures tabled { IfOk result (λ look. IsAlwaysClean S.Store
-        → IsTabled (state S.Store conn).now) }
-    ensures fails { IfErr result (λ e. IsAlwaysClean S.Store → Fails (state S.Store conn) e) }
-    ensures fault { IfErr result IsStoreEnding }
+    ensures looks { IfOk result (λ look. IsAlwaysClean S.Store
+        → IsTrue (state_in D.Disk look.contents.file).is_clean
+        → LooksAt rows_begun (parts_state S.Store D.Disk parts)
+        (view_in D.Disk look.contents).bytes (state S.Store look.conn)) }
+    ensures fails { IfErr result (λ e. IsAlwaysClean S.Store
+        → IsTrue (disk_in D.Disk e.disk).is_clean
+        → Fails (parts_state S.Store D.Disk parts) e.ending) }
+    ensures fault { IfErr result (λ e. IsStoreEnding e.ending) }
 {
-    let keeper = match StoreKeeper::open_begun(alloc, conn) {
-        Ok(keeper) => keeper,
-        Err((fault, _)) => return Err(Ending::of(fault)),
-    };
-    let mut conn = keeper.into_connection();
-    match begin(&mut conn) {
-        Ok(()) => Ok(TableLook::new(alloc, conn)),
-        Err(error) => Err(Ending::of(StoreFault::from(error))),
+    match StoreKeeper::open_begun(alloc, parts, Some(NUMBER)) {
+        Ok(keeper) => look_in(alloc, keeper),
+        Err((fault, StoreParts { disk, .. })) => Err(ShownStore {
+            ending: Ending::of(fault),
+            disk,
+        }),
     }
 }
 
@@ -69,6 +91,20 @@ fn number<S: Alter>(conn: &mut Connection<S>, text: &str) -> Result<u64, Error> 
     Ok(number.unsigned_abs())
 }
 
+// What is wrong with the rows of pieces that a walk does not meet.
+fn stray_pieces<S: Alter>(conn: &mut Connection<S>) -> Result<Option<Finding>, Error> {
+    if layout_of(conn) == Layout::Second {
+        return Ok(None);
+    }
+    if number(conn, PIECES)? != number(conn, OWNED)? {
+        return Ok(Some(Finding::Strays));
+    }
+    if number(conn, BEYOND)? != 0 {
+        return Ok(Some(Finding::BlocksBeyond));
+    }
+    Ok(None)
+}
+
 // What is wrong with the rows of the tables that a walk does not meet.
 fn strays<S: Alter>(conn: &mut Connection<S>, tally: &Tally) -> Result<Option<Finding>, Error> {
     let entries = number(conn, ENTRIES)?;
@@ -78,7 +114,7 @@ fn strays<S: Alter>(conn: &mut Connection<S>, tally: &Tally) -> Result<Option<Fi
     if number(conn, BLOCKS)? != 0 {
         return Ok(Some(Finding::BlocksBeyond));
     }
-    Ok(None)
+    stray_pieces(conn)
 }
 
 // Writes what was found in the tables.
@@ -115,40 +151,86 @@ fn write_verdict<W: Sink>(writer: &mut W, tally: &Tally, found: Option<Finding>)
 }
 
 // Verifies the store of a database. A mount of it begins, so that nodes without a name are gone.
-fn verify_of<S: Alter + Drop, W: Sink>(alloc: Global, conn: Connection<S>, writer: &mut W) -> Ending
-    ensures verified { IsAlwaysClean S.Store → OutputsAs W.was_written W.was_flushed writer.old
-        writer.new (VerifiesOver (state S.Store conn) result) }
-    ensures says { IsAlwaysClean S.Store → SaysSo (state S.Store conn).now result }
+fn verify_of<S: Alter + Drop, D: Disk + Drop, W: Sink>(
+    alloc: Global,
+    parts: StoreParts<S, D>,
+    writer: &mut W,
+) -> ShownStore<D>
+    ensures verified { IsAlwaysClean S.Store → IsTrue (disk_in D.Disk result.disk).is_clean
+        → OutputsAs W.was_written W.was_flushed writer.old writer.new
+        (VerifiesOver (parts_state S.Store D.Disk parts) result.ending) }
+    ensures says { IsAlwaysClean S.Store → IsTrue (disk_in D.Disk result.disk).is_clean
+        → SaysSo (state S.Store parts.conn).now result.ending }
 {
-    let mut look = match look_begun(alloc, conn) {
+    let mut look = match look_begun(alloc, parts) {
         Ok(look) => look,
-        Err(ending) => return ending,
+        Err(shown) => return shown,
     };
     let tally = match verify_tree(alloc, &mut look, writer) {
         Ok(tally) => tally,
         Err(walk) => {
-            let TableLook { fault, .. } = look;
-            return ending_of_walk(walk, fault);
+            let fault = look.fault.take();
+            return shown_over(look, ending_of_walk(walk, fault));
         }
     };
     match strays(&mut look.conn, &tally) {
-        Ok(found) => write_verdict(writer, &tally, found),
-        Err(error) => Ending::of(StoreFault::from(error)),
+        Ok(found) => {
+            let ending = write_verdict(writer, &tally, found);
+            shown_over(look, ending)
+        }
+        Err(error) => shown_over(look, Ending::of(StoreFault::from(error))),
     }
+}
+
+// Verifies the store of a database whose contents lie in its tables. What it becomes gets this disk,
+// which always returns what was written.
+fn verify_inside<S: Alter + Drop, D: Disk + Drop, W: Sink>(
+    alloc: Global,
+    conn: Connection<S>,
+    memory: D,
+    writer: &mut W,
+) -> Ending
+    ensures verified { IsAlwaysClean S.Store → AreSure D.Disk
+        → OutputsAs W.was_written W.was_flushed writer.old writer.new
+        (VerifiesInside (state S.Store conn) result) }
+    ensures says { IsAlwaysClean S.Store → AreSure D.Disk
+        → SaysSo (state S.Store conn).now result }
+{
+    let parts = StoreParts {
+        conn,
+        disk: Some(memory),
+    };
+    let ShownStore { ending, .. } = verify_of(alloc, parts, writer);
+    ending
 }
 
 /// Verifies the store in files of which these bytes were read: walks over its whole tree, as a mount
 /// that begins finds it, and writes `ok` with what it counted, or the first thing wrong with its path. A
-/// copy of them in memory is opened, so the files stay as they are.
-pub fn verify_store<W: Sink>(alloc: Global, read: StoreBytes, writer: &mut W) -> Ending
-    // One line is written: what was counted of the store that they hold, or what is wrong.
-    ensures verified { OutputsAs W.was_written W.was_flushed writer.old writer.new
-        (Verifies (image_in read) result) }
+/// copy of them in memory is opened, so the files stay as they are. What they list of the data file is
+/// read from its disk, which is handed back.
+pub fn verify_store<D: Disk + Drop, W: Sink>(
+    alloc: Global,
+    read: StoreBytes,
+    disk: Option<D>,
+    writer: &mut W,
+) -> ShownStore<D>
+    // One line is written: what was counted of the store that they hold, or what is wrong, if the
+    // disk has returned what was written.
+    ensures verified { IsTrue (disk_in D.Disk result.disk).is_clean
+        → OutputsAs W.was_written W.was_flushed writer.old writer.new
+        (Verifies (store_read D.Disk read disk) result.ending) }
     // Of any files the ending says what is so.
-    ensures says { IsUnopened (image_in read) result ⊎ SaysTrue (image_in read) result }
+    ensures says { IsTrue (disk_in D.Disk result.disk).is_clean
+        → IsUnopened (image_in read) result.ending ⊎ SaysTrue (image_in read) result.ending }
 {
-    match open_copy(alloc, read) {
-        Ok(conn) => verify_of(alloc, conn, writer),
-        Err(ending) => ending,
+    plain_over_any();
+    let conn = match open_copy(alloc, read) {
+        Ok(conn) => conn,
+        Err(ending) => return ShownStore { ending, disk },
+    };
+    if lies_beside(&conn) {
+        return verify_of(alloc, StoreParts { conn, disk }, writer);
     }
+    let ending = verify_inside(alloc, conn, Memory::new(alloc), writer);
+    ShownStore { ending, disk }
 }

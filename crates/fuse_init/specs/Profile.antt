@@ -26,6 +26,8 @@ pub record Terms : Type 0 where
   pub links : Bool
   -- what is made in a directory with S_ISGID gets its group
   pub inherits : Bool
+  -- it is known which blocks of a file were written, and these are counted
+  pub counts_written : Bool
   pub node_limit : ℕ
   -- the bytes of a file
   pub file_limit : ℕ
@@ -40,6 +42,7 @@ plain = record {
   removes = false;
   links = false;
   inherits = false;
+  counts_written = false;
   node_limit = 65536;
   file_limit = 16777216;
 }
@@ -69,6 +72,7 @@ everyday = record {
   removes = true;
   links = true;
   inherits = true;
+  counts_written = true;
   node_limit = 1048576;
   file_limit = 2 ^ 40;
 }

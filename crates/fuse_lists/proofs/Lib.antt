@@ -1,2 +1,3 @@
+mod NewRows
 mod Placed
 pub mod PlainTrees

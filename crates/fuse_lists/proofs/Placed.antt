@@ -8,7 +8,8 @@ use Rattle.std.proofs.lemmas.List.Sums.{prefix_len_passes}
 use Rattle.std.proofs.lemmas.List.Quantifiers.{position-Some}
 use Rattle.fuse_rows.specs.declared.rows.NodeRow.{NodeRow}
 use Rattle.fuse_rows.specs.declared.rows.Full.{Full}
-use Rattle.fuse_rows.specs.Rows.{put_node, at_node}
+use Rattle.fuse_rows.specs.Rows.{put_node, at_node, new_body}
+use Rattle.fuse_rows.specs.Blocks.{Body}
 use Rattle.fuse_lists.specs.inner.NumbersOnce.{are_distinct}
 
 -- ---- tests
@@ -106,22 +107,22 @@ row_there row fs i d at =
     let p = position-Some (λ f. f.row.node == row.node) fs i d at in
     rw (list_any_at (λ f. f.row.node == row.node) fs i d p.0 p.1) refl
 
-pub content_in_place : (number : ℕ) (change : List ℕ → List ℕ) (fs : List Full) (i : ℕ) (d : Full) (made : List ℕ) → are_distinct fs ≡ true
+pub content_in_place : (number : ℕ) (change : Body → Body) (fs : List Full) (i : ℕ) (d : Full) (made : Body) → are_distinct fs ≡ true
     → position (λ f. f.row.node == number) fs ≡ Some i → d ≡ get_or fs i d → made ≡ change d.content
     → Changed number (λ f. record f { content = change f.content }) fs (set fs i (record { row = d.row; content = made }))
 content_in_place number change fs i d made once at here e =
     changed_in_place number (λ f. record f { content = change f.content }) fs i d (record { row = d.row; content = made }) once at here (λ f is. refl)
-    (ap (λ (bytes : List ℕ). record { row = d.row; content = bytes }) e)
+    (ap (λ (body : Body). record { row = d.row; content = body }) e)
 
 -- where no node has the number, none is changed
-pub no_content : (number : ℕ) (change : List ℕ → List ℕ) (fs : List Full) → position (λ f. f.row.node == number) fs ≡ None → fs ≡ map (at_node number change) fs
+pub no_content : (number : ℕ) (change : Body → Body) (fs : List Full) → position (λ f. f.row.node == number) fs ≡ None → fs ≡ map (at_node number change) fs
 no_content number change fs none =
     sym (none_changed (λ f. eqb f.row.node number) (λ f. record f { content = change f.content }) fs (no_place (λ f. f.row.node == number) fs none))
 
 -- ---- a node that comes last, and nodes that go
 
 pub row_last : (row : NodeRow) (fs : List Full) → position (λ f. f.row.node == row.node) fs ≡ None
-    → fs ++ record { row = row; content = [] } ∷ [] ≡ put_node row fs
+    → fs ++ record { row = row; content = new_body row.written } ∷ [] ≡ put_node row fs
 row_last row fs none = rw (no_place (λ f. f.row.node == row.node) fs none) refl
 
 none_last : (test : Full → Bool) (fs : List Full) (x : Full) → list_any test fs ≡ false → test x ≡ false → list_any test (fs ++ x ∷ []) ≡ false

@@ -26,9 +26,9 @@ impl PlainRows {
     ghost use Rattle.std.specs.Prelude.{◌≡◌, None, Some, IfOk, OnOk, OnErr, ◌++◌, ◌∷◌, [], map};
     ghost use Rattle.std.specs.Prelude.{filter, not, ◌==◌};
     ghost use Rattle.fuse_tree.specs.State.{new_store};
-    ghost use Rattle.fuse_rows.specs.Rows.{apply_one, apply, put_node, at_node, written};
+    ghost use Rattle.fuse_rows.specs.Rows.{apply_one, apply, put_node, at_node, body_written};
     ghost use Rattle.fuse_tree.specs.Rowed.{rowed};
-    ghost use Rattle.fuse_rows.specs.Rows.{sized, children_after};
+    ghost use Rattle.fuse_rows.specs.Rows.{body_sized, children_after};
     ghost use Rattle.fuse_tree.specs.Clearing.{cleared_rows, cleared_room};
     ghost use Rattle.fuse_lists.specs.PlainRows.{rows_of, lists_fault};
 
@@ -43,7 +43,7 @@ impl PlainRows {
         ensures fault { IfOk result (λ p. lists_fault p ≡ None) }
     {
         let mut nodes = NodeList::new(alloc);
-        nodes.put(alloc, nodes::root_row(from))?;
+        nodes.put(alloc, nodes::root_row(profile, from))?;
         Ok(PlainRows {
             alloc,
             nodes,
@@ -231,7 +231,7 @@ impl PlainRows {
     fn write_bytes(&mut self, node: u64, offset: u64, bytes: &[u8]) -> Result<(), Memory>
         ensures ok { OnOk result (rows_of self.new
             ≡ record (rows_of self.old) {
-              nodes = map (at_node node (written offset bytes.now))
+              nodes = map (at_node node (body_written offset bytes.now))
                   (rows_of self.old).nodes;
             }) }
         ensures err { OnErr result (rows_of self.new ≡ rows_of self.old) }
@@ -250,7 +250,7 @@ impl PlainRows {
     fn set_size(&mut self, node: u64, size: u64) -> Result<(), Memory>
         ensures ok { OnOk result (rows_of self.new
             ≡ record (rows_of self.old) {
-              nodes = map (at_node node (sized size))
+              nodes = map (at_node node (body_sized size))
                   (rows_of self.old).nodes;
             }) }
         ensures err { OnErr result (rows_of self.new ≡ rows_of self.old) }
@@ -341,6 +341,10 @@ impl Look for PlainRows {
                 Err(LookFault::Memory)
             }
         }
+    }
+
+    fn blocks_between(&mut self, node: u64, from: u64, to: u64) -> Result<u64, LookFault> {
+        Ok(self.nodes.blocks_between(node, from, to))
     }
 
     fn counters(&mut self) -> Result<Counters, LookFault> {

@@ -6,26 +6,31 @@ use Rattle.std.specs.List.{AllByRecursion, sum_by}
 use Rattle.std.proofs.lemmas.Bool.{ne_eqb, eqb-true, leb-true}
 use Rattle.std.proofs.lemmas.List.Sums.{sum_by-append, sum_by-cons}
 use Rattle.fuse_rows.specs.declared.rows.Room.{Room}
-use Rattle.fuse_tree.specs.State.{State, Node, Apart, FitsCapacity, blocks_for, used_of}
+use Rattle.fuse_rows.specs.Blocks.{listed_blocks, how_many}
+use Rattle.fuse_tree.specs.State.{State, Node, Apart, FitsCapacity, block_count_of, used_of}
 use Rattle.fuse_tree.specs.Rowed.{rows_of_state, counters_of}
-use Rattle.fuse_tree.specs.Space.{room_of, used_after, has_room}
+use Rattle.fuse_tree.specs.Space.{room_of, has_room}
 use Rattle.fuse_tree.specs.Changing.{changed_at}
 use Rattle.fuse_plan.proofs.Lists.{cond_found}
 
 abbrev pub blocks_of : Node → ℕ
-blocks_of n = blocks_for (length n.content)
+blocks_of = block_count_of
+
+-- a row counts as many
+pub counted_of : (blocks : Option (List ℕ)) → how_many (option_map length blocks) ≡ length (listed_blocks blocks)
+counted_of None = refl
+counted_of (Some blocks) = refl
 
 -- ---- what is in use
 
--- a node keeps its length
+-- a node keeps as many
 abbrev pub Lasts : (Node → Node) → Type 0
-Lasts f = (n : Node) → length (f n).content ≡ length n.content
+Lasts f = (n : Node) → blocks_of (f n) ≡ blocks_of n
 
 pub used_mapped : (f : Node → Node) (ns : List Node) → Lasts f → sum_by blocks_of (map f ns) ≡ sum_by blocks_of ns
 used_mapped f [] lasts = refl
 used_mapped f (n ∷ ns) lasts =
-    let here : blocks_of (f n) ≡ blocks_of n = ap blocks_for (lasts n) in
-    omega (arith, here, used_mapped f ns lasts, sum_by-cons blocks_of (f n) (map f ns), sum_by-cons blocks_of n ns)
+    omega (arith, lasts n, used_mapped f ns lasts, sum_by-cons blocks_of (f n) (map f ns), sum_by-cons blocks_of n ns)
 
 -- a node more
 pub used_appended : (ns : List Node) (n : Node) → sum_by blocks_of (ns ++ n ∷ []) ≡ sum_by blocks_of ns + blocks_of n
@@ -78,16 +83,24 @@ used_holds k d (n ∷ ns) at =
       | inr h ↦ omega (arith, sum_by-cons blocks_of n ns, used_holds k d ns h.1)
     ]
 
-pub used_then : (s : State) (change : Node → Node) (d : Node) (to : ℕ) → Apart (λ n later. n.number < later.number) s.nodes
-    → find (λ n. n.number == d.number) s.nodes ≡ Some d → length (change d).content ≡ to
-    → sum_by blocks_of (map (changed_at d.number change) s.nodes) ≡ used_after (used_of s) (length d.content) to
-used_then s change d to rise at size =
-    let whole = used_changed change d.number d s.nodes rise at in
-    let after : blocks_of (change d) ≡ blocks_for to = ap blocks_for size in
-    sums _ _ _ _ _ whole (used_holds d.number d s.nodes at) after
+-- it has so many more, or so many less
+pub used_more : (s : State) (change : Node → Node) (d : Node) (more : ℕ) → Apart (λ n later. n.number < later.number) s.nodes
+    → find (λ n. n.number == d.number) s.nodes ≡ Some d → blocks_of (change d) ≡ blocks_of d + more
+    → sum_by blocks_of (map (changed_at d.number change) s.nodes) ≡ used_of s + more
+used_more s change d more rise at count =
+    sums _ _ _ _ _ (used_changed change d.number d s.nodes rise at) (used_holds d.number d s.nodes at) count
   where
-    sums : (u v b c e : ℕ) → u + b ≡ v + c → b ≤ v → c ≡ e → u ≡ v - b + e
-    sums u v b c e whole holds after = omega (arith, whole, holds, after)
+    sums : (u v b c m : ℕ) → u + b ≡ v + c → b ≤ v → c ≡ b + m → u ≡ v + m
+    sums u v b c m whole holds count = omega (arith, whole, holds, count)
+
+pub used_less : (s : State) (change : Node → Node) (d : Node) (gone : ℕ) → Apart (λ n later. n.number < later.number) s.nodes
+    → find (λ n. n.number == d.number) s.nodes ≡ Some d → blocks_of (change d) + gone ≡ blocks_of d
+    → sum_by blocks_of (map (changed_at d.number change) s.nodes) ≡ used_of s - gone
+used_less s change d gone rise at count =
+    sums _ _ _ _ _ (used_changed change d.number d s.nodes rise at) (used_holds d.number d s.nodes at) count
+  where
+    sums : (u v b c m : ℕ) → u + b ≡ v + c → b ≤ v → c + m ≡ b → u ≡ v - m
+    sums u v b c m whole holds count = omega (arith, whole, holds, count)
 
 -- ---- the room
 
@@ -104,10 +117,10 @@ space_less s t (Some c) less is = record { used = omega (arith, less, is.used); 
 pub space_same : (s t : State) (o : Option ℕ) → used_of t ≡ used_of s → IfSome o (FitsCapacity s) → IfSome o (FitsCapacity t)
 space_same s t o same = space_less s t o (omega (arith, same))
 
-pub space_after : (s t : State) (o : Option ℕ) (from to : ℕ) → used_of t ≡ used_after (used_of s) from to
-    → has_room (option_map (room_with (used_of s)) o) from to ≡ true → IfSome o (FitsCapacity s) → IfSome o (FitsCapacity t)
-space_after s t None from to after room is = tt
-space_after s t (Some c) from to after room is = record { used = omega (arith, after, leb-true (used_after (used_of s) from to) c room); bounded = is.bounded }
+pub space_after : (s t : State) (o : Option ℕ) (more : ℕ) → used_of t ≡ used_of s + more → has_room (option_map (room_with (used_of s)) o) more ≡ true
+    → IfSome o (FitsCapacity s) → IfSome o (FitsCapacity t)
+space_after s t None more after room is = tt
+space_after s t (Some c) more after room is = record { used = omega (arith, after, leb-true (used_of s + more) c room); bounded = is.bounded }
 
 -- ---- the counters
 

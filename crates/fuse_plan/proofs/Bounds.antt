@@ -8,6 +8,8 @@ use Rattle.fuse_init.specs.Profile.{Terms}
 use Rattle.fuse_rows.specs.declared.rows.EntryRow.{EntryRow}
 use Rattle.fuse_rows.specs.declared.rows.HandleRow.{HandleRow}
 use Rattle.fuse_rows.specs.declared.rows.NodeRow.{NodeRow}
+use Rattle.fuse_rows.specs.Bounds.{block_limit}
+use Rattle.fuse_rows.specs.Blocks.{how_many}
 use Rattle.fuse_rows.specs.Rows.{is_entry, Rows, row_at, entry_at, is_after, entries_after}
 use Rattle.fuse_tree.specs.State.{State, terms_of, Node, Shape, Tree, IsNode, IsEntry, is_below, has_number, node_at}
 use Rattle.fuse_tree.specs.Rowed.{IsRowed, row_of, rowed, rows_of_state}
@@ -15,11 +17,13 @@ use Rattle.fuse_tree.specs.Handles.{is_open}
 use Rattle.fuse_tree.specs.Removing.{has_entries}
 use Rattle.fuse_plan.proofs.Lists.{all_more, found, any_gives, none_found, length_filtered}
 use Rattle.fuse_plan.proofs.Puts.{row_found}
+use Rattle.fuse_plan.proofs.SmallRows.{few_blocks}
 
 -- the bounds of a row under these terms
 pub record Bounded (t : Terms) (row : NodeRow) : Type 0 where
   pub size : row.size ≤ t.file_limit
   pub subdirs : row.subdirs ≤ t.node_limit
+  pub written : how_many row.written ≤ block_limit
 
 bounded : (s : State) (number : ℕ) (row : NodeRow) (o : Option Node) → Shape s → node_at s number ≡ o → option_map (row_of s) o ≡ Some row
     → Bounded (terms_of s) row
@@ -28,7 +32,7 @@ bounded s number row (Some n) tree e is =
     let p = (found (IsNode (terms_of s) s.next_node) (λ m. m.number == number) s.nodes n tree.nodes e).0 in
     let same : row_of s n ≡ row = cc in
     let here : Bounded (terms_of s) (row_of s n) =
-    record { size = p.size; subdirs = omega (arith, tree.limits.nodes, length_filtered (is_below s.entries n.number) s.nodes) } in
+    record { size = p.size; subdirs = omega (arith, tree.limits.nodes, length_filtered (is_below s.entries n.number) s.nodes); written = few_blocks s n p } in
     subst (Bounded (terms_of s)) same here
 
 pub bounded_state : (s : State) (number : ℕ) (row : NodeRow) → Shape s → row_at (rows_of_state s) number ≡ Some row → Bounded (terms_of s) row

@@ -1,5 +1,5 @@
 -- Requests that bring bytes leave a state of bytes one.
-use Rattle.std.proofs.Common.{◌<◌, ◌≤◌, ◌+◌, ◌-◌, ◌==◌, ◌&&◌, ◌||◌, ℕ, zero, suc, Bool, true, false, cond, eqb, not, List, [], ◌∷◌, ◌++◌, length, map, Option, Some, None, is_some, max, arith}
+use Rattle.std.proofs.Common.{◌<◌, ◌≤◌, ◌+◌, ◌-◌, ◌==◌, ◌&&◌, ◌||◌, ℕ, zero, suc, Bool, true, false, cond, eqb, not, List, [], ◌∷◌, ◌++◌, length, map, Option, Some, None, is_some, arith}
 use Rattle.std.specs.Prelude.{take, replicate, nat_le, nat_lt}
 use Rattle.std.specs.List.{AllByRecursion}
 use Rattle.fuse_wire.specs.declared.access_mode.AccessMode.{AccessMode}
@@ -29,7 +29,8 @@ use Rattle.fuse_rows.specs.Rows.{entry_at, sized, written}
 use Rattle.fuse_tree.specs.Handles.{access_at, is_open}
 use Rattle.fuse_tree.specs.Done.{Done, refuse, refuse_for, refuse_by, name_checks, answer, touched, touch}
 use Rattle.fuse_tree.specs.Changing.{changed_at, with_changed}
-use Rattle.fuse_tree.specs.Space.{room_of, has_room}
+use Rattle.fuse_tree.specs.Space.{room_of, has_room, newly_written}
+use Rattle.fuse_rows.specs.Blocks.{listed_blocks}
 use Rattle.fuse_tree.specs.Setting.{has_valid_bit, set_fault, set_attributes, with_set, setattr}
 use Rattle.fuse_tree.specs.Writing.{Writing, wrote, with_bytes, may_write, write, read_checks, read}
 use Rattle.fuse_tree.specs.Making.{asker, asked_node, begun_in, new_node, new_entry, with_new_node, make, mkdir_checks, mkdir, mknod_checks, mknod}
@@ -113,7 +114,11 @@ link_bytes s fresh content dir name bytes new h = record {
 }
 
 node_bytes : (s : State) (fresh : NewNode) (dir : ℕ) (name : List ℕ) → AreNameBytes name → HoldsBytes s → HoldsBytes (with_new_node s fresh dir name)
-node_bytes s fresh dir name = link_bytes s fresh [] dir name tt
+node_bytes s fresh dir name new h = record {
+  contents =
+      all_grown (λ n. AreBytes n.content) (map (touched dir fresh.made) s.nodes) (new_node s fresh) (touch_bytes dir fresh.made s h).contents tt;
+  names = all_grown (λ e. AreNameBytes e.name) s.entries (new_entry s dir name) h.names new;
+}
 
 -- ---- what is done
 
@@ -165,8 +170,7 @@ module _ (s : State) (h : HoldsBytes s) where
   setattr_keeps : (set : SetattrIn) (now : Moment) (n : Node) → Keeps (setattr s set now n)
   setattr_keeps set now n =
       unless s (set_fault (terms_of s).file_limit set n.mode) _ h
-      (chosen (has_valid_bit set fattr_size && not (has_room (room_of s) (length n.content) set.size)) _ _ (stays s _ h)
-      (leads (with_set s set now n.number) _ (changed_bytes n.number (set_attributes set now) s (λ m p. one m.content (has_valid_bit set fattr_size) p) h)))
+      (leads (with_set s set now n.number) _ (changed_bytes n.number (set_attributes set now) s (λ m p. one m.content (has_valid_bit set fattr_size) p) h))
     where
       one : (bs : List ℕ) (b : Bool) → AreBytes bs → AreBytes (cond b (sized set.size bs) bs)
       one bs true p = sized_bytes set.size bs p
@@ -177,7 +181,7 @@ module _ (s : State) (h : HoldsBytes s) where
       chosen (not (may_write (access_at s.handles fh n.number))) _ _ (stays s _ h)
       (chosen (length w.payload == 0) _ _ (leads s _ h)
       (chosen (nat_lt (terms_of s).file_limit (w.offset + length w.payload)) _ _ (stays s _ h)
-      (chosen (not (has_room (room_of s) (length n.content) (max (length n.content) (w.offset + length w.payload)))) _ _ (stays s _ h)
+      (chosen (not (has_room (room_of s) (newly_written w.offset (length w.payload) (listed_blocks n.blocks)))) _ _ (stays s _ h)
       (leads (with_bytes s w.offset w.payload w.now n.number) _
       (changed_bytes n.number (wrote w.offset w.payload w.now) s (λ m p. written_bytes w.offset w.payload m.content new p) h)))))
 

@@ -10,7 +10,8 @@ use Rattle.fuse_rows.specs.declared.rows.Room.{Room}
 use Rattle.fuse_tree.specs.State.{State, terms_of, Node, Shape, IsNode, FitsCapacity, node_at}
 use Rattle.fuse_tree.specs.Space.{room_of}
 use Rattle.fuse_rows.specs.Rows.{with_row, put_node, at_node}
-use Rattle.fuse_tree.specs.Rowed.{full_of, counters_of, rows_of_state}
+use Rattle.fuse_rows.specs.Blocks.{Body}
+use Rattle.fuse_tree.specs.Rowed.{full_of, body_of_node, counters_of, rows_of_state}
 use Rattle.fuse_tree.specs.Changing.{changed_at, with_changed}
 use Rattle.fuse_plan.proofs.Lists.{all_both}
 use Rattle.fuse_plan.proofs.Counts.{subdirs_mapped}
@@ -47,7 +48,7 @@ module _ (s : State) (change : Node → Node) (same : (n : Node) → SamePlace n
   pub full_then : (n : Node) → full_of after n ≡ full_of s n
   full_then n = rw (subdirs_mapped s (changed_at d.number change) places n.number) refl
 
-  module _ (row : NodeRow) (f : List ℕ → List ℕ) (here : full_of s (change d) ≡ record { row = row; content = f d.content }) where
+  module _ (row : NodeRow) (f : Body → Body) (here : full_of s (change d) ≡ record { row = row; content = f (body_of_node d) }) where
     number : row.node ≡ d.number
     number = sym (ap (λ (x : Full). x.row.node) here) ∙ (same d).number
 

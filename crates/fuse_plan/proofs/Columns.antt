@@ -1,5 +1,5 @@
 -- The changes of each plan over the rows of a tree fit a table.
-use Rattle.std.proofs.Common.{◌≡◌, ◌+◌, ◌-◌, ◌<◌, ◌==◌, ◌&&◌, ◌||◌, ◌^◌, ℕ, Bool, true, false, cond, not, eqb, List, [], ◌∷◌, Option, Some, None, is_some, refl, subst, inl, inr, arith}
+use Rattle.std.proofs.Common.{◌≡◌, ◌≤◌, ◌+◌, ◌-◌, ◌<◌, ◌==◌, ◌&&◌, ◌||◌, ◌^◌, ℕ, Bool, true, false, cond, not, eqb, List, [], ◌∷◌, Option, Some, None, is_some, refl, subst, inl, inr, arith}
 use Rattle.std.specs.Option.{option_map}
 use Rattle.std.specs.Prelude.{IfSome, nat_eq, nat_lt, nat_le}
 use Rattle.std.specs.Cmp.Lexicographic.{pointwise}
@@ -21,7 +21,7 @@ use Rattle.fuse_init.specs.declared.negotiation.Negotiated.TheVariants.{Agreed, 
 use Rattle.fuse_init.specs.Agree.{agree, offered, is_older}
 use Rattle.fuse_init.specs.Profile.{plain, everyday, terms}
 use Rattle.fuse_init.specs.Numbers.{kernel_version}
-use Rattle.fuse_rows.specs.Bounds.{number_end}
+use Rattle.fuse_rows.specs.Bounds.{block_limit, number_end}
 use Rattle.fuse_plan.specs.declared.planning.finding.Link.{Link}
 use Rattle.fuse_tree.specs.declared.new_node.NewNode.{NewNode}
 use Rattle.fuse_tree.specs.declared.agreement.Agreement.{Agreement}
@@ -33,7 +33,7 @@ use Rattle.fuse_rows.specs.declared.rows.NodeRow.{NodeRow}
 use Rattle.fuse_plan.specs.declared.planned.Planned.{Planned}
 use Rattle.fuse_init.specs.declared.profile.Profile.{Profile}
 use Rattle.fuse_plan.specs.inner.PlanRemoval.{goes_unnamed, goes_closed, room_without, removal, with_removal}
-use Rattle.fuse_rows.specs.Rows.{profile_for, Rows, row_at, handle_at, row_is_named}
+use Rattle.fuse_rows.specs.Rows.{full_at, profile_for, Rows, row_at, handle_at, row_is_named}
 use Rattle.fuse_tree.specs.State.{State, Shape, is_dir}
 use Rattle.fuse_tree.specs.Keeping.{agreement_at, keeps}
 use Rattle.fuse_tree.specs.Rowed.{rows_of_state}
@@ -43,6 +43,7 @@ use Rattle.fuse_tree.specs.Checks.{Check}
 use Rattle.fuse_tree.specs.Making.{asker, asked_node}
 use Rattle.fuse_tree.specs.Listing.{first_fits}
 use Rattle.fuse_tree.specs.Opening.{open_fault, open_checks, not_for_dirs, for_dirs_alone}
+use Rattle.fuse_rows.specs.Blocks.{how_many}
 use Rattle.fuse_rows.specs.Columns.{FitsNode, FitsRoom, FitsCounters, FitColumns}
 use Rattle.fuse_plan.specs.inner.Planning.{plan_child, plan_lookup, plan_act, plan_at, plan_offered, plan_of}
 use Rattle.fuse_plan.specs.inner.PlanInit.{plan_init}
@@ -57,7 +58,7 @@ use Rattle.fuse_plan.specs.inner.Reading.{row_name_checks, child_at}
 use Rattle.fuse_plan.proofs.Lists.{cond_found}
 use Rattle.fuse_plan.proofs.FurtherColumns.{further_fits}
 use Rattle.fuse_plan.proofs.SizesFit.{isnt_not, setattr_fits, write_fits}
-use Rattle.fuse_plan.proofs.SmallRows.{SmallCounters, Small, small, found_small, FitsLink, FitsFound, link_small, open_small, Fit, nothing, past, unless, checked, joined}
+use Rattle.fuse_plan.proofs.SmallRows.{SmallCounters, Small, small, found_small, found_few, counted_small, FitsLink, FitsFound, link_small, open_small, Fit, nothing, past, unless, checked, joined}
 
 -- ---- LOOKUP
 
@@ -77,9 +78,9 @@ new_fits valid counters fresh name row few fits =
     let cookie : counters.next_cookie + 1 < 2 ^ 63 = omega (arith, few.next_cookie) in
     record {
       columns = (
-        record { node = fits.node; up = fits.up; size = fits.size },
+        record { node = fits.node; up = fits.up; size = fits.size; written = fits.written },
         (
-          record { node = omega arith; up = fits.node; size = omega arith },
+          record { node = omega arith; up = fits.node; size = omega arith; written = counted_small 0 counters.room (omega arith) },
           (
             record { dir = fits.node; child = omega arith; cookie = omega arith },
             (
@@ -223,8 +224,8 @@ gone_fits p now link row rows all there fits = record {
       (counters_fit rows.counters all.counters) (
         there.cookie,
         (
-          record { node = fits.node; up = fits.up; size = fits.size },
-          (record { node = there.child.node; up = omega arith; size = there.child.size }, tt),
+          record { node = fits.node; up = fits.up; size = fits.size; written = fits.written },
+          (record { node = there.child.node; up = omega arith; size = there.child.size; written = there.child.written }, tt),
         ),
       );
 }
@@ -247,17 +248,17 @@ dirs_fit : (r : Renaming) (from to : NodeRow) (moves comes lost : Bool) → Fits
 dirs_fit r from to moves comes lost one two = step (from.node == r.new_dir)
   where
     after : (leaves enters : Bool) → FitsNode from → FitsNode (dir_row r.now leaves enters from)
-    after leaves enters fits = record { node = fits.node; up = fits.up; size = fits.size }
+    after leaves enters fits = record { node = fits.node; up = fits.up; size = fits.size; written = fits.written }
 
     step : (b : Bool)
         → FitColumns (cond b (changes.Node (dir_row r.now lost comes from) ∷ [])
         (changes.Node (dir_row r.now moves comes from) ∷ changes.Node (dir_row r.now lost moves to) ∷ []))
     step true = (after lost comes one, tt)
-    step false = (after moves comes one, (record { node = two.node; up = two.up; size = two.size }, tt))
+    step false = (after moves comes one, (record { node = two.node; up = two.up; size = two.size; written = two.written }, tt))
 
 lost_fit : (now : Moment) (other : Option Link) → FitsFound other → FitColumns (lost_changes now other)
 lost_fit now None there = tt
-lost_fit now (Some other) there = (there.cookie, (record { node = there.child.node; up = omega arith; size = there.child.size }, tt))
+lost_fit now (Some other) there = (there.cookie, (record { node = there.child.node; up = omega arith; size = there.child.size; written = there.child.written }, tt))
 
 moved_fits : (r : Renaming) (counters : CountersRow) (from to : NodeRow) (source : Link) (other : Option Link) → SmallCounters counters → FitsNode from
     → FitsNode to → r.new_dir < 2 ^ 63 → FitsLink source → FitsFound other
@@ -266,7 +267,7 @@ moved_fits r counters from to source other few one two dir there given =
     let cookie : counters.next_cookie + 1 < 2 ^ 63 = omega (arith, few.next_cookie) in
     let dirs = dirs_fit r from to (is_dir_link source) false (is_dir_other other) one two in
     joined _ _ (joined (lost_changes r.now other) _ (lost_fit r.now other given) (there.cookie, dirs)) (
-      record { node = there.child.node; up = dir; size = there.child.size },
+      record { node = there.child.node; up = dir; size = there.child.size; written = there.child.written },
       (
         record { dir = dir; child = there.child.node; cookie = omega arith },
         (
@@ -292,10 +293,10 @@ exchanged_fits r counters from to source other few one two dir there given =
       (
         given.cookie,
         (
-          record { node = given.child.node; up = one.node; size = given.child.size },
+          record { node = given.child.node; up = one.node; size = given.child.size; written = given.child.written },
           joined (dirs_changes r from to (is_dir_link source) (is_dir_link other) (is_dir_link other)) _
               (dirs_fit r from to (is_dir_link source) (is_dir_link other) (is_dir_link other) one two) (
-                record { node = there.child.node; up = dir; size = there.child.size },
+                record { node = there.child.node; up = dir; size = there.child.size; written = there.child.written },
                 (
                   record { dir = one.node; child = given.child.node; cookie = omega arith },
                   (
@@ -397,31 +398,34 @@ rename_fits r from rows all one = between_fits r from (new_dir_at r.new_dir from
 
 -- ---- all requests
 
-act_fits : (g : Agreement) (header : InHeader) (a : Act) (now : Moment) (row : NodeRow) (rows : Rows) → Small rows → FitsNode row → Fit (plan_act g header a now row rows)
-act_fits g header (acts.Lookup name) now row rows all fits = lookup_fits g name row rows
-act_fits g header (acts.Getattr flags fh) now row rows all fits = nothing _ refl
-act_fits g header (acts.Setattr set) now row rows all fits = setattr_fits g set now row rows all fits
-act_fits g header (acts.Mkdir mode umask name) now row rows all fits = mkdir_fits g (asked_node (asker header now) mode 0) name row rows all fits
-act_fits g header (acts.Mknod mode rdev umask name) now row rows all fits = mknod_fits g (asked_node (asker header now) mode rdev) name row rows all fits
-act_fits g header (acts.Unlink name) now row rows all fits = remove_fits g.profile row_unlink_checks name now row rows all fits
-act_fits g header (acts.Rmdir name) now row rows all fits = remove_fits g.profile (row_rmdir_checks rows) name now row rows all fits
-act_fits g header (acts.OpenFile flags open_flags) now row rows all fits = open_fits (terms g.profile).open_flags flags row rows all fits
-act_fits g header (acts.Read asked) now row rows all fits = read_fits asked row rows
-act_fits g header (acts.Write fh offset write_flags lock_owner flags payload) now row rows all fits = write_fits g.profile fh (record { offset = offset; payload = payload; now = now }) row rows all fits
-act_fits g header (acts.OpenDir flags open_flags) now row rows all fits = open_dir_fits row rows all fits
-act_fits g header (acts.ReadDir x) now row rows all fits = read_dir_fits x row rows
-act_fits g header (acts.Release x) now row rows all fits = close_fits x.fh (not_for_dirs row.mode) row rows all fits
-act_fits g header (acts.ReleaseDir x) now row rows all fits = close_fits x.fh (for_dirs_alone row.mode) row rows all fits
-act_fits g header (acts.Rename new_dir old_name new_name) now row rows all fits = rename_fits (asking new_dir 0 old_name new_name now) row rows all fits
-act_fits g header (acts.Rename2 new_dir flags old_name new_name) now row rows all fits =
+act_fits : (g : Agreement) (header : InHeader) (a : Act) (now : Moment) (row : NodeRow) (rows : Rows) → Small rows → FitsNode row
+    → how_many row.written ≤ block_limit → Fit (plan_act g header a now row rows)
+act_fits g header (acts.Lookup name) now row rows all fits few = lookup_fits g name row rows
+act_fits g header (acts.Getattr flags fh) now row rows all fits few = nothing _ refl
+act_fits g header (acts.Setattr set) now row rows all fits few = setattr_fits g set now row rows all fits
+act_fits g header (acts.Mkdir mode umask name) now row rows all fits few = mkdir_fits g (asked_node (asker header now) mode 0) name row rows all fits
+act_fits g header (acts.Mknod mode rdev umask name) now row rows all fits few = mknod_fits g (asked_node (asker header now) mode rdev) name row rows all fits
+act_fits g header (acts.Unlink name) now row rows all fits few = remove_fits g.profile row_unlink_checks name now row rows all fits
+act_fits g header (acts.Rmdir name) now row rows all fits few = remove_fits g.profile (row_rmdir_checks rows) name now row rows all fits
+act_fits g header (acts.OpenFile flags open_flags) now row rows all fits few = open_fits (terms g.profile).open_flags flags row rows all fits
+act_fits g header (acts.Read asked) now row rows all fits few = read_fits asked row rows
+act_fits g header (acts.Write fh offset write_flags lock_owner flags payload) now row rows all fits few = write_fits g.profile fh (record { offset = offset; payload = payload; now = now }) row rows all fits few
+act_fits g header (acts.OpenDir flags open_flags) now row rows all fits few = open_dir_fits row rows all fits
+act_fits g header (acts.ReadDir x) now row rows all fits few = read_dir_fits x row rows
+act_fits g header (acts.Release x) now row rows all fits few = close_fits x.fh (not_for_dirs row.mode) row rows all fits
+act_fits g header (acts.ReleaseDir x) now row rows all fits few = close_fits x.fh (for_dirs_alone row.mode) row rows all fits
+act_fits g header (acts.Rename new_dir old_name new_name) now row rows all fits few = rename_fits (asking new_dir 0 old_name new_name now) row rows all fits
+act_fits g header (acts.Rename2 new_dir flags old_name new_name) now row rows all fits few =
     rename_fits (asking new_dir flags old_name new_name now) row rows all fits
-act_fits g header (acts.Further opcode body) now row rows all fits = further_fits g (asker header now) opcode body row rows all fits
-act_fits g header _ now row rows all fits = nothing _ refl
+act_fits g header (acts.Further opcode body) now row rows all fits few = further_fits g (asker header now) opcode body row rows all fits
+act_fits g header _ now row rows all fits few = nothing _ refl
 
 at_fits : (g : Agreement) (request : Asked) (now : Moment) (o : Option NodeRow) (rows : Rows) → Small rows → row_at rows request.header.nodeid ≡ o
     → Fit (plan_at g request now o rows)
 at_fits g request now None rows all is = nothing _ refl
-at_fits g request now (Some row) rows all is = act_fits g request.header request.act now row rows all (found_small rows request.header.nodeid row all is).0
+at_fits g request now (Some row) rows all is =
+    act_fits g request.header request.act now row rows all (found_small rows request.header.nodeid row all is).0
+    (found_few rows request.header.nodeid row (full_at rows request.header.nodeid) all refl is)
 
 -- what is agreed on is of the bits that the server takes
 abbrev FitsAgreed : Negotiated → Type 0

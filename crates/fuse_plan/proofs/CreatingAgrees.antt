@@ -23,7 +23,7 @@ use Rattle.fuse_plan.proofs.Agrees.{Agrees, refused_agrees, both_for, checked}
 use Rattle.fuse_plan.proofs.Fit.{not_false, none_some}
 use Rattle.fuse_plan.proofs.KeptStates.{node_given, kept_make, kept_by, kept_open}
 use Rattle.fuse_plan.proofs.Lists.{any_last}
-use Rattle.fuse_plan.proofs.Making.{new_full, make_rows, make_tree}
+use Rattle.fuse_plan.proofs.Making.{empty_full, make_rows, make_tree}
 use Rattle.fuse_plan.proofs.Modes.{made_file, mode_stays_in, file_stays_in}
 use Rattle.fuse_plan.proofs.Carried.{file_no_link}
 use Rattle.fuse_plan.proofs.Opening.{room, open_rows, tree_opened}
@@ -59,7 +59,7 @@ module _ (s : State) (fresh : NewNode) (name : List ℕ) (access : AccessMode) (
                 «open» = open_of (terms_of s).open_flags s.next_fh;
               });
             })
-            (sym (new_full s fresh [] name d tree e));
+            (sym (empty_full s fresh name d tree e));
         rows = create_rows;
         tree =
             tree_opened (with_new_node s fresh d.number name) s.next_node access (opens file) (room (with_new_node s fresh d.number name) left)

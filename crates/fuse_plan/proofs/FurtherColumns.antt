@@ -33,19 +33,19 @@ use Rattle.fuse_plan.specs.inner.PlanListing.{row_list_checks}
 use Rattle.fuse_plan.specs.inner.PlanCreating.{plan_created, plan_create_for, plan_create}
 use Rattle.fuse_plan.specs.inner.PlanFurther.{plan_content, plan_further}
 use Rattle.fuse_plan.proofs.Fit.{no_fault}
-use Rattle.fuse_plan.proofs.SizesFit.{isnt_not, sized_room}
-use Rattle.fuse_plan.proofs.SmallRows.{SmallCounters, Small, Fit, nothing, past, unless, checked, checked_then}
+use Rattle.fuse_plan.proofs.SizesFit.{isnt_not, more_room}
+use Rattle.fuse_plan.proofs.SmallRows.{counted_small, SmallCounters, Small, Fit, nothing, past, unless, checked, checked_then}
 
 new_link_fits : (valid : ℕ) (counters : CountersRow) (fresh : NewNode) (target name : List ℕ) (row : NodeRow) → SmallCounters counters → FitsNode row
-    → length target ≤ target_limit → has_room counters.room 0 (length target) ≡ true → Fit (plan_new_link valid counters fresh target name row)
+    → length target ≤ target_limit → has_room counters.room 1 ≡ true → Fit (plan_new_link valid counters fresh target name row)
 new_link_fits valid counters fresh target name row few fits short left =
     let node : counters.next_node + 1 < 2 ^ 63 = omega (arith, few.next_node) in
     let cookie : counters.next_cookie + 1 < 2 ^ 63 = omega (arith, few.next_cookie) in
     record {
       columns = (
-        record { node = fits.node; up = fits.up; size = fits.size },
+        record { node = fits.node; up = fits.up; size = fits.size; written = fits.written },
         (
-          record { node = omega arith; up = fits.node; size = omega (arith, short) },
+          record { node = omega arith; up = fits.node; size = omega (arith, short); written = counted_small 1 counters.room (omega arith) },
           (
             record { dir = fits.node; child = omega arith; cookie = omega arith },
             (
@@ -57,7 +57,7 @@ new_link_fits valid counters fresh target name row few fits short left =
                   next_cookie = cookie;
                   nodes = omega (arith, few.nodes);
                   handles = omega (arith, few.handles);
-                  room = sized_room counters.room 0 (length target) few.room left;
+                  room = more_room counters.room 1 few.room left;
                 },
                 tt,
               ),
@@ -84,9 +84,9 @@ created_fits g counters fresh name access row few fits =
     let cookie : counters.next_cookie + 1 < 2 ^ 63 = omega (arith, few.next_cookie) in
     record {
       columns = (
-        record { node = fits.node; up = fits.up; size = fits.size },
+        record { node = fits.node; up = fits.up; size = fits.size; written = fits.written },
         (
-          record { node = omega arith; up = fits.node; size = omega arith },
+          record { node = omega arith; up = fits.node; size = omega arith; written = counted_small 0 counters.room (omega arith) },
           (
             record { dir = fits.node; child = omega arith; cookie = omega arith },
             (

@@ -1,6 +1,6 @@
 -- In each plan, changes that take entries away stand before those that make entries.
 use Rattle.std.proofs.Common.{◌≡◌, ◌+◌, ◌-◌, ◌==◌, ◌&&◌, ◌||◌, ℕ, Bool, true, false, cond, not, List, [], ◌∷◌, ◌++◌, ◌∙◌, length, Option, Some, None, is_some, refl}
-use Rattle.std.specs.Prelude.{max, nat_lt, nat_le}
+use Rattle.std.specs.Prelude.{nat_lt, nat_le}
 use Rattle.std.specs.List.{AllByRecursion, list_any}
 use Rattle.fuse_wire.specs.declared.access_mode.AccessMode.{AccessMode}
 use Rattle.fuse_wire.specs.declared.access_mode.AccessMode.TheVariants.{ReadOnly}
@@ -53,8 +53,8 @@ use Rattle.fuse_plan.specs.inner.Planning.{plan_child, plan_lookup, plan_act, pl
 use Rattle.fuse_plan.specs.inner.PlanInit.{plan_init}
 use Rattle.fuse_plan.specs.inner.PlanMaking.{row_mkdir_checks, plan_mkdir, row_mknod_checks, plan_mknod}
 use Rattle.fuse_tree.specs.Space.{has_room}
-use Rattle.fuse_plan.specs.inner.PlanSpace.{counters_for, room_in, room_changes}
-use Rattle.fuse_plan.specs.inner.PlanSetting.{set_row, set_counters, plan_setattr}
+use Rattle.fuse_plan.specs.inner.PlanSpace.{counters_for, room_in, room_changes, newly_in}
+use Rattle.fuse_plan.specs.inner.PlanSetting.{set_row, set_counters, set_gone, plan_setattr}
 use Rattle.fuse_plan.specs.inner.PlanWriting.{write_changes, plan_write, row_read_checks, plan_read}
 use Rattle.fuse_plan.specs.inner.PlanListing.{rows_after, row_list_checks, plan_read_dir}
 use Rattle.fuse_plan.specs.inner.PlanOpening.{plan_open_node, plan_open_for, plan_open, plan_open_dir, counters_closed, closed_changes, plan_close}
@@ -149,14 +149,13 @@ mknod_orders g asked name row rows = checked (row_mknod_checks g asked.mode name
 setattr_orders : (g : Agreement) (set : SetattrIn) (now : Moment) (row : NodeRow) (rows : Rows) → Orders (plan_setattr g set now row rows)
 setattr_orders g set now row rows =
     unless (set_fault (terms g.profile).file_limit set row.mode) _
-    (chosen (has_valid_bit set fattr_size && not (has_room (room_in (set_counters g.profile set rows)) row.size set.size)) _ _ (by_test _ refl)
-    (by_test _ (step (has_valid_bit set fattr_size) (set_counters g.profile set rows))))
+    (by_test _ (step (has_valid_bit set fattr_size) (set_gone set row rows) (set_counters g.profile set rows)))
   where
-    step : (sizes : Bool) (counters : Option CountersRow)
-        → goes_first (changes.Node (set_row set now row) ∷ cond sizes (changes.Sized row.node set.size ∷ room_changes counters row.size set.size) []) ≡ true
-    step true None = refl
-    step true (Some counters) = refl
-    step false counters = refl
+    step : (sizes : Bool) (gone : ℕ) (counters : Option CountersRow)
+        → goes_first (changes.Node (set_row set now gone row) ∷ cond sizes (changes.Sized row.node set.size ∷ room_changes counters (λ used. used - gone)) []) ≡ true
+    step true gone None = refl
+    step true gone (Some counters) = refl
+    step false gone counters = refl
 
 write_orders : (p : Profile) (fh : ℕ) (w : Writing) (row : NodeRow) (rows : Rows)
     → Orders (plan_write p fh w row rows)
@@ -164,12 +163,12 @@ write_orders p fh w row rows =
     chosen (not (may_write (access_at rows.handles fh row.node))) _ _ (by_test _ refl)
     (chosen (length w.payload == 0) _ _ (by_test _ refl)
     (chosen (nat_lt (terms p).file_limit (w.offset + length w.payload)) _ _ (by_test _ refl)
-    (chosen (not (has_room (room_in (counters_for p rows)) row.size (max row.size (w.offset + length w.payload)))) _ _ (by_test _ refl)
-    (by_test _ (step (counters_for p rows))))))
+    (chosen (not (has_room (room_in (counters_for p rows)) (newly_in rows row w.offset (length w.payload)))) _ _ (by_test _ refl)
+    (by_test _ (step (newly_in rows row w.offset (length w.payload)) (counters_for p rows))))))
   where
-    step : (counters : Option CountersRow) → goes_first (write_changes w.offset w.payload w.now row counters) ≡ true
-    step None = refl
-    step (Some counters) = refl
+    step : (more : ℕ) (counters : Option CountersRow) → goes_first (write_changes w.offset w.payload more w.now row counters) ≡ true
+    step more None = refl
+    step more (Some counters) = refl
 
 read_orders : (asked : ReadIn) (row : NodeRow) (rows : Rows) → Orders (plan_read asked row rows)
 read_orders asked row rows = checked (row_read_checks asked row rows) _ (by_test _ refl)

@@ -10,7 +10,7 @@ use Rattle.fuse_rows.specs.declared.rows.Full.{Full}
 use Rattle.fuse_rows.specs.declared.rows.NodeRow.{NodeRow}
 use Rattle.fuse_tree.specs.State.{State, terms_of, used_of, Node, Shape, IsNode, IsEntry, Apart, is_dir, is_dir_of, has_number, is_below, node_at, up_of, subdirs_of}
 use Rattle.fuse_rows.specs.Rows.{with_row, put_node, apply}
-use Rattle.fuse_tree.specs.Rowed.{full_of, row_of, rows_of_state, counters_of}
+use Rattle.fuse_tree.specs.Rowed.{body_of_node, full_of, row_of, rows_of_state, counters_of}
 use Rattle.fuse_tree.specs.Space.{room_of}
 use Rattle.fuse_tree.specs.Done.{touched, touch}
 use Rattle.fuse_tree.specs.Removing.{marked, mark, without_entry, entry_gone, has_entries}
@@ -95,7 +95,7 @@ pub tree_marked : (s : State) (k : ℕ) (now : Moment) → Shape s → Shape (ma
 tree_marked s k now tree =
     tree_mapped s (marked k now) (marked_same k now)
     (all_more (IsNode (terms_of s) s.next_node) (λ n. IsNode (terms_of s) s.next_node (marked k now n)) s.nodes
-    (λ n p. record { from_one = p.from_one; below = p.below; mode = p.mode; content = p.content; size = p.size }) tree.nodes)
+    (λ n p. record { from_one = p.from_one; below = p.below; mode = p.mode; content = p.content; size = p.size; blocks = p.blocks }) tree.nodes)
     (space_same s (mark k now s) s.capacity (used_mapped (marked k now) s.nodes (λ n. refl)) tree.space) tree
 
 -- ---- the entry e of directory d leads to node c, in which no entry stands
@@ -183,7 +183,7 @@ module _ (s : State) (e : EntryRow) (d c : Node) (now : Moment) (tree : Shape s)
       (subst (λ (b : Bool). subdirs_of s e.dir ≡ subdirs_of after e.dir + cond (is_dir c.mode && b) 1 0) tested (subdirs_then e.dir dir_given))
 
   -- the rows of the two nodes, and those of the others
-  pub child_then : full_of after (changed c) ≡ record { row = unnamed_row now (row_of s c); content = c.content }
+  pub child_then : full_of after (changed c) ≡ record { row = unnamed_row now (row_of s c); content = body_of_node c }
   child_then =
       let same : c.number ≡ e.child = c_is in
       let one : 1 ≤ c.number = given in
@@ -191,7 +191,7 @@ module _ (s : State) (e : EntryRow) (d c : Node) (now : Moment) (tree : Shape s)
       let count : subdirs_of after e.child ≡ subdirs_of s e.child = subdirs_other e.child (omega arith) apart in
       rw (same, ne_eqb e.child e.dir other, eq-eqb e.child e.child refl, up_child, count) refl
 
-  pub dir_then : full_of after (changed d) ≡ record { row = left_row now (row_of s c) (row_of s d); content = d.content }
+  pub dir_then : full_of after (changed d) ≡ record { row = left_row now (row_of s c) (row_of s d); content = body_of_node d }
   dir_then = rw (d_is, eq-eqb e.dir e.dir refl, ne_eqb e.dir e.child apart, up_other e.dir apart, subdirs_dir) refl
 
   pub other_then : (n : Node) → 1 ≤ n.number → n.number ≢ e.dir → n.number ≢ e.child → full_of after (changed n) ≡ full_of s n

@@ -193,4 +193,7 @@ kept_link s fresh content dir name tree given =
     (kept_touched (λ k. false) s dir fresh.made all))
 
 pub kept_make : (s : State) (fresh : NewNode) (dir : ℕ) (name : List ℕ) → Shape s → dir ≢ 0 → NodesAreKept s → NodesAreKept (with_new_node s fresh dir name)
-kept_make s fresh dir name = kept_link s fresh [] dir name
+kept_make s fresh dir name tree given =
+    kept_by s (with_new_node s fresh dir name) refl (λ all.
+    kept_made (touch dir fresh.made s) (new_node s fresh) (new_entry s dir name) (dirs_given s tree) given refl (children_below s tree)
+    (kept_touched (λ k. false) s dir fresh.made all))

@@ -7,6 +7,7 @@ mod Carried
 mod Changing
 mod Checks
 mod Columns
+mod ContentBytes
 mod Contents
 mod Counts
 mod CreatingAgrees
@@ -42,6 +43,7 @@ mod MovedRows
 mod MovedTrees
 mod Moving
 mod NewStore
+mod Numbers
 mod Opening
 mod OpeningAgrees
 mod OpeningFits
@@ -76,3 +78,4 @@ mod Walking
 mod Within
 mod WritingAgrees
 mod WritingFits
+mod WrittenBlocks

@@ -1,5 +1,5 @@
 -- The plan of a new node agrees with what is done.
-use Rattle.std.proofs.Common.{◌≡◌, ℕ, true, false, List, [], None, Some, refl, sym, ap, ◌∙◌}
+use Rattle.std.proofs.Common.{◌≡◌, ℕ, true, false, List, None, Some, refl, sym, ap, ◌∙◌}
 use Rattle.fuse_tree.specs.declared.new_node.NewNode.{NewNode}
 use Rattle.fuse_rows.specs.declared.rows.Full.{Full}
 use Rattle.fuse_tree.specs.State.{State, Node, Shape, terms_of, HasMode, is_dir, is_link, node_at, name_fault}
@@ -12,7 +12,7 @@ use Rattle.fuse_plan.proofs.KeptStates.{node_given, kept_make}
 use Rattle.fuse_plan.proofs.Agrees.{Agrees, checked}
 use Rattle.fuse_plan.proofs.Checks.{Passed}
 use Rattle.fuse_plan.proofs.Fit.{not_false, none_some}
-use Rattle.fuse_plan.proofs.Making.{new_full, make_rows, make_tree}
+use Rattle.fuse_plan.proofs.Making.{empty_full, make_rows, make_tree}
 use Rattle.fuse_plan.proofs.Modes.{made_dir, made_node, mode_stays_in, dir_no_link, node_no_link, link_stays_in}
 
 -- a new node, where no check on its place applies
@@ -20,7 +20,7 @@ make_agrees : (s : State) (fresh : NewNode) (name : List ℕ) (d : Node) → Sha
     → is_link fresh.mode ≡ false → is_dir d.mode ≡ true → name_fault name ≡ None
     → Passed (place_checks s name d) (Agrees s (plan_new (valid_of (agreement_of s)) (counters_of s) fresh name (row_of s d)) (make s fresh d.number name))
 make_agrees s fresh name d tree e mode no_link dir name_ok named free room = record {
-  answer = ap (λ (f : Full). record { errno = 0; body = entry_body (valid_of (agreement_of s)) f.row }) (sym (new_full s fresh [] name d tree e));
+  answer = ap (λ (f : Full). record { errno = 0; body = entry_body (valid_of (agreement_of s)) f.row }) (sym (empty_full s fresh name d tree e));
   rows = make_rows s fresh name d tree e;
   tree = make_tree s fresh name d tree e dir name_ok (not_false _ named) (none_some _ free) room mode no_link;
   same = refl;

@@ -6,15 +6,16 @@ use Rattle.std.specs.List.{AllByRecursion, list_any, sum_by}
 use Rattle.std.proofs.lemmas.Bool.{eqb-true, ne_eqb, eq-eqb}
 use Rattle.std.proofs.lemmas.List.{length-map}
 use Rattle.std.proofs.lemmas.List.Sums.{sum_by-cons}
+use Rattle.fuse_rows.specs.Blocks.{how_many}
 use Rattle.fuse_rows.specs.declared.rows.EntryRow.{EntryRow}
 use Rattle.fuse_rows.specs.declared.rows.Full.{Full}
-use Rattle.fuse_tree.specs.State.{State, terms_of, Node, Shape, IsNode, IsEntry, Reaches, above, is_dir, is_dir_of, has_number, is_below, is_named, is_kept, subdirs_of, up_of, blocks_for, used_of}
+use Rattle.fuse_tree.specs.State.{State, terms_of, Node, Shape, IsNode, IsEntry, Reaches, above, is_dir, is_dir_of, has_number, is_below, is_named, is_kept, subdirs_of, up_of, used_of}
 use Rattle.fuse_tree.specs.Rowed.{rowed, full_of}
 use Rattle.fuse_tree.specs.Space.{room_of}
 use Rattle.fuse_tree.specs.Clearing.{cleared_tree, is_named_row, blocks_freed, cleared_room, cleared_rows, Clearing}
 use Rattle.fuse_plan.proofs.Lists.{all_more, all_both, all_kept, all_filtered, all_always, any_kept, apart_filtered, length_filtered, and_true}
 use Rattle.fuse_plan.proofs.Heights.{rooted, stays_none, dirs_given}
-use Rattle.fuse_plan.proofs.Blocks.{blocks_of, room_with, space_less, used_without}
+use Rattle.fuse_plan.proofs.Blocks.{counted_of, blocks_of, room_with, space_less, used_without}
 
 -- ---- lists of which elements go
 
@@ -148,7 +149,7 @@ freed s [] = refl
 freed s (n ∷ ns) = step (is_named s n.number) (freed s ns)
   where
     step : (b : Bool) → blocks_freed (map (full_of s) ns) ≡ sum_by blocks_of (filter (λ m. not (is_named s m.number)) ns)
-        → sum_by (λ (f : Full). blocks_for f.row.size)
+        → sum_by (λ (f : Full). how_many f.row.written)
         (cond (not b) (full_of s n ∷ filter (λ f. not (is_named_row f)) (map (full_of s) ns)) (filter (λ f. not (is_named_row f)) (map (full_of s) ns)))
         ≡ sum_by blocks_of (cond (not b) (n ∷ filter (λ m. not (is_named s m.number)) ns) (filter (λ m. not (is_named s m.number)) ns))
     step true rest = rest
@@ -156,8 +157,9 @@ freed s (n ∷ ns) = step (is_named s n.number) (freed s ns)
         omega (
           arith,
           rest,
-          sum_by-cons (λ (f : Full). blocks_for f.row.size) (full_of s n) (filter (λ f. not (is_named_row f)) (map (full_of s) ns)),
+          sum_by-cons (λ (f : Full). how_many f.row.written) (full_of s n) (filter (λ f. not (is_named_row f)) (map (full_of s) ns)),
           sum_by-cons blocks_of n (filter (λ m. not (is_named s m.number)) ns),
+          counted_of n.blocks,
         )
 
 used_left : (s : State) → used_of (cleared_tree s) ≡ used_of s - blocks_freed (map (full_of s) s.nodes)

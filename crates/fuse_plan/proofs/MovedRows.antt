@@ -3,13 +3,14 @@ use Rattle.std.proofs.Common.{◌≡◌, ◌≢◌, ◌+◌, ◌&&◌, ◌||◌,
 use Rattle.std.specs.Prelude.{filter}
 use Rattle.std.specs.List.{AllByRecursion, list_any}
 use Rattle.std.proofs.lemmas.Bool.{ne_eqb, eq-eqb, eqb-true, eqb-false}
+use Rattle.fuse_rows.specs.Blocks.{Body}
 use Rattle.fuse_wire.specs.declared.moment.Moment.{Moment}
 use Rattle.fuse_rows.specs.declared.rows.EntryRow.{EntryRow}
 use Rattle.fuse_rows.specs.declared.rows.Full.{Full}
 use Rattle.fuse_rows.specs.declared.rows.NodeRow.{NodeRow}
 use Rattle.fuse_tree.specs.State.{State, Node, Shape, has_number, is_dir, is_below, node_at, up_of, subdirs_of}
 use Rattle.fuse_rows.specs.Rows.{with_row, put_node}
-use Rattle.fuse_tree.specs.Rowed.{full_of, row_of}
+use Rattle.fuse_tree.specs.Rowed.{body_of_node, full_of, row_of}
 use Rattle.fuse_plan.proofs.Lists.{all_both, all_more, any_found, count_mapped}
 use Rattle.fuse_plan.proofs.Trees.{SamePlace}
 use Rattle.fuse_plan.proofs.Puts.{node_found, only_one}
@@ -24,11 +25,11 @@ puts (row ∷ rows) fs = puts rows (put_node row fs)
 
 -- the row of a node that is there, by G
 abbrev pub IsRowOf : State → (Node → Full) → NodeRow → Type 0
-IsRowOf s G row = (d : Node) × (node_at s row.node ≡ Some d) × (G d ≡ record { row = row; content = d.content })
+IsRowOf s G row = (d : Node) × (node_at s row.node ≡ Some d) × (G d ≡ record { row = row; content = body_of_node d })
 
 -- where each row is that of its node by G, and the other nodes' rows are those by G before
 pub puts_meet : (s : State) (G H : Node → Full) (rows : List NodeRow) → Shape s → ((n : Node) → (H n).row.node ≡ n.number)
-    → ((n : Node) → (H n).content ≡ n.content)
+    → ((n : Node) → (H n).content ≡ body_of_node n)
     → AllByRecursion (IsRowOf s G) rows → AllByRecursion (λ n. list_any (λ row. n.number == row.node) rows ≡ false → H n ≡ G n) s.nodes → puts rows
     (map H s.nodes) ≡ map G s.nodes
 puts_meet s G H [] tree numbers contents each others =
@@ -36,7 +37,7 @@ puts_meet s G H [] tree numbers contents each others =
 puts_meet s G H (row ∷ rows) tree numbers contents each others =
     let d = each.0.0 in
     let at : node_at s row.node ≡ Some d = each.0.1 in
-    let is : G d ≡ record { row = row; content = d.content } = each.0.2 in
+    let is : G d ≡ record { row = row; content = body_of_node d } = each.0.2 in
     let there : list_any (has_number row.node) s.nodes ≡ true = any_found (has_number row.node) s.nodes d at in
     ap (puts rows) (put_over H row s.nodes numbers there)
     ∙ puts_meet s G (λ n. with_row row (H n)) rows tree (λ n. kept_number row (H n) ∙ numbers n) (λ n. kept_content n ∙ contents n) each.1
@@ -55,12 +56,12 @@ puts_meet s G H (row ∷ rows) tree numbers contents each others =
     tested : (n : Node) → eqb (H n).row.node row.node ≡ eqb n.number row.node
     tested n = ap (λ (i : ℕ). eqb i row.node) (numbers n)
 
-    here : (n d : Node) → G d ≡ record { row = row; content = d.content } → (n.number ≡ row.node → n ≡ d) → (eqb n.number row.node ≡ false → H n ≡ G n)
+    here : (n d : Node) → G d ≡ record { row = row; content = body_of_node d } → (n.number ≡ row.node → n ≡ d) → (eqb n.number row.node ≡ false → H n ≡ G n)
         → (b : Bool) → eqb n.number row.node ≡ b → with_row row (H n) ≡ G n
     here n d is one other true at =
         let same : n ≡ d = one (eqb-true n.number row.node at) in
         ap (λ (b : Bool). cond b (record (H n) { row = row }) (H n)) (tested n ∙ at)
-        ∙ ap (λ (bytes : List ℕ). record { row = row; content = bytes }) (contents n ∙ ap (λ (m : Node). m.content) same) ∙ sym is ∙ ap G (sym same)
+        ∙ ap (λ (body : Body). record { row = row; content = body }) (contents n ∙ ap body_of_node same) ∙ sym is ∙ ap G (sym same)
     here n d is one other false at = ap (λ (b : Bool). cond b (record (H n) { row = row }) (H n)) (tested n ∙ at) ∙ other at
 
 -- ---- nodes whose times change
@@ -81,12 +82,12 @@ module _ (s : State) (D C : ℕ → Bool) (now : Moment) (fs : List EntryRow) (n
   then_full n = full_of (shifted D C now fs next s) (timed D C now n)
 
   pub dir_then : (n : Node) (m : ℕ) → D n.number ≡ true → up_of fs n.number ≡ up_of s.entries n.number → subdirs_of (shifted D C now fs next s) n.number ≡ m
-      → then_full n ≡ record { row = record (row_of s n) { mtime = now; ctime = now; subdirs = m }; content = n.content }
+      → then_full n ≡ record { row = record (row_of s n) { mtime = now; ctime = now; subdirs = m }; content = body_of_node n }
   dir_then n m is up count = rw (is, up, count) refl
 
   pub child_then : (n : Node) (k : ℕ) → D n.number ≡ false → C n.number ≡ true → up_of fs n.number ≡ k
       → subdirs_of (shifted D C now fs next s) n.number ≡ subdirs_of s n.number
-      → then_full n ≡ record { row = record (row_of s n) { ctime = now; up = k }; content = n.content }
+      → then_full n ≡ record { row = record (row_of s n) { ctime = now; up = k }; content = body_of_node n }
   child_then n k isnt is up count = rw (isnt, is, up, count) refl
 
   pub other_then : (n : Node) → D n.number ≡ false → C n.number ≡ false → up_of fs n.number ≡ up_of s.entries n.number

@@ -1,25 +1,28 @@
 -- A new store is a tree.
-use Rattle.std.proofs.Common.{◌<◌, ℕ, refl, arith}
+use Rattle.std.proofs.Common.{◌<◌, ℕ, Option, Some, None, refl, arith}
 use Rattle.fuse_rows.specs.declared.origin.Origin.{Origin}
 use Rattle.fuse_init.specs.declared.profile.Profile.{Profile}
 use Rattle.fuse_init.specs.declared.profile.Profile.TheVariants.{Plain, Everyday}
-use Rattle.fuse_init.specs.Profile.{Terms, terms}
+use Rattle.fuse_init.specs.Profile.{terms}
+use Rattle.fuse_rows.specs.Rows.{profile_for}
 use Rattle.fuse_rows.specs.Bounds.{capacity_end}
 use Rattle.fuse_tree.specs.State.{Shape, Tree, IsNode, new_store, root_node}
+use Rattle.fuse_plan.proofs.WrittenBlocks.{none_counts}
 
-root_is : (t : Terms) (from : Origin) → IsNode t 2 (root_node from)
-root_is t from = record {
+root_is : (capacity : Option ℕ) (from : Origin) → IsNode (terms (profile_for capacity)) 2 (root_node capacity from)
+root_is capacity from = record {
   from_one = omega arith;
   below = omega arith;
   mode = record { typed = refl; no_more = omega arith; no_device = λ _. refl };
   content = record { others = λ _. refl; target = λ is. absurd cc; links = λ is. absurd cc };
   size = omega arith;
+  blocks = none_counts capacity 0o40755 refl;
 }
 
 new_shape : (p : Profile) (capacity : ℕ) (from : Origin) → capacity < capacity_end → Shape (new_store p capacity from)
 new_shape Plain capacity from low = record {
   root = refl;
-  nodes = (root_is (terms Plain) from, tt);
+  nodes = (root_is None from, tt);
   nodes_rise = (tt, tt);
   entries = tt;
   entries_apart = tt;
@@ -39,7 +42,7 @@ new_shape Plain capacity from low = record {
 }
 new_shape Everyday capacity from low = record {
   root = refl;
-  nodes = (root_is (terms Everyday) from, tt);
+  nodes = (root_is (Some capacity) from, tt);
   nodes_rise = (tt, tt);
   entries = tt;
   entries_apart = tt;

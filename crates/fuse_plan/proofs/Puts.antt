@@ -7,8 +7,8 @@ use Rattle.std.proofs.lemmas.Bool.{ne_eqb, eqb-true, eqb-false}
 use Rattle.fuse_rows.specs.declared.rows.NodeRow.{NodeRow}
 use Rattle.fuse_tree.specs.State.{State, Node, Shape, Apart, node_at, is_dir_of, is_dir}
 use Rattle.fuse_rows.specs.declared.rows.Full.{Full}
-use Rattle.fuse_rows.specs.Rows.{row_at, with_row, put_node}
-use Rattle.fuse_tree.specs.Rowed.{full_of, rows_of_state}
+use Rattle.fuse_rows.specs.Rows.{new_body, row_at, with_row, put_node}
+use Rattle.fuse_tree.specs.Rowed.{body_of_node, full_of, rows_of_state}
 use Rattle.fuse_plan.proofs.Lists.{cond_found, any_found, found}
 use Rattle.fuse_plan.proofs.Trees.{nodes_below}
 
@@ -52,16 +52,16 @@ only_one k d (n ∷ ns) rise e =
 
 each_put : (s : State) (G : Node → Full) (row : NodeRow) (d : Node) (ns : List Node) → AllByRecursion (λ n. n.number ≡ row.node → n ≡ d) ns
     → AllByRecursion (λ n. n.number < s.next_node) ns
-    → ((n : Node) → n.number < s.next_node → n.number ≢ row.node → G n ≡ full_of s n) → G d ≡ record { row = row; content = d.content }
+    → ((n : Node) → n.number < s.next_node → n.number ≢ row.node → G n ≡ full_of s n) → G d ≡ record { row = row; content = body_of_node d }
     → map G ns ≡ map (with_row row) (map (full_of s) ns)
 each_put s G row d [] one below other here = refl
 each_put s G row d (n ∷ ns) one below other here =
     let head : G n ≡ with_row row (full_of s n) = step (eqb n.number row.node) refl in
     rw (head, each_put s G row d ns one.1 below.1 other here) refl
   where
-    step : (b : Bool) → eqb n.number row.node ≡ b → G n ≡ cond b (record { row = row; content = n.content }) (full_of s n)
+    step : (b : Bool) → eqb n.number row.node ≡ b → G n ≡ cond b (record { row = row; content = body_of_node n }) (full_of s n)
     step true is =
-        let same : n ≡ d = one.0 (eqb-true n.number row.node is) in subst (λ (m : Node). G m ≡ record { row = row; content = m.content }) (sym same) here
+        let same : n ≡ d = one.0 (eqb-true n.number row.node is) in subst (λ (m : Node). G m ≡ record { row = row; content = body_of_node m }) (sym same) here
     step false is = other n below.0 (eqb-false n.number row.node is)
 
 -- a row of a node that is there takes the place of its own
@@ -74,7 +74,7 @@ put_there s row d e =
 
 -- a row in the place of a node's own: the rows are those by G, where G differs at this node alone
 pub put_changed : (s : State) (G : Node → Full) (row : NodeRow) (d : Node) → Shape s → node_at s row.node ≡ Some d
-    → ((n : Node) → n.number < s.next_node → n.number ≢ row.node → G n ≡ full_of s n) → G d ≡ record { row = row; content = d.content }
+    → ((n : Node) → n.number < s.next_node → n.number ≢ row.node → G n ≡ full_of s n) → G d ≡ record { row = row; content = body_of_node d }
     → put_node row (map (full_of s) s.nodes) ≡ map G s.nodes
 put_changed s G row d tree e other here =
     put_there s row d e ∙ sym (each_put s G row d s.nodes (only_one row.node d s.nodes tree.nodes_rise e) (nodes_below s tree) other here)
@@ -89,7 +89,7 @@ none_there G row (n ∷ ns) numbers below =
 
 -- a row of a new number comes last
 pub put_new : (G : Node → Full) (row : NodeRow) (ns : List Node) → ((n : Node) → (G n).row.node ≡ n.number) → AllByRecursion (λ n. n.number < row.node) ns
-    → put_node row (map G ns) ≡ map G ns ++ record { row = row; content = [] } ∷ []
+    → put_node row (map G ns) ≡ map G ns ++ record { row = row; content = new_body row.written } ∷ []
 put_new G row ns numbers below = rw (none_there G row ns numbers below) refl
 
 pub dir_there : (k : ℕ) (d : Node) (ns : List Node) → find (λ n. n.number == k) ns ≡ Some d → is_dir d.mode ≡ true → list_any (is_dir_of k) ns ≡ true

@@ -10,13 +10,14 @@ use Rattle.fuse_rows.specs.declared.rows.HandleRow.{HandleRow}
 use Rattle.fuse_rows.specs.declared.rows.Counters.{Counters as CountersRow}
 use Rattle.fuse_rows.specs.declared.rows.NodeRow.{NodeRow}
 use Rattle.fuse_rows.specs.declared.rows.Room.{Room}
-use Rattle.fuse_tree.specs.State.{State, Node, Shape, Apart, blocks_for, used_of, terms_of, node_at, up_of, is_used, is_kept, NodesAreKept}
+use Rattle.fuse_tree.specs.State.{State, Node, Shape, Apart, used_of, terms_of, node_at, up_of, is_used, is_kept, NodesAreKept}
+use Rattle.fuse_rows.specs.Blocks.{how_many}
 use Rattle.fuse_rows.specs.Rows.{Rows, apply, handles_of}
 use Rattle.fuse_tree.specs.Rowed.{rows_of_state, full_of, counters_of}
 use Rattle.fuse_tree.specs.Removal.{swept, tidied}
 use Rattle.fuse_plan.specs.inner.PlanRemoval.{room_without, counters_less, removal, with_removal, is_used_beside}
 use Rattle.fuse_plan.proofs.Lists.{all_more, all_filtered, apart_filtered, cond_found}
-use Rattle.fuse_plan.proofs.Blocks.{blocks_of, room_with}
+use Rattle.fuse_plan.proofs.Blocks.{blocks_of, room_with, counted_of}
 use Rattle.fuse_plan.proofs.KeptNodes.{KeptBut}
 use Rattle.fuse_plan.proofs.Sweeping.{LessOne, less_one, tests_but, nodes_swept, tree_swept, one_stays, all_stay}
 
@@ -26,15 +27,15 @@ pub apply_more : (rows : Rows) (first later : List Change) → apply rows (first
 apply_more rows [] later = refl
 apply_more rows (c ∷ first) later = apply_more (apply rows (c ∷ [])) first later
 
-room_gone : (row : NodeRow) (o : Option ℕ) (one two : ℕ) → two + blocks_for row.size ≡ one
+room_gone : (row : NodeRow) (o : Option ℕ) (one two : ℕ) → two + how_many row.written ≡ one
     → option_map (room_without row) (option_map (room_with one) o) ≡ option_map (room_with two) o
 room_gone row None one two is = refl
-room_gone row (Some c) one two is = let less : one - blocks_for row.size ≡ two = omega arith in ap (λ (u : ℕ). Some (room_with u c)) less
+room_gone row (Some c) one two is = let less : one - how_many row.written ≡ two = omega arith in ap (λ (u : ℕ). Some (room_with u c)) less
 
 -- ---- a node that isn't kept
 
 module _ (t : State) (k : ℕ) (c : Node) (row : NodeRow) (tree : Shape t) (at : node_at t k ≡ Some c) (number : row.node ≡ k)
-    (size : row.size ≡ length c.content) (others : KeptBut (λ j. j == k) t) where
+    (count : row.written ≡ option_map length c.blocks) (others : KeptBut (λ j. j == k) t) where
   sums : is_kept t k ≡ false → LessOne blocks_of c (swept t).nodes t.nodes
   sums loose = less_one blocks_of (λ n. is_kept t n.number) k c t.nodes tree.nodes_rise at (tests_but t k loose others)
 
@@ -43,23 +44,24 @@ module _ (t : State) (k : ℕ) (c : Node) (row : NodeRow) (tree : Shape t) (at :
       let less = sums loose in
       let nodes : filter (λ f. not (f.row.node == row.node)) (map (full_of t) t.nodes) ≡ map (full_of (swept t)) (swept t).nodes =
       ap (λ (i : ℕ). filter (λ f. not (f.row.node == i)) (map (full_of t) t.nodes)) number ∙ sym (nodes_swept t k tree loose others) in
-      let count : length t.nodes - 1 ≡ length (swept t).nodes = omega (arith, less.count) in
-      let used : used_of (swept t) + blocks_for row.size ≡ used_of t = ap (λ (n : ℕ). used_of (swept t) + blocks_for n) size ∙ less.sum in
+      let number_left : length t.nodes - 1 ≡ length (swept t).nodes = omega (arith, less.count) in
+      let used : used_of (swept t) + how_many row.written ≡ used_of t =
+      ap (λ (o : Option ℕ). used_of (swept t) + how_many o) count ∙ ap (λ (n : ℕ). used_of (swept t) + n) (counted_of c.blocks) ∙ less.sum in
       let room = room_gone row t.capacity (used_of t) (used_of (swept t)) used in
       ap (λ (fs : List Full). record (rows_of_state (swept t)) { nodes = fs; counters = counters_less row (counters_of t) }) nodes
       ∙ ap (λ (n : ℕ). record (rows_of_state (swept t)) {
         counters = record (counters_of (swept t)) { nodes = n; room = option_map (room_without row) (option_map (room_with (used_of t)) t.capacity) };
-      }) count
+      }) number_left
       ∙ ap (λ (r : Option Room). record (rows_of_state (swept t)) { counters = record (counters_of (swept t)) { room = r } }) room
 
 -- ---- the node that a request takes a name or an fh from
 
 -- the changes make the rows of a state, and with those by which the node goes, where it does, those of the tidied state
 pub tidied_rows : (s t : State) (k : ℕ) (c : Node) (row : NodeRow) (goes : Bool) (counters : CountersRow) (before : List Change) → Shape t
-    → apply (rows_of_state s) before ≡ rows_of_state t → counters ≡ counters_of t → node_at t k ≡ Some c → row.node ≡ k → row.size ≡ length c.content
+    → apply (rows_of_state s) before ≡ rows_of_state t → counters ≡ counters_of t → node_at t k ≡ Some c → row.node ≡ k → row.written ≡ option_map length c.blocks
     → ((terms_of t).removes ≡ true → KeptBut (λ j. j == k) t) → goes ≡ ((terms_of t).removes && not (is_kept t k))
     → apply (rows_of_state s) (with_removal goes row counters before) ≡ rows_of_state (tidied t)
-tidied_rows s t k c row goes counters before tree rows counts at number size others goes_is =
+tidied_rows s t k c row goes counters before tree rows counts at number count others goes_is =
     subst (λ (q : CountersRow). apply (rows_of_state s) (with_removal goes row q before) ≡ rows_of_state (tidied t)) (sym counts)
     (subst (λ (g : Bool). apply (rows_of_state s) (with_removal g row (counters_of t) before) ≡ rows_of_state (tidied t)) (sym goes_is)
     (by_profile (terms_of t).removes refl))
@@ -70,7 +72,7 @@ tidied_rows s t k c row goes counters before tree rows counts at number size oth
     by_node all false loose =
         apply_more (rows_of_state s) before (removal row (counters_of t))
         ∙ ap (λ (r : Rows). apply r (removal row (counters_of t))) rows
-        ∙ gone_alone t k c row tree at number size all loose
+        ∙ gone_alone t k c row tree at number count all loose
 
     by_profile : (b : Bool) → (terms_of t).removes ≡ b
         → apply (rows_of_state s) (with_removal (b && not (is_kept t k)) row (counters_of t) before) ≡ rows_of_state (cond b (swept t) t)

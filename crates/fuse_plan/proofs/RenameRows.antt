@@ -8,7 +8,7 @@ use Rattle.fuse_rows.specs.declared.rows.EntryRow.{EntryRow}
 use Rattle.fuse_rows.specs.declared.rows.Full.{Full}
 use Rattle.fuse_rows.specs.declared.rows.NodeRow.{NodeRow}
 use Rattle.fuse_tree.specs.State.{State, terms_of, used_of, Node, Shape, IsNode, node_at, up_of, subdirs_of}
-use Rattle.fuse_tree.specs.Rowed.{full_of, row_of, rows_of_state, counters_of}
+use Rattle.fuse_tree.specs.Rowed.{body_of_node, full_of, row_of, rows_of_state, counters_of}
 use Rattle.fuse_tree.specs.Space.{room_of}
 use Rattle.fuse_plan.specs.inner.PlanRenaming.{more, fewer, dir_row, moved_row}
 use Rattle.fuse_plan.proofs.Lists.{found, or_false}
@@ -92,18 +92,18 @@ module _ {s : State} {fs : List EntryRow} {dir to x : ℕ} {Y : ℕ → Bool} {d
   t_up = m.ups t.number (λ same. m.x_to (sym same ∙ t_is)) (ap Y t_is ∙ m.y_to)
 
   dir_is : (leaves enters : Bool) → subdirs_of after dir ≡ fewer leaves (more enters (subdirs_of s dir))
-      → G d ≡ record { row = dir_row now leaves enters (row_of s d); content = d.content }
+      → G d ≡ record { row = dir_row now leaves enters (row_of s d); content = body_of_node d }
   dir_is leaves enters count =
       dir_then s D C now fs next d _ (rw (eq-eqb d.number dir d_is) (or_true (eqb d.number to))) d_up
       (subst (λ (k : ℕ). subdirs_of after k ≡ fewer leaves (more enters (subdirs_of s k))) (sym d_is) count)
 
   to_is : (leaves enters : Bool) → subdirs_of after to ≡ fewer leaves (more enters (subdirs_of s to))
-      → G t ≡ record { row = dir_row now leaves enters (row_of s t); content = t.content }
+      → G t ≡ record { row = dir_row now leaves enters (row_of s t); content = body_of_node t }
   to_is leaves enters count =
       dir_then s D C now fs next t _ (rw (eq-eqb t.number to t_is) refl) t_up
       (subst (λ (k : ℕ). subdirs_of after k ≡ fewer leaves (more enters (subdirs_of s k))) (sym t_is) count)
 
-  child_is : subdirs_of after x ≡ subdirs_of s x → G c ≡ record { row = moved_row now to (row_of s c); content = c.content }
+  child_is : subdirs_of after x ≡ subdirs_of s x → G c ≡ record { row = moved_row now to (row_of s c); content = body_of_node c }
   child_is count =
       child_then s D C now fs next c to (rw (c_is, ne_eqb x to m.x_to, ne_eqb x dir m.x_dir) refl) (rw (eq-eqb c.number x c_is) refl)
       (ap (up_of fs) c_is ∙ m.up_x)

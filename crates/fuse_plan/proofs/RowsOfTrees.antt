@@ -1,7 +1,7 @@
 -- What the rows of a tree have.
-use Rattle.std.proofs.Common.{◌≡◌, ◌==◌, ◌&&◌, ◌||◌, ◌<◌, ◌≤◌, ℕ, Bool, true, false, List, [], ◌∷◌, length, Option, Some, None, refl, sym, ap, subst, ◌∙◌}
+use Rattle.std.proofs.Common.{◌≡◌, ◌==◌, ◌&&◌, ◌||◌, ◌<◌, ◌≤◌, ℕ, Bool, true, false, List, [], ◌∷◌, length, map, Option, Some, None, refl, sym, ap, subst, ◌∙◌}
 use Rattle.std.specs.Option.{option_map}
-use Rattle.std.specs.List.{list_any}
+use Rattle.std.specs.List.{AllByRecursion, list_any}
 use Rattle.fuse_init.specs.declared.profile.Profile.{Profile}
 use Rattle.fuse_init.specs.Profile.{terms}
 use Rattle.fuse_rows.specs.Bounds.{fuse_root_id}
@@ -9,7 +9,7 @@ use Rattle.fuse_rows.specs.declared.rows.NodeRow.{NodeRow}
 use Rattle.fuse_tree.specs.State.{State, Node, Shape, terms_of, used_of, IsNode, IsEntry, AreApart, Apart, is_dir, is_dir_of, has_number, node_at}
 use Rattle.fuse_rows.specs.Rows.{row_at, full_at, content_of, terms_at}
 use Rattle.fuse_tree.specs.Rowed.{IsRowed, row_of, full_of, rows_of_state}
-use Rattle.fuse_tree.specs.RowsOfTrees.{OfTree, IsSized, LeadsToRow, RowsOfTrees}
+use Rattle.fuse_tree.specs.RowsOfTrees.{OfTree, CountsWritten, IsSized, LeadsToRow, RowsOfTrees}
 use Rattle.fuse_plan.proofs.Bounds.{rowed_is, child_there}
 use Rattle.fuse_plan.proofs.Lists.{all_more, found}
 use Rattle.fuse_plan.proofs.Blocks.{room_with}
@@ -65,12 +65,17 @@ sized s number row tree e =
       within = within s number row (node_at s number) tree refl (sym (row_found s number) ∙ e);
     }
 
+counted : (s : State) (ns : List Node) → AllByRecursion (IsNode (terms_of s) s.next_node) ns → AllByRecursion CountsWritten (map (full_of s) ns)
+counted s [] all = tt
+counted s (n ∷ ns) all = (record { told = refl; written = all.0.blocks.written }, counted s ns all.1)
+
 of_state : (s : State) → Shape s → OfTree (rows_of_state s)
 of_state s tree = record {
   root = child_there s fuse_root_id (any_more (is_dir_of fuse_root_id) (has_number fuse_root_id) s.nodes dir_is tree.root);
   children = all_more (IsEntry s.nodes s.entries s.next_cookie) (LeadsToRow (rows_of_state s)) s.entries (λ e p. child_there s e.child p.child) tree.entries;
   cookies = all_more (IsEntry s.nodes s.entries s.next_cookie) (λ e. 3 ≤ e.cookie) s.entries (λ e p. p.from_three) tree.entries;
   rise = apart_more AreApart (λ e later. e.cookie < later.cookie) s.entries (λ e later p. p.cookie) tree.entries_apart;
+  counts = counted s s.nodes tree.nodes;
   sizes = λ number row e. sized s number row tree e;
 }
 

@@ -1,24 +1,22 @@
 -- What SETATTR answers fits, and is read.
-use Rattle.std.proofs.Common.{◌&&◌, length, Bool, true, false, if◌then◌else◌, not, Some, None, refl, arith}
+use Rattle.std.proofs.Common.{Bool, true, false, if◌then◌else◌, not, Some, None, refl, arith}
 use Rattle.std.specs.Prelude.{nat_lt}
-use Rattle.fuse_wire.specs.Errnos.{eisdir, einval, efbig, enospc}
+use Rattle.fuse_wire.specs.Errnos.{eisdir, einval, efbig}
 use Rattle.fuse_wire.specs.Bits.{fattr_size}
 use Rattle.fuse_wire.specs.declared.moment.Moment.{Moment}
 use Rattle.fuse_request.specs.declared.request.SetattrIn.{SetattrIn}
 use Rattle.fuse_answer.specs.Laws.{ReadBack, RecordSizes}
 use Rattle.fuse_answer.specs.Replies.{Kind, Attributes}
 use Rattle.fuse_tree.specs.State.{State, terms_of, Node, is_dir, is_file}
-use Rattle.fuse_tree.specs.Space.{room_of, has_room}
 use Rattle.fuse_tree.specs.Keeping.{agreement_of, valid_of}
 use Rattle.fuse_tree.specs.Done.{Done, refuse_for, attr_of, attr_out_of}
 use Rattle.fuse_tree.specs.Setting.{has_valid_bit, set_fault, set_attributes, with_set, setattr}
-use Rattle.fuse_plan.proofs.Fit.{Fits, Reads, refused, answered, chosen, refused_for, refused_reads, answered_reads, chosen_reads}
+use Rattle.fuse_plan.proofs.Fit.{Fits, Reads, answered, refused_for, refused_reads, answered_reads}
 
 pub setattr_fits : RecordSizes → (s : State) (set : SetattrIn) (now : Moment) (n : Node) → Fits (setattr s set now n)
 setattr_fits sizes s set now n =
     refused_for s (set_fault (terms_of s).file_limit set n.mode) _
-    (chosen (has_valid_bit set fattr_size && not (has_room (room_of s) (length n.content) set.size)) _ _ (refused s enospc)
-    (answered (with_set s set now n.number) _ (omega (arith, sizes.1 (attr_out_of (valid_of (agreement_of s)) (attr_of (with_set s set now n.number) (set_attributes set now n)))))))
+    (answered (with_set s set now n.number) _ (omega (arith, sizes.1 (attr_out_of (valid_of (agreement_of s)) (attr_of (with_set s set now n.number) (set_attributes set now n))))))
 
 -- ---- it is read
 
@@ -33,5 +31,4 @@ size_reads s true false true false d so = so
 pub setattr_reads : ReadBack → (s : State) (set : SetattrIn) (now : Moment) (n : Node) → Reads Attributes (setattr s set now n)
 setattr_reads back s set now n =
     size_reads s (has_valid_bit set fattr_size) (is_dir n.mode) (is_file n.mode) (nat_lt (terms_of s).file_limit set.size) _
-    (chosen_reads (has_valid_bit set fattr_size && not (has_room (room_of s) (length n.content) set.size)) _ _ (refused_reads s enospc refl)
-    (answered_reads (with_set s set now n.number) _ (back.attributes (attr_out_of (valid_of (agreement_of s)) (attr_of (with_set s set now n.number) (set_attributes set now n))))))
+    (answered_reads (with_set s set now n.number) _ (back.attributes (attr_out_of (valid_of (agreement_of s)) (attr_of (with_set s set now n.number) (set_attributes set now n)))))

@@ -1,11 +1,12 @@
 -- The rows of a tree fit a table, and so does what is found among them.
-use Rattle.std.proofs.Common.{◌≡◌, ◌<◌, ◌≤◌, ◌==◌, ◌^◌, ℕ, Bool, true, false, cond, eqb, List, [], ◌∷◌, ◌++◌, map, Option, Some, None, is_some, refl, sym, subst, arith}
+use Rattle.std.proofs.Common.{◌≡◌, ◌<◌, ◌≤◌, ◌==◌, ◌^◌, ℕ, Bool, true, false, cond, eqb, List, [], ◌∷◌, ◌++◌, length, map, Option, Some, None, is_some, refl, sym, subst, arith}
 use Rattle.std.specs.Prelude.{IfSome}
 use Rattle.std.specs.List.{AllByRecursion, list_any}
 use Rattle.std.specs.Option.{option_map}
 use Rattle.std.proofs.lemmas.Bool.{eqb-true}
 use Rattle.fuse_wire.specs.declared.errno.Errno.{Errno}
-use Rattle.fuse_rows.specs.Bounds.{number_end, node_limit, handle_limit}
+use Rattle.fuse_rows.specs.Bounds.{number_end, node_limit, handle_limit, block_limit}
+use Rattle.fuse_rows.specs.Blocks.{how_many}
 use Rattle.fuse_plan.specs.declared.planning.finding.Link.{Link}
 use Rattle.fuse_rows.specs.declared.rows.Change.{Change}
 use Rattle.fuse_rows.specs.declared.rows.Counters.{Counters as CountersRow}
@@ -26,6 +27,7 @@ use Rattle.fuse_plan.proofs.Checks.{Passed, passed}
 use Rattle.fuse_plan.proofs.Lists.{and_true, any_gives, found}
 use Rattle.fuse_plan.proofs.Blocks.{room_with}
 use Rattle.fuse_plan.proofs.Most.{nodes_most, file_most}
+use Rattle.fuse_plan.proofs.WrittenBlocks.{few_counted_of}
 use Rattle.fuse_plan.proofs.Trees.{nodes_below, children_below, dirs_below}
 
 -- ---- the rows of a tree
@@ -41,6 +43,7 @@ pub record SmallCounters (counters : CountersRow) : Type 0 where
 -- the rows fit, and each counter has room for one more
 pub record Small (rows : Rows) : Type 0 where
   pub nodes : AllByRecursion (λ f. FitsNode f.row) rows.nodes
+  pub few : AllByRecursion (λ f. how_many f.row.written ≤ block_limit) rows.nodes
   pub entries : AllByRecursion FitsEntry rows.entries
   pub handles : AllByRecursion FitsHandle rows.handles
   pub counters : SmallCounters rows.counters
@@ -60,6 +63,18 @@ pub dirs_small : (s : State) (es : List EntryRow) → Shape s → AllByRecursion
 dirs_small s [] tree all = tt
 dirs_small s (e ∷ es) tree all = (below s e.dir tree all.0, dirs_small s es tree all.1)
 
+-- no file has more blocks than a size takes
+pub few_blocks : (s : State) (n : Node) → IsNode (terms_of s) s.next_node n → how_many (option_map length n.blocks) ≤ block_limit
+few_blocks s n p =
+    let size : length n.content ≤ (terms_of s).file_limit = p.size in
+    let most = file_most (profile_of s) in
+    omega (arith, size, most, few_counted_of n.content n.blocks p.blocks.written)
+
+-- a new row counts so many
+pub counted_small : {A : Type 0} (k : ℕ) (o : Option A) → k < 2 ^ 63 → how_many (option_map (λ _. k) o) < 2 ^ 63
+counted_small k None low = omega arith
+counted_small k (Some x) low = low
+
 pub nodes_small : (s : State) (ns : List Node) → Shape s → AllByRecursion (IsNode (terms_of s) s.next_node) ns → AllByRecursion (λ f. FitsNode f.row) (map (full_of s) ns)
 nodes_small s [] tree all = tt
 nodes_small s (n ∷ ns) tree all = (
@@ -67,9 +82,15 @@ nodes_small s (n ∷ ns) tree all = (
     node = below s n.number tree all.0.below;
     up = up_small s.entries n.number (dirs_small s s.entries tree (dirs_below s tree));
     size = omega (arith, all.0.size, file_most (profile_of s));
+    written = omega (arith, few_blocks s n all.0);
   },
   nodes_small s ns tree all.1,
 )
+
+counts_small : (s : State) (ns : List Node) → AllByRecursion (IsNode (terms_of s) s.next_node) ns
+    → AllByRecursion (λ f. how_many f.row.written ≤ block_limit) (map (full_of s) ns)
+counts_small s [] all = tt
+counts_small s (n ∷ ns) all = (few_blocks s n all.0, counts_small s ns all.1)
 
 pub entries_small : (s : State) (es : List EntryRow) → Shape s → AllByRecursion (IsEntry s.nodes s.entries s.next_cookie) es
     → AllByRecursion (λ e. e.child < s.next_node) es → AllByRecursion (λ e. e.dir < s.next_node) es → AllByRecursion FitsEntry es
@@ -98,6 +119,7 @@ room_small s (Some c) is = record { capacity = is.bounded; used = omega (arith, 
 pub small : (s : State) → Shape s → Small (rows_of_state s)
 small s tree = record {
   nodes = nodes_small s s.nodes tree tree.nodes;
+  few = counts_small s s.nodes tree.nodes;
   entries = entries_small s s.entries tree tree.entries (children_below s tree) (dirs_below s tree);
   handles = handles_small s s.handles tree tree.handles;
   counters = record {
@@ -123,6 +145,14 @@ row_small rows number row (Some f) all e is =
 
 pub found_small : (rows : Rows) (number : ℕ) (row : NodeRow) → Small rows → row_at rows number ≡ Some row → FitsNode row × (row.node ≡ number)
 found_small rows number row all e = row_small rows number row (full_at rows number) all refl e
+
+pub found_few : (rows : Rows) (number : ℕ) (row : NodeRow) (o : Option Full) → Small rows → full_at rows number ≡ o → option_map (λ f. f.row) o ≡ Some row
+    → how_many row.written ≤ block_limit
+found_few rows number row None all e is = absurd cc
+found_few rows number row (Some f) all e is =
+    let p = found (λ g. how_many g.row.written ≤ block_limit) (λ g. g.row.node == number) rows.nodes f all.few e in
+    let same : f.row ≡ row = cc in
+    subst (λ (r : NodeRow). how_many r.written ≤ block_limit) same p.0
 
 pub record FitsLink (link : Link) : Type 0 where
   pub cookie : link.cookie < 2 ^ 63

@@ -20,7 +20,8 @@ use Rattle.fuse_plan.proofs.Agrees.{Agrees, checked}
 use Rattle.fuse_plan.proofs.Fit.{not_false, none_some, no_fault}
 use Rattle.fuse_plan.proofs.Carried.{target_carried, target_fits}
 use Rattle.fuse_plan.proofs.KeptStates.{node_given, kept_link}
-use Rattle.fuse_plan.proofs.Making.{new_full, link_rows, filled_tree, filled_space}
+use Rattle.fuse_plan.proofs.Making.{link_full, link_rows, link_tree, link_space}
+use Rattle.fuse_plan.proofs.WrittenBlocks.{target_blocks, target_counts}
 use Rattle.fuse_plan.proofs.Modes.{made_link, mode_stays_in, link_stays_in}
 
 is_target : (target : List ℕ) → error_in (target_tests target) ≡ None → AllByRecursion (λ b. b ≢ 0) target → IsTarget target
@@ -37,14 +38,17 @@ symlink_agrees s from target name d tree e links ends =
     let gives = gives_group (terms_of s) d.mode in
     checked s (symlink_checks s target name d) _ _ tree (λ dir name_ok target_ok named free full left.
     let target_is = is_target target target_ok ends in
+    let one = target_blocks (length target) target_is.some target_is.short in
     record {
       answer =
-          ap (λ (f : Full). record { errno = 0; body = entry_body (valid_of (agreement_of s)) f.row }) (sym (new_full s fresh target name d tree e));
-      rows = link_rows s fresh target name d tree e;
+          ap (λ (f : Full). record { errno = 0; body = entry_body (valid_of (agreement_of s)) f.row }) (sym (link_full s fresh target name d tree e one));
+      rows = link_rows s fresh target name d tree e one;
       tree =
-          filled_tree s fresh target name d tree e (not_false _ dir) name_ok (not_false _ named) (none_some _ free) full
+          link_tree s fresh target name d tree e one (not_false _ dir) name_ok (not_false _ named) (none_some _ free) full
           (mode_stays_in gives _ _ made_link) (target_carried (terms_of s) fresh.mode target (link_stays_in gives link_mode) links target_is)
-          (target_fits (profile_of s) (length target) target_is.short) (filled_space s fresh target name d tree e (not_false _ left));
+          (target_fits (profile_of s) (length target) target_is.short)
+          (target_counts s.capacity fresh.mode target links target_is.some target_is.short)
+          (link_space s fresh target name d tree e one (not_false _ left));
       same = refl;
       kept = kept_link s fresh target d.number name tree (node_given s d.number d tree e);
     })

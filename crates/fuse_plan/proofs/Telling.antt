@@ -19,7 +19,8 @@ node_of f = record {
   atime = f.row.atime;
   mtime = f.row.mtime;
   ctime = f.row.ctime;
-  content = f.content;
+  content = f.content.bytes;
+  blocks = f.content.blocks;
 }
 
 nodes_told : (s : State) (ns : List Node) → map node_of (map (full_of s) ns) ≡ ns

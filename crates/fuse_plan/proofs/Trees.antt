@@ -8,7 +8,7 @@ use Rattle.fuse_init.specs.Profile.{Terms}
 use Rattle.fuse_rows.specs.Bounds.{number_end}
 use Rattle.fuse_rows.specs.declared.rows.EntryRow.{EntryRow}
 use Rattle.fuse_rows.specs.declared.rows.HandleRow.{HandleRow}
-use Rattle.fuse_tree.specs.State.{State, terms_of, Node, Shape, HasMode, Carries, IsNode, IsEntry, IsHandle, AreApart, Reaches, type_of, is_dir_of, has_number, is_open_at, FitsCapacity, name_fault, up_of, is_named}
+use Rattle.fuse_tree.specs.State.{State, terms_of, Node, Shape, HasMode, Carries, CountsBlocks, IsNode, IsEntry, IsHandle, AreApart, Reaches, type_of, is_dir_of, has_number, is_open_at, FitsCapacity, name_fault, up_of, is_named}
 use Rattle.fuse_rows.specs.Rows.{is_entry, entry_at}
 use Rattle.fuse_tree.specs.Making.{grow}
 use Rattle.fuse_plan.proofs.Lists.{all_more, all_both, all_grown, all_mapped, apart_grown, apart_mapped, any_mapped, any_grown, any_last, any_gives, and_true, none_found}
@@ -125,6 +125,7 @@ pub record Fits (s : State) (n : Node) (e : EntryRow) : Type 0 where
   pub mode : HasMode n.mode n.rdev
   pub content : Carries (terms_of s) n.mode n.content
   pub size : length n.content ≤ (terms_of s).file_limit
+  pub blocks : CountsBlocks (terms_of s) n.mode n.content n.blocks
   pub space : IfSome s.capacity (FitsCapacity (grow n e s))
   pub child : e.child ≡ s.next_node
   pub cookie : e.cookie ≡ s.next_cookie
@@ -173,8 +174,9 @@ tree_grown s n e fits tree =
             mode = p.mode;
             content = p.content;
             size = p.size;
+            blocks = p.blocks;
           }) tree.nodes)
-          (record { from_one = omega arith; below = omega arith; mode = fits.mode; content = fits.content; size = fits.size });
+          (record { from_one = omega arith; below = omega arith; mode = fits.mode; content = fits.content; size = fits.size; blocks = fits.blocks });
       nodes_rise =
           apart_grown (λ a b. a.number < b.number) s.nodes n tree.nodes_rise
           (all_more (IsNode (terms_of s) s.next_node) (λ m. m.number < n.number) s.nodes (λ m p. let lt : m.number < s.next_node = p.below in omega arith) tree.nodes);

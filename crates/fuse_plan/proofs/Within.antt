@@ -8,6 +8,8 @@ use Rattle.fuse_tree.specs.State.{profile_of, used_of}
 use Rattle.fuse_tree.specs.declared.agreement.Agreement.{Agreement}
 use Rattle.fuse_rows.specs.Rows.{Rows, profile_at, row_at}
 use Rattle.fuse_tree.specs.Keeping.{agreement_at}
+use Rattle.fuse_rows.specs.Bounds.{block_limit}
+use Rattle.fuse_rows.specs.Blocks.{how_many}
 use Rattle.fuse_tree.specs.Rowed.{IsRowed, rows_of_state}
 use Rattle.fuse_plan.specs.inner.Reading.{IsWithin, is_within}
 use Rattle.fuse_plan.proofs.Blocks.{room_with}
@@ -20,10 +22,10 @@ unfolding IsRowed
 row_within rows number row is e =
     let s = is.0 in
     let b = bounded_state s number row is.1.shape (subst (λ (r : Rows). row_at r number ≡ Some row) (is.2 ∙ rowed_is s) e) in
-    record { size = omega (arith, b.size, file_most (profile_of s)); subdirs = omega (arith, b.subdirs, nodes_most (profile_of s)) }
+    record { size = omega (arith, b.size, file_most (profile_of s)); subdirs = omega (arith, b.subdirs, nodes_most (profile_of s)); written = b.written }
 
 within_terms : (p : Profile) (row : NodeRow) → Bounded (terms p) row → is_within p row ≡ true
-within_terms p row b = rw (le-leb row.size (terms p).file_limit b.size, le-leb row.subdirs (terms p).node_limit b.subdirs) refl
+within_terms p row b = rw (le-leb row.size (terms p).file_limit b.size, le-leb row.subdirs (terms p).node_limit b.subdirs, le-leb (how_many row.written) block_limit b.written) refl
 
 -- and within those of the tree's own
 pub none_outside : (rows : Rows) (a : Agreement) (number : ℕ) (row : NodeRow) → IsRowed rows → a ≡ agreement_at rows → row_at rows number ≡ Some row

@@ -1,2 +1,3 @@
 mod Joined
+mod NumberLists
 pub mod Ranges

@@ -16,6 +16,10 @@ number_end = 2 ^ 62
 abbrev pub file_limit : ℕ
 file_limit = 2 ^ 40
 
+-- and the most blocks of it
+abbrev pub block_limit : ℕ
+block_limit = 2 ^ 28
+
 -- a capacity, in blocks, is below this; and that of a store for which none is asked
 abbrev pub capacity_end : ℕ
 capacity_end = 2 ^ 51

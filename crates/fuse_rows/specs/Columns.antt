@@ -5,6 +5,7 @@ use Rattle.fuse_rows.specs.declared.rows.NodeRow.{NodeRow}
 use Rattle.fuse_rows.specs.declared.rows.EntryRow.{EntryRow}
 use Rattle.fuse_rows.specs.declared.rows.HandleRow.{HandleRow}
 use Rattle.fuse_rows.specs.Bounds.{file_limit, capacity_end}
+use Rattle.fuse_rows.specs.Blocks.{how_many}
 use Rattle.fuse_rows.specs.declared.rows.Room.{Room}
 use Rattle.fuse_rows.specs.declared.rows.Counters.{Counters as CountersRow}
 use Rattle.fuse_rows.specs.declared.rows.Change.{Change}
@@ -14,6 +15,7 @@ pub record FitsNode (row : NodeRow) : Type 0 where
   pub node : row.node < 2 ^ 63
   pub up : row.up < 2 ^ 63
   pub size : row.size ≤ file_limit
+  pub written : how_many row.written < 2 ^ 63
 
 pub record FitsEntry (e : EntryRow) : Type 0 where
   pub dir : e.dir < 2 ^ 63

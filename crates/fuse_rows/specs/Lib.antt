@@ -1,4 +1,5 @@
 pub mod Bounds
+pub mod Blocks
 pub mod Rows
 pub mod Origins
 pub mod Pieces

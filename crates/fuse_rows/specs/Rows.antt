@@ -6,6 +6,7 @@ use Rattle.fuse_init.specs.declared.settings.Settings.{Settings}
 use Rattle.fuse_init.specs.declared.profile.Profile.{Profile}
 use Rattle.fuse_init.specs.Profile.{Terms, terms}
 use Rattle.fuse_rows.specs.Bounds.{fuse_root_id}
+use Rattle.fuse_rows.specs.Blocks.{Body, with_touched, below_size, count_between, listed_blocks}
 use Rattle.fuse_rows.specs.declared.rows.NodeRow.{NodeRow}
 use Rattle.fuse_rows.specs.declared.rows.Full.{Full}
 use Rattle.fuse_rows.specs.declared.rows.EntryRow.{EntryRow}
@@ -83,13 +84,25 @@ handles_of handles number limit = take limit (filter (λ h. h.node == number) ha
 
 abbrev pub content_of : Option Full → List ℕ
 content_of None = []
-content_of (Some f) = f.content
+content_of (Some f) = f.content.bytes
 
 -- the bytes of the node from the offset on, at most so many
 abbrev pub bytes_at : Rows → ℕ → ℕ → ℕ → List ℕ
 bytes_at rows number offset len = take len (drop offset (content_of (full_at rows number)))
 
+abbrev pub written_blocks_of : Option Full → List ℕ
+written_blocks_of None = []
+written_blocks_of (Some f) = listed_blocks f.content.blocks
+
+-- how many blocks of the node were written from one on, below another
+abbrev pub blocks_between : Rows → ℕ → ℕ → ℕ → ℕ
+blocks_between rows number from to = count_between from to (written_blocks_of (full_at rows number))
+
 -- ---- changes
+
+-- the content of a new node with so many written blocks: none, where they are counted
+abbrev pub new_body : Option ℕ → Body
+new_body written = record { bytes = []; blocks = option_map (λ _. []) written }
 
 abbrev pub with_row : NodeRow → Full → Full
 with_row row f = if f.row.node == row.node then record f { row = row } else f
@@ -98,7 +111,7 @@ with_row row f = if f.row.node == row.node then record f { row = row } else f
 abbrev pub put_node : NodeRow → List Full → List Full
 put_node row nodes =
     if list_any (λ f. f.row.node == row.node) nodes then map (with_row row) nodes
-    else nodes ++ record { row = row; content = [] } ∷ []
+    else nodes ++ record { row = row; content = new_body row.written } ∷ []
 
 -- cut to this length, or filled up with zero bytes
 abbrev pub sized : ℕ → List ℕ → List ℕ
@@ -108,8 +121,16 @@ sized size content = take size content ++ replicate (size - length content) 0
 abbrev pub written : ℕ → List ℕ → List ℕ → List ℕ
 written offset bytes content = sized offset content ++ bytes ++ drop (offset + length bytes) content
 
+-- the same of a content: the blocks that the bytes touch are written
+abbrev pub body_written : ℕ → List ℕ → Body → Body
+body_written offset bytes b = record { bytes = written offset bytes b.bytes; blocks = option_map (with_touched offset (length bytes)) b.blocks }
+
+-- a content of this size: it has no written block above it
+abbrev pub body_sized : ℕ → Body → Body
+body_sized size b = record { bytes = sized size b.bytes; blocks = option_map (below_size size) b.blocks }
+
 -- the content of this node, changed
-abbrev pub at_node : ℕ → (List ℕ → List ℕ) → Full → Full
+abbrev pub at_node : ℕ → (Body → Body) → Full → Full
 at_node number change f = if f.row.node == number then record f { content = change f.content } else f
 
 -- one change
@@ -120,8 +141,8 @@ apply_one rows (changes.Entry entry) = record rows { entries = rows.entries ++ e
 apply_one rows (changes.EntryGone cookie) = record rows { entries = filter (λ e. not (e.cookie == cookie)) rows.entries }
 apply_one rows (changes.Handle handle) = record rows { handles = rows.handles ++ handle ∷ [] }
 apply_one rows (changes.HandleGone fh) = record rows { handles = filter (λ h. not (h.fh == fh)) rows.handles }
-apply_one rows (changes.Written node offset bytes) = record rows { nodes = map (at_node node (written offset bytes)) rows.nodes }
-apply_one rows (changes.Sized node size) = record rows { nodes = map (at_node node (sized size)) rows.nodes }
+apply_one rows (changes.Written node offset bytes) = record rows { nodes = map (at_node node (body_written offset bytes)) rows.nodes }
+apply_one rows (changes.Sized node size) = record rows { nodes = map (at_node node (body_sized size)) rows.nodes }
 apply_one rows (changes.Counters counters) = record rows { counters = counters }
 apply_one rows (changes.Settings settings) = record rows { settings = Some settings }
 

@@ -9,6 +9,7 @@ pub fn limit_numbers()
     ensures handles { MAX_HANDLES ≡ bounds.handle_limit }
     ensures counters { COUNTER_END ≡ bounds.number_end }
     ensures file { MAX_FILE ≡ bounds.file_limit }
+    ensures blocks { MAX_BLOCKS ≡ bounds.block_limit }
     ensures capacities { CAPACITY_END ≡ bounds.capacity_end }
     ensures capacity { DEFAULT_CAPACITY ≡ bounds.default_capacity }
     ensures read { MAX_READ ≡ bounds.read_limit }

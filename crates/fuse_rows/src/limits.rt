@@ -12,6 +12,9 @@ pub const COUNTER_END: u64 = 0x4000_0000_0000_0000;
 /// The most bytes of a file under any profile.
 pub const MAX_FILE: u64 = 1_099_511_627_776;
 
+/// And the most blocks of it.
+pub const MAX_BLOCKS: u64 = 0x1000_0000;
+
 /// A capacity, in blocks, is below this.
 pub const CAPACITY_END: u64 = 0x8_0000_0000_0000;
 

@@ -1,4 +1,4 @@
-use crate::chunks::Chunks;
+use crate::body::FileBody;
 use crate::limits::ROOT_ID;
 use fuse_answer::Answer;
 use fuse_init::{Profile, Settings};
@@ -23,6 +23,8 @@ pub struct NodeRow {
     pub up: u64,
     /// The number of directories that have an entry in it.
     pub subdirs: u32,
+    /// The number of its written blocks. Only an everyday store counts them.
+    pub written: Option<u64>,
 }
 
 impl NodeRow {
@@ -37,11 +39,11 @@ impl NodeRow {
     }
 }
 
-/// A node's row, with its bytes.
+/// A node's row, with its bytes and its written blocks.
 #[derive(Drop)]
 pub struct Full {
     pub row: NodeRow,
-    pub content: Chunks,
+    pub content: FileBody,
 }
 
 /// A name in a directory. Cookies give the order in which names are listed.
@@ -106,7 +108,8 @@ impl Counters {
 /// One change of the rows.
 #[derive(Drop)]
 pub enum Change {
-    /// A node's row, in place of the one with its number where there is one. The bytes stay.
+    /// A node's row, in place of the one with its number where there is one. The bytes and the
+    /// written blocks stay.
     Node(NodeRow),
     /// The node's row and its bytes.
     NodeGone {
@@ -122,14 +125,15 @@ pub enum Change {
     HandleGone {
         fh: u64,
     },
-    /// Bytes at their place, and zero bytes before them where the file was shorter. The row's size
-    /// stays.
+    /// Bytes at their place, and zero bytes before them where the file was shorter. The blocks that
+    /// they touch are written, where these are counted. The row's counts stay.
     Written {
         node: u64,
         offset: u64,
         bytes: ByteList,
     },
-    /// The bytes cut, or filled up with zero bytes. The row's size stays.
+    /// The bytes cut, or filled up with zero bytes. No block above them is written any more. The
+    /// row's counts stay.
     Sized {
         node: u64,
         size: u64,

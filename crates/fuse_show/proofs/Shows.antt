@@ -5,7 +5,7 @@ use Rattle.fuse_rows.specs.Rows.{Rows}
 use Rattle.fuse_tree.specs.declared.look.LookFault.{LookFault}
 use Rattle.fuse_show.specs.declared.fault.ShowFault.{ShowFault}
 use Rattle.fuse_show.specs.declared.fault.ShowFault.TheVariants.{Look, NotATree, NoSuchPath, NotDirectory, NotFile, Output}
-use Rattle.fuse_show.specs.Looks.{ReadOff, ReadUpTo, look_fault_in}
+use Rattle.fuse_show.specs.Looks.{ReadOff, ReadUpTo, lies_between, look_fault_in}
 use Rattle.fuse_show.specs.Sinks.{IsPartOf}
 use Rattle.fuse_show.specs.inner.Writing.{WritesOut}
 use Rattle.fuse_show.specs.Lookup.{Finds}
@@ -52,20 +52,20 @@ content_cut rows names bytes NotFile one so = let no : false ≡ true = so.1 in 
 content_cut rows names bytes Output one so = (one, so.0)
 
 -- the place wasn't found, so nothing is shown
-pub not_found : {S : Type 0} (clean : S → Type 0) (looking : S → S → Type 0) (sees : S → Rows → Type 0) (a b : S) → looking a a → (names : List (List ℕ)) (f : ShowFault)
+pub not_found : {S : Type 0} (clean : S → Type 0) (looking failing : S → S → Type 0) (sees : S → Rows → Type 0) (a b : S) → looking a a → failing a b → ((s : S) → failing s s) → (names : List (List ℕ)) (f : ShowFault)
     (Shows : Rows → List ℕ → Result (Unit {0}) ShowFault → Type 0) → ((rows : Rows) → Finds rows names (Err f) → Shows rows [] (Err f))
     → ((rows : Rows) (e : LookFault) → Shows rows [] (Err (Look e))) → (look_fault_in {X = Unit {0}} (Err f) ≡ None → looking a b)
     → ReadOff (clean b) (sees a) (λ rows. Finds rows names (Err f))
-    → ReadUpTo clean (looking a) (sees a) b (look_fault_in {X = Unit {0}} (Err f)) (λ rows. Shows rows [] (Err f))
-not_found clean looking sees a b still names (Look e) Shows so none looks found =
-    up_to_before clean looking sees a a b (Some e) _ (λ same. absurd cc) still (λ is_clean rows is at. none rows e)
-not_found clean looking sees a b still names NotATree Shows so none looks found =
-    up_to_here clean looking sees a b None _ (looks refl) (λ is_clean rows is at. so rows (found is_clean rows is at))
-not_found clean looking sees a b still names NoSuchPath Shows so none looks found =
-    up_to_here clean looking sees a b None _ (looks refl) (λ is_clean rows is at. so rows (found is_clean rows is at))
-not_found clean looking sees a b still names NotDirectory Shows so none looks found =
-    up_to_here clean looking sees a b None _ (looks refl) (λ is_clean rows is at. so rows (found is_clean rows is at))
-not_found clean looking sees a b still names NotFile Shows so none looks found =
-    up_to_here clean looking sees a b None _ (looks refl) (λ is_clean rows is at. so rows (found is_clean rows is at))
-not_found clean looking sees a b still names Output Shows so none looks found =
-    up_to_here clean looking sees a b None _ (looks refl) (λ is_clean rows is at. so rows (found is_clean rows is at))
+    → ReadUpTo clean (lies_between looking failing a b) (sees a) b (look_fault_in {X = Unit {0}} (Err f)) (λ rows. Shows rows [] (Err f))
+not_found clean looking failing sees a b still fails rests names (Look e) Shows so none looks found =
+    up_to_before clean looking failing sees a a b (Some e) _ (λ same. absurd cc) still fails (λ is_clean rows is at. none rows e)
+not_found clean looking failing sees a b still fails rests names NotATree Shows so none looks found =
+    up_to_here clean looking failing sees rests a b None _ (looks refl) (λ is_clean rows is at. so rows (found is_clean rows is at))
+not_found clean looking failing sees a b still fails rests names NoSuchPath Shows so none looks found =
+    up_to_here clean looking failing sees rests a b None _ (looks refl) (λ is_clean rows is at. so rows (found is_clean rows is at))
+not_found clean looking failing sees a b still fails rests names NotDirectory Shows so none looks found =
+    up_to_here clean looking failing sees rests a b None _ (looks refl) (λ is_clean rows is at. so rows (found is_clean rows is at))
+not_found clean looking failing sees a b still fails rests names NotFile Shows so none looks found =
+    up_to_here clean looking failing sees rests a b None _ (looks refl) (λ is_clean rows is at. so rows (found is_clean rows is at))
+not_found clean looking failing sees a b still fails rests names Output Shows so none looks found =
+    up_to_here clean looking failing sees rests a b None _ (looks refl) (λ is_clean rows is at. so rows (found is_clean rows is at))

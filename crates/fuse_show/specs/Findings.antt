@@ -6,7 +6,8 @@ use Rattle.fuse_show.specs.declared.findings.Finding.TheVariants.{EntryOfAnother
 use Rattle.fuse_show.specs.declared.findings.Finding.TheVariants.{LeadsToRoot, NodeNotGiven, NodeMissing, NodeOfAnotherDirectory}
 use Rattle.fuse_show.specs.declared.findings.Finding.TheVariants.{NoMode, DeviceNumberOfNoDevice, LinkInPlainStore, NoSize}
 use Rattle.fuse_show.specs.declared.findings.Finding.TheVariants.{ContentCutShort, ZeroInTarget, OtherDirectories, MoreEntriesThanNodes}
-use Rattle.fuse_show.specs.declared.findings.Finding.TheVariants.{MoreNodes, FewerNodes, OtherBlocks, Strays, BlocksBeyond}
+use Rattle.fuse_show.specs.declared.findings.Finding.TheVariants.{MoreNodes, FewerNodes, OtherWritten, OtherBlocks, Strays}
+use Rattle.fuse_show.specs.declared.findings.Finding.TheVariants.{BlocksBeyond}
 use Rattle.fuse_show.specs.Names.{name_text}
 
 abbrev pub finding_text : Finding → List ℕ
@@ -31,6 +32,7 @@ finding_text OtherDirectories = codes "its directories are not those that are co
 finding_text MoreEntriesThanNodes = codes "it has more entries than there are nodes"
 finding_text MoreNodes = codes "more nodes lie in it than are counted"
 finding_text FewerNodes = codes "fewer nodes lie in it than are counted"
+finding_text OtherWritten = codes "its written blocks are not those that are counted"
 finding_text OtherBlocks = codes "its files take not as many blocks as are counted"
 finding_text Strays = codes "the tables have rows of no node or entry in the tree"
 finding_text BlocksBeyond = codes "a file has blocks after its end"

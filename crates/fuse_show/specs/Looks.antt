@@ -38,6 +38,10 @@ is_of_path Output = false
 abbrev pub ReadOff : Type 0 → (Rows → Type 0) → (Rows → Type 0) → Type 0
 ReadOff clean sees P = clean → (rows : Rows) → IsRowed rows → sees rows → P rows
 
+-- looks that went well lead from the old state to this one, and at most one more look, which failed, from there to the new one
+abbrev pub lies_between : {S : Type 0} → (S → S → Type 0) → (S → S → Type 0) → S → S → S → Type 0
+lies_between looking failing old new seen = looking old seen × failing seen new
+
 -- of a state of the look P holds of the rows so; that is the last state, unless the last look failed
 pub record ReadUpTo {S : Type 0} (clean looked : S → Type 0) (sees : Rows → Type 0) (new : S) (fault : Option LookFault) (P : Rows → Type 0) : Type 0 where
   pub seen : S

@@ -2,7 +2,8 @@ ghost use Rattle.std.specs.Prelude.{◌≡◌, ◌<◌, ◌≤◌, true, false, 
 ghost use Rattle.fuse_rows.specs.Rows.{row_at};
 ghost use Rattle.fuse_rows.specs.Bounds.{file_limit, read_limit};
 ghost use Rattle.fuse_show.specs.declared.fault.ShowFault.TheVariants.{NotATree};
-ghost use Rattle.fuse_show.specs.Looks.{OnlyLooked, ReadUpTo, is_of_path, look_fault_in};
+ghost use Rattle.fuse_show.specs.Looks.{OnlyLooked, ReadUpTo, is_of_path, lies_between};
+ghost use Rattle.fuse_show.specs.Looks.{look_fault_in};
 ghost use Rattle.fuse_show.specs.Sinks.{Outputs};
 ghost use Rattle.fuse_show.specs.inner.Writing.{PutsOut, WritesOut};
 ghost use Rattle.fuse_show.specs.Content.{content_at};
@@ -36,7 +37,7 @@ pub(crate) fn copy<L: Look, W: Sink>(
 ) -> Result<(), ShowFault>
     requires { L.fault look.old ≡ None }
     ensures copied { PutsOut W.was_written writer.old writer.new result (λ bytes.
-        ReadUpTo L.is_clean (L.looks look.old) (L.sees look.old) look.new (look_fault_in result)
+        ReadUpTo L.is_clean (lies_between L.looks L.fails look.old look.new) (L.sees look.old) look.new (look_fault_in result)
         (λ rows. row_at rows row.now.node ≡ Some row.now
         → WritesOut (content_at rows row.now.node) bytes result)) }
     ensures looked { OnlyLooked L.fault L.looks L.fails look.old look.new result }
@@ -70,7 +71,7 @@ pub fn show_content<L: Look, W: Sink>(
 ) -> Result<(), ShowFault>
     requires { L.fault look.old ≡ None }
     ensures shown { Outputs W.was_written W.was_flushed writer.old writer.new (way_of result)
-        (λ bytes. ReadUpTo L.is_clean (L.looks look.old) (L.sees look.old) look.new
+        (λ bytes. ReadUpTo L.is_clean (lies_between L.looks L.fails look.old look.new) (L.sees look.old) look.new
         (look_fault_in result) (λ rows. ShowsContent rows (names_of path.now) bytes result)) }
     ensures looked { OnlyLooked L.fault L.looks L.fails look.old look.new result }
     // A fault of the path writes nothing.

@@ -32,6 +32,7 @@ pub enum Finding {
     MoreEntriesThanNodes,
     MoreNodes,
     FewerNodes,
+    OtherWritten,
     OtherBlocks,
     /// Of the tables: rows that no walk over the tree meets.
     Strays,
@@ -66,6 +67,7 @@ impl Finding {
             Finding::MoreEntriesThanNodes => "it has more entries than there are nodes",
             Finding::MoreNodes => "more nodes lie in it than are counted",
             Finding::FewerNodes => "fewer nodes lie in it than are counted",
+            Finding::OtherWritten => "its written blocks are not those that are counted",
             Finding::OtherBlocks => "its files take not as many blocks as are counted",
             Finding::Strays => "the tables have rows of no node or entry in the tree",
             Finding::BlocksBeyond => "a file has blocks after its end",

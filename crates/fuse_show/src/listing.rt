@@ -1,7 +1,8 @@
 ghost use Rattle.std.specs.Prelude.{◌≡◌, ◌+◌, true, false, None};
 ghost use Rattle.std.specs.Prelude.{IfErr, IfOk, IsTrue};
 ghost use Rattle.std.specs.List.{AllByRecursion, flat_map};
-ghost use Rattle.fuse_show.specs.Looks.{OnlyLooked, ReadUpTo, is_of_path, look_fault_in};
+ghost use Rattle.fuse_show.specs.Looks.{OnlyLooked, ReadUpTo, is_of_path, lies_between};
+ghost use Rattle.fuse_show.specs.Looks.{look_fault_in};
 ghost use Rattle.fuse_show.specs.Sinks.{Outputs};
 ghost use Rattle.fuse_show.specs.inner.Writing.{PutsOut, WritesOut};
 ghost use Rattle.fuse_tree.specs.RowsOfTrees.{LeadsToRow};
@@ -86,7 +87,7 @@ fn show_entry<L: Look, W: Sink>(
 ) -> Result<(), ShowFault>
     requires { L.fault look.old ≡ None }
     ensures line { PutsOut W.was_written writer.old writer.new result (λ bytes.
-        ReadUpTo L.is_clean (L.looks look.old) (L.sees look.old) look.new (look_fault_in result)
+        ReadUpTo L.is_clean (lies_between L.looks L.fails look.old look.new) (L.sees look.old) look.new (look_fault_in result)
         (λ rows. LeadsToRow rows entry.now → WritesOut (line_of_entry rows entry.now) bytes result)) }
     ensures written { PutsOut W.was_written writer.old writer.new result
         (λ bytes. WritesLines bytes result) }
@@ -107,7 +108,7 @@ fn show_entries<L: Look, W: Sink>(
 ) -> Result<(), ShowFault>
     requires { L.fault look.old ≡ None }
     ensures lines { PutsOut W.was_written writer.old writer.new result (λ bytes.
-        ReadUpTo L.is_clean (L.looks look.old) (L.sees look.old) look.new (look_fault_in result)
+        ReadUpTo L.is_clean (lies_between L.looks L.fails look.old look.new) (L.sees look.old) look.new (look_fault_in result)
         (λ rows. AllByRecursion (LeadsToRow rows) entries.now
         → WritesOut (flat_map (line_of_entry rows) entries.now) bytes result)) }
     ensures written { PutsOut W.was_written writer.old writer.new result
@@ -154,7 +155,7 @@ fn list_page<L: Look, W: Sink>(
 ) -> Result<Option<u64>, ShowFault>
     requires { L.fault look.old ≡ None }
     ensures page { PutsOut W.was_written writer.old writer.new result (λ bytes.
-        ReadUpTo L.is_clean (L.looks look.old) (L.sees look.old) look.new (look_fault_in result)
+        ReadUpTo L.is_clean (lies_between L.looks L.fails look.old look.new) (L.sees look.old) look.new (look_fault_in result)
         (λ rows. WritesPage rows dir after bytes result)) }
     ensures written { PutsOut W.was_written writer.old writer.new result
         (λ bytes. WritesLines bytes result) }
@@ -182,7 +183,7 @@ pub(crate) fn list<L: Look, W: Sink>(
 ) -> Result<(), ShowFault>
     requires { L.fault look.old ≡ None }
     ensures listed { PutsOut W.was_written writer.old writer.new result (λ bytes.
-        ReadUpTo L.is_clean (L.looks look.old) (L.sees look.old) look.new (look_fault_in result)
+        ReadUpTo L.is_clean (lies_between L.looks L.fails look.old look.new) (L.sees look.old) look.new (look_fault_in result)
         (λ rows. WritesOut (listing rows dir) bytes result)) }
     ensures written { PutsOut W.was_written writer.old writer.new result
         (λ bytes. WritesLines bytes result) }
@@ -208,7 +209,7 @@ pub fn show_listing<L: Look, W: Sink>(
 ) -> Result<(), ShowFault>
     requires { L.fault look.old ≡ None }
     ensures shown { Outputs W.was_written W.was_flushed writer.old writer.new (way_of result)
-        (λ bytes. ReadUpTo L.is_clean (L.looks look.old) (L.sees look.old) look.new
+        (λ bytes. ReadUpTo L.is_clean (lies_between L.looks L.fails look.old look.new) (L.sees look.old) look.new
         (look_fault_in result) (λ rows. ShowsListing rows (names_of path.now) bytes result)) }
     // Whatever the rows are, lines of entries are written.
     ensures written { Outputs W.was_written W.was_flushed writer.old writer.new (way_of result)

@@ -8,7 +8,7 @@ use crate::fault::ShowFault;
 use crate::output::{finish, put_fields};
 use fuse_rows::NodeRow;
 use fuse_session::Sink;
-use fuse_tree::{S_IFDIR, S_IFLNK, S_IFREG, blocks_of};
+use fuse_tree::{S_IFDIR, S_IFLNK, S_IFREG};
 
 /// What a walk over a tree met: its nodes, those of each type, and their bytes.
 #[derive(Clone, Copy, Debug, PartialEq, Eq)]
@@ -20,7 +20,7 @@ pub struct Tally {
     pub others: u64,
     /// The sum of all sizes.
     pub bytes: u64,
-    /// The blocks that all sizes take.
+    /// The written blocks, where the store counts them.
     pub blocks: u64,
 }
 
@@ -41,7 +41,7 @@ impl Tally {
         let mut tally = self;
         tally.nodes = self.nodes.saturating_add(1);
         tally.bytes = self.bytes.saturating_add(row.size);
-        tally.blocks = self.blocks.saturating_add(blocks_of(row.size));
+        tally.blocks = self.blocks.saturating_add(row.written.unwrap_or(0));
         let kind = type_of(row.mode);
         if kind == S_IFDIR {
             tally.directories = self.directories.saturating_add(1);

@@ -10,7 +10,7 @@ use crate::checks::{fault_of_counters, fault_of_entry, fault_of_row, type_of};
 use crate::findings::{Finding, show_finding, show_unread};
 use crate::modes::is_directory;
 use crate::tally::Tally;
-use fuse_rows::{Counters, EntryRow, MAX_READ, NodeRow, ROOT_ID};
+use fuse_rows::{BLOCK_SIZE, Counters, EntryRow, MAX_READ, NodeRow, ROOT_ID, blocks_of};
 use fuse_session::Sink;
 use fuse_tree::{Look, LookFault, S_IFLNK};
 use std::alloc::{AllocError, Global};
@@ -109,6 +109,131 @@ fn fault_of_piece(row: &NodeRow, bytes: &[u8], len: u32) -> Option<Finding> {
     None
 }
 
+// Reads the bytes of a node from one number on and below another.
+fn read_range<L: Look, W: Sink>(
+    look: &mut L,
+    row: &NodeRow,
+    from: u64,
+    to: u64,
+    path: &[u8],
+    writer: &mut W,
+) -> Result<(), VerifyFault>
+    requires { L.fault look.old ≡ None }
+    ensures walked { OnlyWalked L.fault L.looks L.fails look.old look.new result }
+    ensures silent { OnOk result (writer.new ≡ writer.old) }
+    ensures found { IfErr result (WalkWrites W.was_written W.was_flushed writer.old writer.new) }
+{
+    let mut offset: u64 = from;
+    while offset < to {
+        let len = piece_of(to - offset);
+        let bytes = match look.bytes(row.node, offset, len) {
+            Ok(bytes) => bytes,
+            Err(fault) => return Err(unread(writer, path, fault)),
+        };
+        if let Some(finding) = fault_of_piece(row, bytes.as_slice(), len) {
+            return Err(wrong(writer, path, finding));
+        }
+        offset += u64::from(len);
+    }
+    Ok(())
+}
+
+// So many blocks are read at once where some of them are written.
+const STRIDE: u64 = 256;
+
+// A stretch of blocks: its first one, the first one after it, and how many of them are written.
+#[derive(Clone, Copy)]
+struct Stretch {
+    from: u64,
+    to: u64,
+    count: u64,
+}
+
+// How many blocks of a stretch are written. What is written of it is read, if it isn't longer than is
+// read at once.
+fn read_stretch<L: Look, W: Sink>(
+    look: &mut L,
+    row: &NodeRow,
+    from: u64,
+    to: u64,
+    path: &[u8],
+    writer: &mut W,
+) -> Result<Stretch, VerifyFault>
+    requires { L.fault look.old ≡ None }
+    ensures walked { OnlyWalked L.fault L.looks L.fails look.old look.new result }
+    ensures silent { OnOk result (writer.new ≡ writer.old) }
+    ensures found { IfErr result (WalkWrites W.was_written W.was_flushed writer.old writer.new) }
+{
+    let count = match look.blocks_between(row.node, from, to) {
+        Ok(count) => count,
+        Err(fault) => return Err(unread(writer, path, fault)),
+    };
+    if count == 0 || to.saturating_sub(from) > STRIDE {
+        return Ok(Stretch { from, to, count });
+    }
+    let unit = u64::from(BLOCK_SIZE);
+    let begin = from.saturating_mul(unit);
+    let end = to.saturating_mul(unit).min(row.size);
+    match read_range(look, row, begin, end, path, writer) {
+        Ok(()) => Ok(Stretch { from, to, count }),
+        Err(fault) => Err(fault),
+    }
+}
+
+// The blocks that are looked at after a stretch: twice as many after one without a written block,
+// half of one that is too long to be read, else as many as are read at once.
+fn next_after(last: Stretch, end: u64) -> Option<(u64, u64)> {
+    let len = last.to.saturating_sub(last.from);
+    if last.count > 0 && len > STRIDE {
+        return Some((last.from, last.from.saturating_add((len / 2).max(STRIDE))));
+    }
+    if last.to >= end {
+        return None;
+    }
+    let more = if last.count == 0 {
+        len.saturating_mul(2).max(STRIDE)
+    } else {
+        STRIDE
+    };
+    Some((last.to, last.to.saturating_add(more).min(end)))
+}
+
+// Reads what is written of a node, where the store counts written blocks: it has as many as are
+// counted. Long holes are passed over, so that a large file without much in it takes no longer.
+fn read_written<L: Look, W: Sink>(
+    look: &mut L,
+    row: &NodeRow,
+    count: u64,
+    path: &[u8],
+    writer: &mut W,
+) -> Result<(), VerifyFault>
+    requires { L.fault look.old ≡ None }
+    ensures walked { OnlyWalked L.fault L.looks L.fails look.old look.new result }
+    ensures silent { OnOk result (writer.new ≡ writer.old) }
+    ensures found { IfErr result (WalkWrites W.was_written W.was_flushed writer.old writer.new) }
+{
+    let end = blocks_of(row.size);
+    let mut found: u64 = 0;
+    let mut next = Some((0, STRIDE.min(end)));
+    for _ in 0..u64::MAX {
+        let Some((from, to)) = next else {
+            break;
+        };
+        let stretch = match read_stretch(look, row, from, to, path, writer) {
+            Ok(stretch) => stretch,
+            Err(fault) => return Err(fault),
+        };
+        if to.saturating_sub(from) <= STRIDE {
+            found = found.saturating_add(stretch.count);
+        }
+        next = next_after(stretch, end);
+    }
+    if found != count {
+        return Err(wrong(writer, path, Finding::OtherWritten));
+    }
+    Ok(())
+}
+
 // Reads the whole content of a node.
 fn read_content<L: Look, W: Sink>(
     look: &mut L,
@@ -121,19 +246,10 @@ fn read_content<L: Look, W: Sink>(
     ensures silent { OnOk result (writer.new ≡ writer.old) }
     ensures found { IfErr result (WalkWrites W.was_written W.was_flushed writer.old writer.new) }
 {
-    let mut offset: u64 = 0;
-    while offset < row.size {
-        let len = piece_of(row.size - offset);
-        let bytes = match look.bytes(row.node, offset, len) {
-            Ok(bytes) => bytes,
-            Err(fault) => return Err(unread(writer, path, fault)),
-        };
-        if let Some(finding) = fault_of_piece(row, bytes.as_slice(), len) {
-            return Err(wrong(writer, path, finding));
-        }
-        offset += u64::from(len);
+    match row.written {
+        Some(count) => read_written(look, row, count, path, writer),
+        None => read_range(look, row, 0, row.size, path, writer),
     }
-    Ok(())
 }
 
 // The row of the node of an entry, whose content is read.

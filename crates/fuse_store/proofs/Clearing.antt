@@ -1,6 +1,8 @@
 -- What is left of rows, and of the blocks of their nodes.
-use Rattle.std.proofs.Common.{◌≡◌, ◌≤◌, ◌<◌, ◌*◌, ◌+◌, ℕ, ◌==◌, ◌&&◌, ◌||◌, List, [], ◌∷◌, map, filter, find, Bool, true, false, not, cond}
-use Rattle.std.proofs.Common.{Some, None, Option, inl, inr, refl, sym, ap, subst, arith, ◌∙◌}
+use Rattle.std.proofs.Common.{◌≡◌, ◌≤◌, ◌<◌, ◌*◌, ◌+◌, ◌-◌, ℕ, ◌==◌, ◌&&◌, ◌||◌, List, [], ◌∷◌, map, filter, find, Bool, true, false, not, cond}
+use Rattle.std.proofs.Common.{Some, None, Option, option_map, inl, inr, refl, sym, ap, subst, arith, ◌∙◌}
+use Rattle.std.specs.Prelude.{unwrap_or}
+use Rattle.std.specs.Option.{is_some}
 use Rattle.std.specs.List.{AllByRecursion, list_any, sum_by}
 use Rattle.std.specs.Ordering.{is_eq, is_gt, nat_cmp}
 use Rattle.std.proofs.lemmas.Bool.{cases_Bool}
@@ -9,14 +11,18 @@ use Rattle.std.proofs.lemmas.List.Sums.{sum_by-cons}
 use Rattle.fuse_rows.specs.Bounds.{block_bytes}
 use Rattle.fuse_rows.specs.declared.rows.NodeRow.{NodeRow}
 use Rattle.fuse_rows.specs.declared.rows.Full.{Full}
-use Rattle.fuse_tree.specs.State.{State, Node, IsNode, Apart, terms_of, blocks_for}
+use Rattle.fuse_rows.specs.Blocks.{how_many}
+use Rattle.fuse_tree.specs.State.{State, Node, IsNode, Apart, terms_of}
 use Rattle.fuse_rows.specs.Rows.{row_is_named, content_of}
 use Rattle.fuse_tree.specs.Rowed.{full_of}
 use Rattle.fuse_tree.specs.Clearing.{is_named_row, blocks_freed}
 use Rattle.fuse_store_tables.specs.Blocks.{Block, block_at, is_at}
-use Rattle.fuse_store_tables.specs.Content.{is_unnamed}
-use Rattle.fuse_store_tables.specs.Clearing.{named, has_unnamed, unnamed_blocks, blocks_in}
-use Rattle.fuse_store_tree.specs.Store.{byte_at, bytes_of_block, AreWithin}
+use Rattle.fuse_store_tables.specs.Content.{is_unnamed, has_by, node_key}
+use Rattle.fuse_store_tables.specs.declared.version.Layout.TheVariants.{Third}
+use Rattle.fuse_store_tables.specs.Clearing.{named, has_unnamed, unnamed_blocks}
+use Rattle.fuse_store_tables.specs.Pieces.{Piece}
+use Rattle.fuse_store_tree.specs.Pieces.{byte_at, block_found, piece_at, has_block, end_of}
+use Rattle.fuse_store_tree.specs.Store.{AreWithin, ArePiecesWithin, IsWrittenAs, blocks_counted, is_among}
 
 -- ---- tests
 
@@ -78,20 +84,20 @@ module _ (s : State) where
       by more false true is = ap (λ l. (full_of s n).row ∷ l) more
       by more false false is = absurd cc
 
-  -- the blocks of the nodes that go
-  pub freed_blocks : (next : ℕ) (ns : List Node) → AllByRecursion (IsNode (terms_of s) next) ns → unnamed_blocks (rows ns) ≡ blocks_freed (fulls ns)
+  -- the written blocks of the nodes that go
+  pub freed_blocks : (next : ℕ) (ns : List Node) → AllByRecursion (IsNode (terms_of s) next) ns → unnamed_blocks Third (rows ns) ≡ blocks_freed (fulls ns)
   freed_blocks next [] all = refl
   freed_blocks next (n ∷ ns) all = by (freed_blocks next ns all.1) (is_unnamed (full_of s n).row) (is_named_row (full_of s n))
       (named_is (full_of s n).row all.0.from_one)
     where
-      by : unnamed_blocks (rows ns) ≡ blocks_freed (fulls ns) → (u v : Bool) → v ≡ not u
-          → sum_by (λ r. blocks_in r.size) (cond u ((full_of s n).row ∷ filter is_unnamed (rows ns)) (filter is_unnamed (rows ns)))
-          ≡ sum_by (λ f. blocks_for f.row.size) (cond (not v) (full_of s n ∷ filter (λ f. not (is_named_row f)) (fulls ns)) (filter (λ f. not (is_named_row f)) (fulls ns)))
+      by : unnamed_blocks Third (rows ns) ≡ blocks_freed (fulls ns) → (u v : Bool) → v ≡ not u
+          → sum_by (λ r. how_many r.written) (cond u ((full_of s n).row ∷ filter is_unnamed (rows ns)) (filter is_unnamed (rows ns)))
+          ≡ sum_by (λ f. how_many f.row.written) (cond (not v) (full_of s n ∷ filter (λ f. not (is_named_row f)) (fulls ns)) (filter (λ f. not (is_named_row f)) (fulls ns)))
       by more true true is = absurd cc
       by more true false is =
-          sum_by-cons (λ r. blocks_in r.size) (full_of s n).row (filter is_unnamed (rows ns))
-          ∙ ap (λ k. blocks_in (full_of s n).row.size + k) more
-          ∙ sym (sum_by-cons (λ f. blocks_for f.row.size) (full_of s n) (filter (λ f. not (is_named_row f)) (fulls ns)))
+          sum_by-cons (λ r. how_many r.written) (full_of s n).row (filter is_unnamed (rows ns))
+          ∙ ap (λ k. how_many (full_of s n).row.written + k) more
+          ∙ sym (sum_by-cons (λ f. how_many f.row.written) (full_of s n) (filter (λ f. not (is_named_row f)) (fulls ns)))
       by more false true is = more
       by more false false is = absurd cc
 
@@ -192,17 +198,45 @@ block_left gone node k (b ∷ bs) = elim (cases_Bool (is_at node k b)) [
         ap (λ t. cond t (Some b) (block_at node k (filter (λ x. not (gone x.node)) bs))) here
         ∙ sym (ap (λ t. cond t (Some b) (block_at node k bs)) here)
 
--- ---- bytes
+-- ---- the pieces that are left
+
+-- a piece goes exactly where its node does
+pub piece_goes : (gone : ℕ → Bool) (ps : List Piece) → AllByRecursion (λ p. (n k : ℕ) → has_block n k p ≡ true → gone n ≡ gone p.node) ps
+piece_goes gone [] = tt
+piece_goes gone (p ∷ ps) = (λ n k here. ap gone (sym (is_number p.node n (same_test p.node n ∙ both_are _ _ here))), piece_goes gone ps)
+
+-- ---- what a node has
+
+found_none : (file : List ℕ) (k : ℕ) (g : Bool) (o : Option Block) (q r : Option Piece) → block_found file k None r ≡ cond g None (block_found file k None q)
+    → block_found file k (cond g None o) r ≡ cond g None (block_found file k o q)
+found_none file k true o q r same = same
+found_none file k false None q r same = same
+found_none file k false (Some b) q r same = refl
+
+-- a node that goes has no block, and the others have theirs
+pub stored_left : (file : List ℕ) (gone : ℕ → Bool) (node k : ℕ) (bs : List Block) (ps left : List Piece)
+    → block_found file k None (piece_at node k left) ≡ cond (gone node) None (block_found file k None (piece_at node k ps))
+    → block_found file k (block_at node k (filter (λ b. not (gone b.node)) bs)) (piece_at node k left)
+    ≡ cond (gone node) None (block_found file k (block_at node k bs) (piece_at node k ps))
+stored_left file gone node k bs ps left same =
+    ap (λ o. block_found file k o (piece_at node k left)) (block_left gone node k bs)
+    ∙ found_none file k (gone node) (block_at node k bs) (piece_at node k ps) (piece_at node k left) same
 
 none_at : (i : ℕ) → byte_at [] i ≡ 0
 none_at i = refl
 
-pub bytes_left : (t : Bool) (o : Option Block) (f : Option Full) (i j : ℕ) → byte_at (bytes_of_block o) i ≡ byte_at (content_of f) j
-    → byte_at (bytes_of_block (cond t None o)) i ≡ byte_at (content_of (cond t None f)) j
+pub bytes_left : (t : Bool) (o : Option (List ℕ)) (f : Option Full) (i j : ℕ) → byte_at (unwrap_or o []) i ≡ byte_at (content_of f) j
+    → byte_at (unwrap_or (cond t None o) []) i ≡ byte_at (content_of (cond t None f)) j
 bytes_left true o f i j same = none_at i ∙ sym (none_at j)
 bytes_left false o f i j same = same
 
--- the blocks of nodes that stay begin before the ends that stay
+pub written_left : (t : Bool) (o : Option (List ℕ)) (f : Option Full) (k : ℕ) → IsWrittenAs (is_some o) (option_map is_among (blocks_counted f)) k
+    → IsWrittenAs (is_some (cond t None o)) (option_map is_among (blocks_counted (cond t None f))) k
+written_left true o f k told = tt
+written_left false o f k told = told
+
+-- ---- what is left of a node that stays begins before the end that stays
+
 pub blocks_within : (gone : ℕ → Bool) (e f : ℕ → ℕ) → ((node : ℕ) → gone node ≡ false → e node ≡ f node) → (bs : List Block) → AreWithin e bs
     → AreWithin f (filter (λ b. not (gone b.node)) bs)
 blocks_within gone e f same [] all = tt
@@ -212,3 +246,52 @@ blocks_within gone e f same (b ∷ bs) all = by (gone b.node) (same b.node) (blo
         → AreWithin f (cond (not t) (b ∷ filter (λ x. not (gone x.node)) bs) (filter (λ x. not (gone x.node)) bs))
     by true stays more = more
     by false stays more = (subst (λ n. b.block * block_bytes < n) (stays refl) all.0, more)
+
+pub pieces_within : (gone : ℕ → Bool) (e f : ℕ → ℕ) → ((node : ℕ) → gone node ≡ false → e node ≡ f node) → (ps : List Piece) → ArePiecesWithin e ps
+    → ArePiecesWithin f (filter (λ p. not (gone p.node)) ps)
+pieces_within gone e f same [] all = tt
+pieces_within gone e f same (p ∷ ps) all = by (gone p.node) (same p.node) (pieces_within gone e f same ps all.1)
+  where
+    by : (t : Bool) → (t ≡ false → e p.node ≡ f p.node) → ArePiecesWithin f (filter (λ x. not (gone x.node)) ps)
+        → ArePiecesWithin f (cond (not t) (p ∷ filter (λ x. not (gone x.node)) ps) (filter (λ x. not (gone x.node)) ps))
+    by true stays more = more
+    by false stays more = (subst (λ n. (end_of p - 1) * block_bytes < n) (stays refl) all.0, more)
+
+-- ---- the nodes of what is left are left
+
+off_first : (a b : Bool) → (a || b) ≡ false → a ≡ false
+off_first true b is = absurd cc
+off_first false b is = refl
+
+off_second : (a b : Bool) → (a || b) ≡ false → b ≡ false
+off_second true b is = absurd cc
+off_second false b is = is
+
+turned : (a b : ℕ) → is_eq (nat_cmp a b) ≡ is_eq (nat_cmp b a)
+turned a b = grind (arith, nat_tests)
+
+-- a number that doesn't go is that of a row that doesn't
+pub still_there : (ns : List NodeRow) (node : ℕ) → has_unnamed ns node ≡ false → list_any (has_by node_key node) ns ≡ true
+    → list_any (has_by node_key node) (named ns) ≡ true
+still_there [] node stays there = absurd cc
+still_there (n ∷ ns) node stays there = elim (cases_Bool (is_unnamed n)) [
+  | inl gone ↦
+      let off : (is_eq (nat_cmp node n.node) || has_unnamed ns node) ≡ false = rw gone at stays in
+      let other : has_by node_key node n ≡ false = turned n.node node ∙ off_first _ _ off in
+      rw gone (still_there ns node (off_second _ _ off) (rw other at there))
+  | inr left ↦
+      let off : has_unnamed ns node ≡ false = rw left at stays in
+      rw left (elim (cases_Bool (has_by node_key node n)) [
+        | inl here ↦ rw here refl
+        | inr other ↦ rw other (still_there ns node off (rw other at there))
+      ])
+]
+
+-- the node of each piece that is left is there
+pub owned_left : (ns : List NodeRow) (ps : List Piece) → AllByRecursion (λ p. list_any (has_by node_key p.node) ns ≡ true) ps
+    → AllByRecursion (λ p. list_any (has_by node_key p.node) (named ns) ≡ true) (filter (λ p. not (has_unnamed ns p.node)) ps)
+owned_left ns [] all = tt
+owned_left ns (p ∷ ps) all = elim (cases_Bool (has_unnamed ns p.node)) [
+  | inl gone ↦ rw gone (owned_left ns ps all.1)
+  | inr left ↦ rw left (still_there ns p.node left all.0, owned_left ns ps all.1)
+]

@@ -1,19 +1,24 @@
 -- A store of version 1, and what its migration makes of it.
-use Rattle.std.proofs.Common.{◌≡◌, ◌≤◌, ◌<◌, ◌^◌, ℕ, Option, None, List, [], ◌∷◌, map, length, refl, sym, ap, subst, arith, ◌∙◌}
-use Rattle.std.specs.List.{AllByRecursion}
+use Rattle.std.proofs.Common.{◌≡◌, ◌≤◌, ◌<◌, ◌^◌, ◌/◌, ◌%◌, ℕ, true, Option, None, option_map, List, [], ◌∷◌, map, length, refl, sym, ap, subst, arith, ◌∙◌}
+use Rattle.std.specs.Prelude.{IsSome, unwrap_or}
+use Rattle.std.specs.List.{AllByRecursion, list_any}
+use Rattle.fuse_rows.specs.declared.rows.Room.{Room}
 use Rattle.fuse_init.specs.declared.profile.Profile.TheVariants.{Plain}
 use Rattle.fuse_init.specs.Profile.{terms}
 use Rattle.fuse_rows.specs.Rows.{profile_for}
-use Rattle.fuse_tree.specs.State.{State, Tree}
+use Rattle.fuse_rows.specs.Bounds.{block_bytes}
+use Rattle.fuse_tree.specs.State.{State, Tree, used_of}
 use Rattle.fuse_tree.specs.Rowed.{rowed}
-use Rattle.fuse_store_tables.specs.Content.{Content, Answer, value_at}
+use Rattle.fuse_store_tables.specs.Pieces.{Piece}
+use Rattle.fuse_store_tables.specs.Content.{Content, Answer, value_at, has_by, node_key}
 use Rattle.fuse_store_tables.specs.Opening.{IsMetaFrom, IsOld, under, as_version_2, migrated}
 use Rattle.fuse_store_tree.specs.Fits.{KeepsRecord}
-use Rattle.fuse_store_tree.specs.Store.{FitsSettings}
-use Rattle.fuse_store_tree.specs.inner.Reading.{Describes}
-use Rattle.fuse_store_tree.specs.Holding.{TreesAreInOrder, store_of}
+use Rattle.fuse_store_tree.specs.Pieces.{ArePieces, byte_at}
+use Rattle.fuse_store_tree.specs.Store.{FitsSettings, ArePiecesWithin, layout_for, rows_ends}
+use Rattle.fuse_store_tree.specs.Holding.{TreesAreInOrder}
 use Rattle.fuse_store.specs.Opening.{DescribesFirst, first_meta_rows, First, opened_for}
-use Rattle.fuse_store.proofs.Fitting.{counters_with, nodes_length, settings_low, all_less, above_for}
+use Rattle.fuse_store.proofs.Fitting.{Told, counters_with, nodes_length, settings_low, all_less, above_for}
+use Rattle.fuse_store.proofs.PlainFiles.{same_stored, no_pieces_are, uncounted_written}
 
 meta_old : (s : State) → Tree s → length s.nodes ≤ 65536 → FitsSettings (rowed s).settings → IsMetaFrom Plain 1 10 (first_meta_rows (rowed s).counters (rowed s).settings)
 unfolding rowed
@@ -66,26 +71,38 @@ kept_under [] all = tt
 kept_under (a ∷ answers) all = (all.0, kept_under answers all.1)
 
 -- the records are under lot 0, and the rest is as it was
-pub describes_migrated : (tree : State) (answers : List Answer) (c : Content) → tree.capacity ≡ None → DescribesFirst (rowed tree) answers c
-    → Describes (store_of (opened_for (First tree answers))) (migrated c)
+pub describes_migrated : (tree : State) (answers : List Answer) (file : List ℕ) (c : Content) → Tree tree → tree.capacity ≡ None → DescribesFirst (rowed tree) answers c
+    → Told (opened_for (First tree answers)) file (migrated c)
 unfolding rowed
-describes_migrated tree answers c plain told = record {
-  counters = ap (λ cs. (as_version_2 (record c { counters = cs })).counters) told.counters
-      ∙ ap (λ o. counters_with o tree 1) (sym plain);
-  nodes = told.nodes;
-  entries = told.entries;
-  handles = told.handles;
-  answers = refl;
-  lots = refl;
-  kept = ap (map (under 0)) told.answers;
-  bytes = told.bytes;
-  within = told.within;
-  settings = told.settings;
-  fits = record {
-    nodes = told.fits.nodes;
-    entries = told.fits.entries;
-    handles = told.fits.handles;
-    blocks = told.fits.blocks;
-    kept = subst (λ l. AllByRecursion KeepsRecord (map (under 0) l)) (sym told.answers) (kept_under answers told.keeps);
-  };
-}
+describes_migrated tree answers file c good plain told =
+    let none : c.pieces ≡ [] = told.fits.no_pieces told.layout in
+    record {
+      number = 0;
+      layout = told.layout ∙ ap (λ o. layout_for (option_map (λ k. record { capacity = k; used = used_of tree }) o)) (sym plain);
+      counters = ap (λ cs. (as_version_2 (record c { counters = cs })).counters) told.counters
+          ∙ ap (λ o. counters_with o tree 1 0) (sym plain);
+      nodes = told.nodes;
+      entries = told.entries;
+      handles = told.handles;
+      answers = refl;
+      lots = refl;
+      kept = ap (map (under 0)) told.answers;
+      attributes = told.attributes;
+      bytes = λ node i. ap (λ o. byte_at (unwrap_or o []) (i % block_bytes)) (same_stored [] file c none node (i / block_bytes)) ∙ told.bytes node i;
+      within = told.within;
+      written = λ node block. uncounted_written tree good plain _ node block;
+      pieces_within = subst (ArePiecesWithin (rows_ends (rowed tree))) (sym none) tt;
+      pieces = subst (ArePieces file) (sym none) (no_pieces_are file);
+      owned = subst (λ ps. AllByRecursion (λ (p : Piece). list_any (has_by node_key p.node) c.nodes ≡ true) ps) (sym none) tt;
+      header = λ some. absurd (let e = subst (λ (o : Option ℕ). IsSome (option_map {U = Room} (λ k. record { capacity = k; used = used_of tree }) o)) plain some in cc);
+      settings = told.settings;
+      fits = record {
+        nodes = told.fits.nodes;
+        entries = told.fits.entries;
+        handles = told.fits.handles;
+        blocks = told.fits.blocks;
+        kept = subst (λ l. AllByRecursion KeepsRecord (map (under 0) l)) (sym told.answers) (kept_under answers told.keeps);
+        pieces = told.fits.pieces;
+        no_pieces = told.fits.no_pieces;
+      };
+    }

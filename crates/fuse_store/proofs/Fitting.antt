@@ -1,7 +1,7 @@
 -- The tables of a tree are within the bounds of a store.
 use Rattle.std.proofs.Common.{◌≡◌, ◌≤◌, ◌<◌, ◌^◌, ℕ, suc, List, [], ◌∷◌, map, filter, length, Bool, true, false, cond, Some, None, Option, option_map}
 use Rattle.std.proofs.Common.{refl, sym, ap, subst, arith, ◌∙◌}
-use Rattle.std.specs.Prelude.{IfSome}
+use Rattle.std.specs.Prelude.{IfSome, IsSome}
 use Rattle.std.specs.List.{AllByRecursion}
 use Rattle.sqlite.specs.Effect.{Database}
 use Rattle.fuse_init.specs.declared.profile.Profile.TheVariants.{Plain, Everyday}
@@ -12,8 +12,10 @@ use Rattle.fuse_tree.specs.State.{State, Node, Tree, IsNode, IsEntry, IsHandle, 
 use Rattle.fuse_tree.specs.Rowed.{rowed, full_of}
 use Rattle.fuse_store_tables.specs.Content.{Content, Counter, Kept, value_at, node_key, fh_of, cookie_of}
 use Rattle.fuse_store_tables.specs.Opening.{IsMetaFrom, MetaOf, profile_in, AllBelow, AreAbove, LotsAreBelow, IsFitContent, IsSecond}
+use Rattle.fuse_rows.specs.declared.rows.Room.{Room}
+use Rattle.fuse_store_tables.specs.Layout.{version_of}
 use Rattle.fuse_store_tree.specs.Fits.{KeepsRecord}
-use Rattle.fuse_store_tree.specs.Store.{FitsSettings, meta_rows_of, in_order, is_there, minor_of, readahead_of, flags_of}
+use Rattle.fuse_store_tree.specs.Store.{FitsSettings, layout_for, meta_rows_of, in_order, is_there, minor_of, readahead_of, flags_of}
 use Rattle.fuse_store_tree.specs.inner.Reading.{Describes}
 use Rattle.fuse_store_tree.specs.Holding.{Holding, HeldFor, AreBelow, TreesAreInOrder, store_of}
 
@@ -77,14 +79,15 @@ settings_low s fits = record {
   flags = flags_low (flags_of s.settings) fits.flags;
 }
 
--- its counters, where the state has this capacity
-abbrev pub counters_with : Option ℕ → State → ℕ → List Counter
-counters_with o s next = meta_rows_of (record (rowed s).counters { room = option_map (λ c. record { capacity = c; used = used_of s }) o }) (rowed s).settings next
+-- its counters, where the state has this capacity and the store this number
+abbrev pub counters_with : Option ℕ → State → ℕ → ℕ → List Counter
+counters_with o s next number =
+    meta_rows_of (record (rowed s).counters { room = option_map (λ c. record { capacity = c; used = used_of s }) o }) (rowed s).settings next number
 
-meta_plain : (s : State) → Tree s → length s.nodes ≤ 65536 → FitsSettings (rowed s).settings → (next : ℕ) → next ≤ 2 ^ 62
-    → IsMetaFrom Plain 1 11 (counters_with None s next)
+meta_plain : (s : State) → Tree s → length s.nodes ≤ 65536 → FitsSettings (rowed s).settings → (next number : ℕ) → next ≤ 2 ^ 62
+    → IsMetaFrom Plain 1 11 (counters_with None s next number)
 unfolding rowed
-meta_plain s tree few fits next below =
+meta_plain s tree few fits next number below =
     let low = settings_low s fits in
     let limits = tree.shape.limits in (
       refl,
@@ -108,16 +111,16 @@ meta_plain s tree few fits next below =
       ),
     )
 
-block_low : (n : ℕ) → n < 2 ^ 51 → n ≤ 2251799813685247
+pub block_low : (n : ℕ) → n < 2 ^ 51 → n ≤ 2251799813685247
 block_low n low = omega (arith, low)
 
-used_low : (used capacity : ℕ) → used ≤ capacity → capacity < 2 ^ 51 → used ≤ 2251799813685247
+pub used_low : (used capacity : ℕ) → used ≤ capacity → capacity < 2 ^ 51 → used ≤ 2251799813685247
 used_low used capacity less low = omega (arith, less, low)
 
-meta_everyday : (s : State) → Tree s → length s.nodes ≤ 1048576 → (k : ℕ) → FitsCapacity s k → FitsSettings (rowed s).settings → (next : ℕ) → next ≤ 2 ^ 62
-    → IsMetaFrom Everyday 1 14 (counters_with (Some k) s next)
+meta_everyday : (s : State) → Tree s → length s.nodes ≤ 1048576 → (k : ℕ) → FitsCapacity s k → FitsSettings (rowed s).settings → (next number : ℕ) → next ≤ 2 ^ 62
+    → number < 2 ^ 63 → IsMetaFrom Everyday 1 15 (counters_with (Some k) s next number)
 unfolding rowed
-meta_everyday s tree few k room fits next below =
+meta_everyday s tree few k room fits next number below low_number =
     let low = settings_low s fits in
     let limits = tree.shape.limits in (
       refl,
@@ -149,7 +152,7 @@ meta_everyday s tree few k room fits next below =
                       (
                         refl,
                         low.flags,
-                        (refl, below, (refl, omega arith, (refl, block_low k room.bounded, (refl, used_low (used_of s) k room.used room.bounded, tt)))),
+                        (refl, below, (refl, omega arith, (refl, block_low k room.bounded, (refl, used_low (used_of s) k room.used room.bounded, (refl, flags_low number low_number, tt))))),
                       ),
                     ),
                   ),
@@ -161,20 +164,25 @@ meta_everyday s tree few k room fits next below =
       ),
     )
 
-meta_of : (s : State) → Tree s → FitsSettings (rowed s).settings → (c : Content) (next : ℕ) → next ≤ 2 ^ 62 → (o : Option ℕ) → s.capacity ≡ o
-    → MetaOf (profile_for o) (record c { counters = counters_with o s next })
-meta_of s tree fits c next below None is =
-    (meta_plain s tree (subst (λ (o : Option ℕ). length s.nodes ≤ (terms (profile_for o)).node_limit) is tree.shape.limits.nodes) fits next below, tt)
-meta_of s tree fits c next below (Some k) is =
+-- the room of a state with this capacity
+abbrev pub room_with : Option ℕ → State → Option Room
+room_with o s = option_map (λ c. record { capacity = c; used = used_of s }) o
+
+meta_of : (s : State) → Tree s → FitsSettings (rowed s).settings → (c : Content) (next number : ℕ) → next ≤ 2 ^ 62 → (o : Option ℕ) → s.capacity ≡ o
+    → (IsSome o → number < 2 ^ 63)
+    → MetaOf (profile_for o) (record c { layout = layout_for (room_with o s); counters = counters_with o s next number })
+meta_of s tree fits c next number below None is low =
+    (meta_plain s tree (subst (λ (o : Option ℕ). length s.nodes ≤ (terms (profile_for o)).node_limit) is tree.shape.limits.nodes) fits next number below, tt)
+meta_of s tree fits c next number below (Some k) is low =
     let room : FitsCapacity s k = subst (λ (o : Option ℕ). IfSome o (FitsCapacity s)) is tree.shape.space in (
-      meta_everyday s tree (subst (λ (o : Option ℕ). length s.nodes ≤ (terms (profile_for o)).node_limit) is tree.shape.limits.nodes) k room fits next below,
+      meta_everyday s tree (subst (λ (o : Option ℕ). length s.nodes ≤ (terms (profile_for o)).node_limit) is tree.shape.limits.nodes) k room fits next number below (low refl),
       (refl, room.used),
     )
 
 -- the profile that the rows of `meta` say
-profile_with : (o : Option ℕ) (s : State) (c : Content) (next : ℕ) → profile_in (record c { counters = counters_with o s next }) ≡ profile_for o
-profile_with None s c next = refl
-profile_with (Some k) s c next = refl
+profile_with : (o : Option ℕ) (s : State) (c : Content) (next number : ℕ) → profile_in (record c { counters = counters_with o s next number }) ≡ profile_for o
+profile_with None s c next number = refl
+profile_with (Some k) s c next number = refl
 
 -- ---- the numbers of a tree are below its counters
 
@@ -206,32 +214,46 @@ above_for ordered s c tree has =
           (all_less (IsEntry s.nodes s.entries s.next_cookie) (λ e. e.cookie < s.next_cookie) s.entries (λ e is. is.below) tree.shape.entries));
     }
 
--- ---- what is held is a store of version 2
+-- ---- what is held is a store of its version
 
-errnos_fit : (ks : List Kept) → AllByRecursion KeepsRecord ks → AllByRecursion (λ (k : Kept). k.said.errno < 2 ^ 32) ks
+-- its tables describe this over a data file
+abbrev pub Told : Holding → List ℕ → Content → Type 0
+Told y = Describes (store_of y)
+
+pub errnos_fit : (ks : List Kept) → AllByRecursion KeepsRecord ks → AllByRecursion (λ (k : Kept). k.said.errno < 2 ^ 32) ks
 errnos_fit ks all = all_less KeepsRecord (λ (k : Kept). k.said.errno < 2 ^ 32) ks (λ k keeps. keeps.errno) all
 
-lots_for : (y : Holding) (c : Content) → AreBelow y.next_lot y.lots → Describes (store_of y) c → LotsAreBelow c
-lots_for y c below told =
+lots_for : (y : Holding) (file : List ℕ) (c : Content) → AreBelow y.next_lot y.lots → Told y file c → LotsAreBelow c
+lots_for y file c below told =
     subst (λ xs. AllBelow (λ lot. lot) (value_at 11 c) xs) (sym told.lots)
     (subst (λ n. AllBelow (λ lot. lot) n y.lots) (sym (ap (λ cs. value_at 11 (record c { counters = cs })) told.counters)) below)
 
-pub profile_is : (y : Holding) (c : Content) → Describes (store_of y) c → profile_in c ≡ profile_of y.tree
+pub profile_is : (y : Holding) (file : List ℕ) (c : Content) → Told y file c → profile_in c ≡ profile_of y.tree
 unfolding rowed
-profile_is y c told = ap (λ cs. profile_in (record c { counters = cs })) told.counters ∙ profile_with y.tree.capacity y.tree c y.next_lot
+profile_is y file c told =
+    ap (λ cs. profile_in (record c { counters = cs })) told.counters ∙ profile_with y.tree.capacity y.tree c y.next_lot told.number
 
-meta_for : (y : Holding) (c : Content) → Tree y.tree → y.next_lot ≤ 2 ^ 62 → Describes (store_of y) c → MetaOf (profile_in c) c
+meta_for : (y : Holding) (file : List ℕ) (c : Content) → Tree y.tree → y.next_lot ≤ 2 ^ 62 → Told y file c → MetaOf (profile_in c) c
 unfolding rowed
-meta_for y c tree next told =
-    subst (λ p. MetaOf p c) (sym (profile_is y c told))
+meta_for y file c tree next told =
+    subst (λ p. MetaOf p c) (sym (profile_is y file c told))
     (subst (λ cs. MetaOf (profile_of y.tree) (record c { counters = cs })) (sym told.counters)
-    (meta_of y.tree tree told.settings c y.next_lot next y.tree.capacity refl))
+    (subst (λ l. MetaOf (profile_of y.tree) (record c { layout = l; counters = counters_with y.tree.capacity y.tree y.next_lot told.number })) (sym told.layout)
+    (meta_of y.tree tree told.settings c y.next_lot told.number next y.tree.capacity refl (λ some. (told.header (there y.tree.capacity some)).1))))
+  where
+    there : (o : Option ℕ) → IsSome o → IsSome (room_with o y.tree)
+    there None none = none
+    there (Some k) some = refl
 
-pub fit_for : TreesAreInOrder → (y : Holding) (c : Content) → Tree y.tree → AreBelow y.next_lot y.lots → y.next_lot ≤ 2 ^ 62 → Describes (store_of y) c
+version_for : (y : Holding) (file : List ℕ) (c : Content) → Told y file c → value_at 1 c ≡ version_of c.layout
+version_for y file c told =
+    ap (λ cs. value_at 1 (record c { counters = cs })) told.counters ∙ ap version_of (sym told.layout)
+
+pub fit_for : TreesAreInOrder → (y : Holding) (file : List ℕ) (c : Content) → Tree y.tree → AreBelow y.next_lot y.lots → y.next_lot ≤ 2 ^ 62 → Told y file c
     → IsFitContent c
-fit_for ordered y c tree below next told = record {
-  version = ap (λ cs. value_at 1 (record c { counters = cs })) told.counters;
-  meta = meta_for y c tree next told;
+fit_for ordered y file c tree below next told = record {
+  version = version_for y file c told;
+  meta = meta_for y file c tree next told;
   above = above_for ordered y.tree c tree (record {
     next_node = ap (λ cs. value_at 2 (record c { counters = cs })) told.counters;
     next_fh = ap (λ cs. value_at 3 (record c { counters = cs })) told.counters;
@@ -240,11 +262,11 @@ fit_for ordered y c tree below next told = record {
     handles = told.handles;
     entries = told.entries;
   });
-  lots = lots_for y c below told;
+  lots = lots_for y file c below told;
   errnos = errnos_fit c.kept told.fits.kept;
-  few = subst (λ p. length c.nodes ≤ (terms p).node_limit) (sym (profile_is y c told))
+  few = subst (λ p. length c.nodes ≤ (terms p).node_limit) (sym (profile_is y file c told))
       (subst (λ n. n ≤ (terms (profile_of y.tree)).node_limit) (sym (ap length told.nodes ∙ nodes_length ordered y.tree tree)) tree.shape.limits.nodes);
 }
 
-pub second_for : TreesAreInOrder → (y : Holding) (d : Database) (at : HeldFor y d) → IsSecond at.held.0 d
-second_for ordered y d at = record { holds = at.held.1; fit = fit_for ordered y at.held.0 at.tree at.below at.next at.held.2 }
+pub second_for : TreesAreInOrder → (y : Holding) (file : List ℕ) (d : Database) (at : HeldFor file y d) → IsSecond at.held.0 d
+second_for ordered y file d at = record { holds = at.held.1; fit = fit_for ordered y file at.held.0 at.tree at.below at.next at.held.2 }

@@ -2,7 +2,6 @@
 use Rattle.std.proofs.Common.{◌≡◌, ◌++◌, ℕ, Bool, List, [], ◌∷◌, if◌then◌else◌, Option, Some, None, Result, Ok, Err, inl, inr}
 use Rattle.std.proofs.Common.{refl, sym, ap, subst, ◌∙◌}
 use Rattle.std.specs.Prelude.{true, false}
-use Rattle.sqlite.specs.State.{State}
 use Rattle.fuse_tree.specs.Rowed.{rowed}
 use Rattle.fuse_tree.specs.State.{Tree, profile_of}
 use Rattle.fuse_keeper.specs.Model.{IsOfGoodState}
@@ -16,53 +15,51 @@ use Rattle.fuse_keeper.specs.KeeperState.{Performs, ActsOn, KeepsOthers, KeepsLo
 use Rattle.fuse_keeper.specs.Lots.{Lots, SameLots, RecordsUnder, IsFree}
 use Rattle.fuse_init.specs.declared.profile.Profile.{Profile}
 use Rattle.fuse_tree.specs.Laws.{RowsTellState}
-use Rattle.sqlite.proofs.StateLemmas.{survives_weaker}
 use Rattle.fuse_store_tables.specs.Content.{LeftAs}
-use Rattle.fuse_store_tables.specs.Moves.{RestsAs, ServesAs}
 use Rattle.fuse_store_tree.specs.Store.{records_of}
-use Rattle.fuse_store_tree.specs.Holding.{Holding, ReportsAfter, lots_of}
+use Rattle.fuse_store_tree.specs.Holding.{Holding, HeldFor, lots_of}
 use Rattle.fuse_store_tree.specs.Group.{keeps_nothing, performed, all_dones, lot_after}
 use Rattle.fuse_store_tree.specs.declared.meta.Meta.{Meta}
-use Rattle.fuse_store_tree.specs.Knowing.{HeldForKnown, ReportsKnown}
+use Rattle.fuse_store_tree.specs.StoreState.{StoreState, IsAtRest, ServesStore, ReportsStore}
 use Rattle.fuse_store_tree.specs.Lots.{lots_in, LotsAreSame}
 use Rattle.fuse_store_tree.specs.Performing.{OneHolding, keeper_content_of, HoldingStands, CallsPerform}
 use Rattle.fuse_tree.specs.TheTree.{tree_of}
 use Rattle.fuse_store.specs.TableState.{IsOf, HoldsIn, table_told}
-use Rattle.fuse_store.proofs.Serving.{Settled, stands_on, moved, holds_at, known_rests, leaves_both, leaves_either}
+use Rattle.fuse_store.proofs.Serving.{LeavesMade, stands_on, moved, holds_at, leaves_both, leaves_either}
 
 pub its_own : (y : Holding) → IsOf y (rowed y.tree) (records_of y.kept)
 its_own y = record { rows_are = refl; records_are = λ i. refl }
 
 -- what a call makes of a group, what it answers, and which lot it has then, by the profile
-abbrev pub ServesGroup : {X : Type 0} → (m n : Option Meta) → (lot : Option ℕ) → (ids : List ℕ) → (es : List Entry) → (a b : State) → Result X StoreFault → Profile → Type 0
-ServesGroup m n lot ids es a b r p = ServesAs (HeldForKnown m) (λ y. HeldForKnown n (performed (tree_of p).service lot ids es y)) a b r
+abbrev pub ServesGroup : {X : Type 0} → (m n : Option Meta) → (lot : Option ℕ) → (ids : List ℕ) → (es : List Entry) → (a b : StoreState) → Result X StoreFault → Profile → Type 0
+ServesGroup m n lot ids es a b r p = ServesStore m n (performed (tree_of p).service lot ids es) a b r
 
-abbrev pub SaysGroup : (m : Option Meta) → (lot : Option ℕ) → (ids : List ℕ) → (es : List Entry) → (a b : State) → List Done → Profile → Type 0
-SaysGroup m lot ids es a b dones p = ReportsKnown m a b (λ y. dones ≡ all_dones (tree_of p).service lot ids es y)
+abbrev pub SaysGroup : (m : Option Meta) → (lot : Option ℕ) → (ids : List ℕ) → (es : List Entry) → (a b : StoreState) → List Done → Profile → Type 0
+SaysGroup m lot ids es a b dones p = ReportsStore m a b (λ y. dones ≡ all_dones (tree_of p).service lot ids es y)
 
-abbrev pub TakesLotFor : (lot : Option ℕ) → (ids : List ℕ) → (es : List Entry) → (a b : State) → Option ℕ → Profile → Type 0
-TakesLotFor lot ids es a b now p = ReportsAfter a b (λ y. now ≡ lot_after (tree_of p).service lot ids es y)
+abbrev pub TakesLotFor : (m : Option Meta) → (lot : Option ℕ) → (ids : List ℕ) → (es : List Entry) → (a b : StoreState) → Option ℕ → Profile → Type 0
+TakesLotFor m lot ids es a b now p = ReportsStore m a b (λ y. now ≡ lot_after (tree_of p).service lot ids es y)
 
 -- a group keeps the profile
 keeps_profile : (p : Profile) → CallsPerform p → (lot : Option ℕ) (ids : List ℕ) (es : List Entry) (y : Holding) → Tree y.tree → profile_of y.tree ≡ p
     → profile_of (performed (tree_of p).service lot ids es y).tree ≡ p
 keeps_profile p law lot ids es y tree own = (law.good lot ids es y (record { tree = tree; profile = own })).profile
 
-module _ (p : Profile) (one : OneHolding) (law : CallsPerform p) (m n : Option Meta) (lot : Option ℕ) (ids : List ℕ) (es : List Entry) (a b : State)
-    {X : Type 0} (x : X) (serves : ServesAs {E = StoreFault} (HeldForKnown m) (λ y. HeldForKnown n (performed (tree_of p).service lot ids es y)) a b (Ok x)) where
-  pub performs : (now : Option ℕ) (was is : Bool) (dones : List Done) → ReportsKnown m a b (λ y. dones ≡ all_dones (tree_of p).service lot ids es y)
+module _ (p : Profile) (one : OneHolding) (law : CallsPerform p) (m n : Option Meta) (lot : Option ℕ) (ids : List ℕ) (es : List Entry) (a b : StoreState)
+    {X : Type 0} (x : X) (serves : ServesStore {E = StoreFault} m n (performed (tree_of p).service lot ids es) a b (Ok x)) where
+  pub performs : (now : Option ℕ) (was is : Bool) (dones : List Done) → ReportsStore m a b (λ y. dones ≡ all_dones (tree_of p).service lot ids es y)
       → Performs (table_told p ⊥ m a lot was) (table_told p ⊥ n b now is) ids es dones
   performs now was is dones told clean s h t so within each =
       let y = so.held.holding in
       let z = performed (tree_of p).service lot ids es y in
-      let all = law.group lot ids es y s h t so.held.rests.holds.tree within each (stands_on p y so.rows so.records s h t so.held.is_of so.stands) in
-      let same : dones ≡ all_dones (tree_of p).service lot ids es y = told clean y (known_rests so.held) in
+      let all = law.group lot ids es y s h t so.held.rests.rests.holds.0.tree within each (stands_on p y so.rows so.records s h t so.held.is_of so.stands) in
+      let same : dones ≡ all_dones (tree_of p).service lot ids es y = told clean y so.held.rests in
       subst (λ ds. PerformedBy (tree_of p) (HoldsIn p n b) (record { state = s; history = h; settled = t }) es ds) (sym same) (record {
         stands = record {
           rows = all.stands.rows;
           records = all.stands.records;
           held = holds_at one n b z all.stands.rows all.stands.records
-              (keeps_profile p law lot ids es y so.held.rests.holds.tree so.held.profile) (serves.done clean y (known_rests so.held))
+              (keeps_profile p law lot ids es y so.held.rests.rests.holds.0.tree so.held.profile) (serves.done clean y so.held.rests)
               (record { rows_are = all.stands.held.0; records_are = all.stands.held.1 });
           stands = all.stands.stands;
         };
@@ -77,45 +74,45 @@ module _ (p : Profile) (one : OneHolding) (law : CallsPerform p) (m n : Option M
       let y = at.holding in
       let same = tell is_rowed.0 y.tree (sym is_rowed.2 ∙ at.is_of.rows_are) in
       let z = performed (tree_of p).service lot ids es y in
-      let after = serves.done clean y (known_rests at) in
+      let after = serves.done clean y at.rests in
       record {
         rows = rowed z.tree;
         records = records_of z.kept;
-        held = holds_at one n b z (rowed z.tree) (records_of z.kept) (keeps_profile p law lot ids es y at.rests.holds.tree at.profile) after
+        held = holds_at one n b z (rowed z.tree) (records_of z.kept) (keeps_profile p law lot ids es y at.rests.rests.holds.0.tree at.profile) after
             (its_own z);
         rowed = (z.tree, law.good lot ids es y (subst (tree_of p).IsGood same is_rowed.1), refl);
         others = λ i off. law.others lot ids es y i off ∙ ap (λ o. if is_in ids i then None else o) (sym (at.is_of.records_are i));
       }
 
-  pub acts_so : {memory : Type 0} (now : Option ℕ) (was is : Bool) (dones : List Done) → ReportsKnown m a b (λ y. dones ≡ all_dones (tree_of p).service lot ids es y)
+  pub acts_so : {memory : Type 0} (now : Option ℕ) (was is : Bool) (dones : List Done) → ReportsStore m a b (λ y. dones ≡ all_dones (tree_of p).service lot ids es y)
       → ActsOn (table_told p memory m a lot was) (table_told p memory n b now is) ids es dones
   acts_so now was is dones told clean rows records at rowed_so =
       let y = at.holding in
       let z = performed (tree_of p).service lot ids es y in
-      let same : dones ≡ all_dones (tree_of p).service lot ids es y = told clean y (known_rests at) in
+      let same : dones ≡ all_dones (tree_of p).service lot ids es y = told clean y at.rests in
       record {
         rows = rowed z.tree;
         records = records_of z.kept;
-        held = holds_at one n b z (rowed z.tree) (records_of z.kept) (keeps_profile p law lot ids es y at.rests.holds.tree at.profile)
-            (serves.done clean y (known_rests at)) (its_own z);
+        held = holds_at one n b z (rowed z.tree) (records_of z.kept) (keeps_profile p law lot ids es y at.rests.rests.holds.0.tree at.profile)
+            (serves.done clean y at.rests) (its_own z);
         taken = subst (λ ds. TakesAll (tree_of p) (record { rows = rows; records = without ids records }) es (keeper_content_of p z) ds) (sym same)
-            (law.acts lot ids es y rows records at.rests.holds.tree (at.is_of.rows_are, at.is_of.records_are));
+            (law.acts lot ids es y rows records at.rests.rests.holds.0.tree (at.is_of.rows_are, at.is_of.records_are));
       }
 
 -- a crash leaves the group out or in
-pub leaves_group : (p : Profile) → OneHolding → CallsPerform p → (m n : Option Meta) (lot : Option ℕ) (ids : List ℕ) (es : List Entry) (a b : State) {X : Type 0} (r : Result X StoreFault)
-    → Settled a → ServesAs (HeldForKnown m) (λ y. HeldForKnown n (performed (tree_of p).service lot ids es y)) a b r → (now : Option ℕ) (was is : Bool)
+pub leaves_group : (p : Profile) → OneHolding → CallsPerform p → (m n : Option Meta) (lot : Option ℕ) (ids : List ℕ) (es : List Entry) (a b : StoreState) {X : Type 0} (r : Result X StoreFault)
+    → ServesStore m n (performed (tree_of p).service lot ids es) a b r → (now : Option ℕ) (was is : Bool)
     → LeavesGroup (table_told p ⊥ m a lot was) (table_told p ⊥ n b now is) ids es
-leaves_group p one law m n lot ids es a b r settled serves now was is s h t so within each firm =
+leaves_group p one law m n lot ids es a b r serves now was is s h t so within each firm =
     let y = so.held.holding in
     let z = performed (tree_of p).service lot ids es y in
     let before : HoldingStands p y s h t = stands_on p y so.rows so.records s h t so.held.is_of so.stands in
-    let all = law.group lot ids es y s h t so.held.rests.holds.tree within each before in
+    let all = law.group lot ids es y s h t so.held.rests.rests.holds.0.tree within each before in
     let behind : HoldingStands p z s (grown h (kept_of (tree_of p).service es)) t =
     moved p all.stands.rows (rowed z.tree) all.stands.records (records_of z.kept) s (grown h (kept_of (tree_of p).service es)) t (sym all.stands.held.0) (λ i. sym (all.stands.held.1 i))
     all.stands.stands in
-    leaves_either one m n (performed (tree_of p).service lot ids es) a b settled serves.survives y (known_rests so.held) p so.held.profile
-    (keeps_profile p law lot ids es y so.held.rests.holds.tree so.held.profile) now is s s h (grown h (kept_of (tree_of p).service es)) t t before behind
+    leaves_either one m n (performed (tree_of p).service lot ids es) a b serves.crash y so.held.rests p so.held.profile
+    (keeps_profile p law lot ids es y so.held.rests.rests.holds.0.tree so.held.profile) now is s s h (grown h (kept_of (tree_of p).service es)) t t before behind
 
 -- what is held after entries that are taken may be named anew
 led_same : (p : Profile) (before : KeeperContent (tree_of p)) (es : List Entry) (old new : KeeperContent (tree_of p)) (dones : List Done)
@@ -126,18 +123,18 @@ led_same p before (e ∷ es) old new [] same all = absurd all
 led_same p before (e ∷ es) old new (d ∷ dones) same (mid, took, rest) = (mid, took, led_same p mid es old new dones same rest)
 
 -- a crash leaves what was held, or what the group leads to
-pub leaves_acted : (p : Profile) → OneHolding → CallsPerform p → (m n : Option Meta) (lot : Option ℕ) (ids : List ℕ) (es : List Entry) (a b : State) {X : Type 0} (r : Result X StoreFault)
-    → Settled a → ServesAs (HeldForKnown m) (λ y. HeldForKnown n (performed (tree_of p).service lot ids es y)) a b r → (now : Option ℕ) (was is : Bool)
+pub leaves_acted : (p : Profile) → OneHolding → CallsPerform p → (m n : Option Meta) (lot : Option ℕ) (ids : List ℕ) (es : List Entry) (a b : StoreState) {X : Type 0} (r : Result X StoreFault)
+    → ServesStore m n (performed (tree_of p).service lot ids es) a b r → (now : Option ℕ) (was is : Bool)
     → LeavesActed (table_told p ⊥ m a lot was) (table_told p ⊥ n b now is) ids es
-leaves_acted p one law m n lot ids es a b r settled serves now was is firm rows records at rowed_so =
+leaves_acted p one law m n lot ids es a b r serves now was is firm rows records at rowed_so =
     let y = at.holding in
     let z = performed (tree_of p).service lot ids es y in
     let dones = all_dones (tree_of p).service lot ids es y in
     let before : KeeperContent (tree_of p) = record { rows = rows; records = without ids records } in
     let taken : TakesAll (tree_of p) before es (keeper_content_of p z) dones =
-    law.acts lot ids es y rows records at.rests.holds.tree (at.is_of.rows_are, at.is_of.records_are) in
-    leaves_both one m n (performed (tree_of p).service lot ids es) a b settled serves.survives y (known_rests at) p at.profile
-    (keeps_profile p law lot ids es y at.rests.holds.tree at.profile) now is
+    law.acts lot ids es y rows records at.rests.rests.holds.0.tree (at.is_of.rows_are, at.is_of.records_are) in
+    leaves_both one m n (performed (tree_of p).service lot ids es) a b serves.crash y at.rests p at.profile
+    (keeps_profile p law lot ids es y at.rests.rests.holds.0.tree at.profile) now is
     (AreHeldOrTaken (tree_of p) (record { rows = rows; records = records }) ids es)
     (λ x q is_of. inl (is_of.rows_are ∙ sym at.is_of.rows_are, λ i. is_of.records_are i ∙ sym (at.is_of.records_are i)))
     (λ x q is_of. inr (dones, led_same p before es (keeper_content_of p z) (record { rows = x; records = q }) dones (is_of.rows_are, is_of.records_are) taken))
@@ -164,17 +161,17 @@ under_same old old' new new' records records' ids es o n r u = record {
   free_same i (inl none) = inl (sym (r i) ∙ none)
   free_same i (inr on) = inr on
 
-pub lots_so : (p : Profile) → LotsAreSame → CallsPerform p → (m n : Option Meta) (lot : Option ℕ) (ids : List ℕ) (es : List Entry) (a b : State) {X : Type 0} (x : X)
-    → ServesAs {E = StoreFault} (HeldForKnown m) (λ y. HeldForKnown n (performed (tree_of p).service lot ids es y)) a b (Ok x) → (now : Option ℕ) (was is : Bool)
-    → ReportsAfter a b (λ y. now ≡ lot_after (tree_of p).service lot ids es y) → KeepsLots (table_told p ⊥ m a lot was) (table_told p ⊥ n b now is) ids es
+pub lots_so : (p : Profile) → LotsAreSame → CallsPerform p → (m n : Option Meta) (lot : Option ℕ) (ids : List ℕ) (es : List Entry) (a b : StoreState) {X : Type 0} (x : X)
+    → ServesStore {E = StoreFault} m n (performed (tree_of p).service lot ids es) a b (Ok x) → (now : Option ℕ) (was is : Bool)
+    → ReportsStore m a b (λ y. now ≡ lot_after (tree_of p).service lot ids es y) → KeepsLots (table_told p ⊥ m a lot was) (table_told p ⊥ n b now is) ids es
 lots_so p told law m n lot ids es a b x serves now was is says clean rows records at rowed_so =
     let y = at.holding in
     let V = (tree_of p).service in
     let z = performed V lot ids es y in
     let same : now ≡ lot_after V lot ids es y = says clean y at.rests in
-    under_same (lots_of lot y) (lots_in lot a.now) (lots_of (lot_after V lot ids es y) z) (lots_in now b.now) (records_of y.kept) records ids (kept_of V es)
-    (told lot y a.now at.rests.holds) (subst (λ o. SameLots (lots_of o z) (lots_in now b.now)) same
-    (told now z b.now (serves.done clean y (known_rests at)).holds.0)) at.is_of.records_are (law.lots lot ids es y at.rests.holds.below)
+    under_same (lots_of lot y) (lots_in lot a.tables.now) (lots_of (lot_after V lot ids es y) z) (lots_in now b.tables.now) (records_of y.kept) records ids (kept_of V es)
+    (told lot a.contents.seen y a.tables.now at.rests.rests.holds.0) (subst (λ o. SameLots (lots_of o z) (lots_in now b.tables.now)) same
+    (told now b.contents.seen z b.tables.now (serves.done clean y at.rests).rests.holds.0)) at.is_of.records_are (law.lots lot ids es y at.rests.rests.holds.0.below)
 
 -- ---- where nothing is to be kept
 
@@ -188,18 +185,21 @@ nothing_for p q same es ids only =
     ap (λ r. keeps_nothing (kept_of (tree_of r).service es) ids) same ∙ nothing_is (kept_of (tree_of p).service es) ids only.0 only.1
 
 -- a call that makes nothing of what is held
-pub serves_still : {X : Type 0} (m n : Option Meta) (f : Holding → Holding) (a b : State) (x : X) → ((y : Holding) → f y ≡ y)
-    → ServesAs {E = StoreFault} (HeldForKnown m) (λ y. HeldForKnown n (f y)) a b (Ok x) → ServesAs {E = StoreFault} (HeldForKnown m) (HeldForKnown n) a b (Ok x)
+still_left : (m : Option Meta) (f : Holding → Holding) (a b : StoreState) → ((y : Holding) → f y ≡ y) → LeavesMade m f a b → LeavesMade m (λ y. y) a b
+still_left m f a b same crash clean y at db may file may_file = elim (crash clean y at db may file may_file) [
+  | inl old ↦ inl old
+  | inr new ↦ inr (subst (λ (z : Holding). LeftAs (HeldFor file z) db) (same y) new)
+]
+
+pub serves_still : {X : Type 0} (m n : Option Meta) (f : Holding → Holding) (a b : StoreState) (x : X) → ((y : Holding) → f y ≡ y)
+    → ServesStore {E = StoreFault} m n f a b (Ok x) → ServesStore {E = StoreFault} m n (λ y. y) a b (Ok x)
 serves_still m n f a b x same p = record {
-  survives = survives_weaker a b _ _ (λ _ db left y at. subst (λ (z : Holding). LeftAs (HeldForKnown n z) db) (same y) (left y at)) p.survives;
+  honest = p.honest;
+  crash = still_left m f a b same p.crash;
   kept = tt;
-  done = λ clean y at. subst (λ (z : Holding). RestsAs (HeldForKnown n z) b) (same y) (p.done clean y at);
+  done = λ clean y at. subst (λ (z : Holding). IsAtRest n z b) (same y) (p.done clean y at);
 }
 
-pub fails_still : {X : Type 0} (m n : Option Meta) (f : Holding → Holding) (a b : State) (e : StoreFault) → ((y : Holding) → f y ≡ y)
-    → ServesAs {X = X} (HeldForKnown m) (λ y. HeldForKnown n (f y)) a b (Err e) → ServesAs {X = X} (HeldForKnown m) (HeldForKnown n) a b (Err e)
-fails_still m n f a b e same p = record {
-  survives = survives_weaker a b _ _ (λ _ db left y at. subst (λ (z : Holding). LeftAs (HeldForKnown n z) db) (same y) (left y at)) p.survives;
-  kept = p.kept;
-  done = tt;
-}
+pub fails_still : {X : Type 0} (m n : Option Meta) (f : Holding → Holding) (a b : StoreState) (e : StoreFault) → ((y : Holding) → f y ≡ y)
+    → ServesStore {X = X} m n f a b (Err e) → ServesStore {X = X} m n (λ y. y) a b (Err e)
+fails_still m n f a b e same p = record { honest = p.honest; crash = still_left m f a b same p.crash; kept = p.kept; done = tt }

@@ -14,7 +14,11 @@ use Rattle.sqlite_value.proofs.OrderLemmas.{value_cmp-Int}
 use Rattle.fuse_rows.specs.Rows.{Rows}
 use Rattle.fuse_keeper.specs.History.{is_in}
 use Rattle.fuse_keeper.specs.Stands.{Records, CountsRecords}
-use Rattle.fuse_store_tables.specs.Content.{Kept, kept_key, kept_row, at_by, has_by}
+use Rattle.fuse_store_tables.specs.declared.version.Layout.{Layout}
+use Rattle.fuse_store_tables.specs.declared.version.Layout.TheVariants.{Second, Third}
+use Rattle.fuse_store_tables.specs.Layout as tables
+use Rattle.fuse_store_tables.specs.Layout.{schema_for}
+use Rattle.fuse_store_tables.specs.Content.{Content, Kept, Holds, HasRows, stored, kept_key, kept_row, at_by, has_by}
 use Rattle.fuse_store_tree.specs.Store.{records_of}
 use Rattle.fuse_store_tree.specs.Holding.{Holding, HeldFor}
 use Rattle.fuse_store.specs.TableState.{IsOf}
@@ -66,14 +70,22 @@ counted : (ks : List Kept) → length (map kept_key ks) ≡ length ks
 counted [] = refl
 counted (k ∷ ks) = ap suc (counted ks)
 
-pub counts_records : (y : Holding) (rows : Rows) (records : Records) (d : Database) → HeldFor y d → IsOf y rows records → (n : ℕ) → n ≡ length y.kept
+kept_table : (c : Content) (d : Database) → Holds c d → HasRows (stored c) d.trees tables.kept
+kept_table c d at = by c.layout at.rows
+  where
+    by : (layout : Layout) → AllByRecursion (HasRows (stored c) d.trees) (schema_for layout).tables → HasRows (stored c) d.trees tables.kept
+    by Second rows = rows.1.1.1.1.1.1.1.0
+    by Third rows = rows.1.1.1.1.1.1.0
+
+pub counts_records : (file : List ℕ) (y : Holding) (rows : Rows) (records : Records) (d : Database) → HeldFor file y d → IsOf y rows records → (n : ℕ) → n ≡ length y.kept
     → CountsRecords records n
-counts_records y rows records d at is n same =
+counts_records file y rows records d at is n same =
     let c = at.held.0 in
-    let stored : d.trees 10 ≡ map kept_row y.kept = at.held.1.rows.1.1.1.1.1.1.1.0.0 ∙ ap (map kept_row) at.held.2.kept in
+    let has = kept_table c d at.held.1 in
+    let rows_are : d.trees 10 ≡ map kept_row y.kept = has.0 ∙ ap (map kept_row) at.held.2.kept in
     record {
       ids = map kept_key y.kept;
       number = counted y.kept ∙ sym same;
-      once = distinct y.kept (subst IsTable stored at.held.1.rows.1.1.1.1.1.1.1.0.1);
+      once = distinct y.kept (subst IsTable rows_are has.1);
       all = λ i. all_there y.kept i ∙ ap is_some (sym (is.records_are i));
     }

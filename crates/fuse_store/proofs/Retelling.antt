@@ -6,7 +6,7 @@ use Rattle.sqlite.proofs.StateLemmas.{survives_weaker}
 use Rattle.fuse_keeper.specs.declared.fault.StoreFault.{StoreFault}
 use Rattle.fuse_store_tables.specs.Content.{LeftAs}
 use Rattle.fuse_store_tables.specs.Faults.{IsOutside}
-use Rattle.fuse_store_tables.specs.Moves.{RestsAs, ServesAs, IsSafe}
+use Rattle.fuse_store_tables.specs.Moves.{RestsAs, RollsBack, ServesAs, IsSafe}
 
 -- each database in the second words is one in the first, and what these make of it is one in the second
 pub record Retold {C D : Type 0} (P Q : C → Database → Type 0) (P' Q' : D → Database → Type 0) (z : D) (d : Database) : Type 0 where
@@ -109,3 +109,28 @@ module _ {C : Type 0} (P Q : C → Database → Type 0) (W : C → Type 0) (a b 
   pub sure_so : {X : Type 0} (r : Result X StoreFault) → IsSafe P a b r → HasCleanDisk b → IfErr r (λ f. (c : C) → W c → IsOutside f)
   sure_so (Ok x) p clean = tt
   sure_so (Err e) p clean = λ c w. p clean c (so c w)
+
+-- ---- where what was committed is seen
+
+pub kept_back : {C X E : Type 0} (P : C → Database → Type 0) (W : C → Type 0) (a b : State) → ((c : C) → W c → RestsAs (P c) a) → (HasCleanDisk b → b.in_transaction ≡ false)
+    → (r : Result X E) → OnErr r (RollsBack a b) → OnErr r (HasCleanDisk b → IsTrue b.is_open → (c : C) → W c → RestsAs (P c) b)
+kept_back P W a b so ended (Ok x) back = tt
+kept_back P W a b so ended (Err e) back = λ clean is_open c w.
+    let at = so c w in
+    let now = back clean is_open in
+    record {
+      is_open = is_open;
+      autocommit = ended clean;
+      holds = subst (P c) (sym (now.0 ∙ at.committed)) at.holds;
+      committed = now.1 ∙ sym now.0;
+    }
+
+-- two facts, one after the other
+pub curried : {C X E : Type 0} (A B Q : C → Type 0) (r : Result X E) → OnOk r ((c : C) → A c × B c → Q c) → OnOk r ((c : C) → A c → B c → Q c)
+curried A B Q (Ok x) so = λ c a b. so c (a, b)
+curried A B Q (Err e) so = tt
+
+pub curried_fault : {C X : Type 0} (A B : C → Type 0) (r : Result X StoreFault) → IfErr r (λ f. (c : C) → A c × B c → IsOutside f)
+    → IfErr r (λ f. (c : C) → A c → B c → IsOutside f)
+curried_fault A B (Ok x) so = tt
+curried_fault A B (Err e) so = λ c a b. so c (a, b)

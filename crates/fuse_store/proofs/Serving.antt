@@ -1,8 +1,7 @@
 -- What a call that is a whole transaction does to a keeper over tables.
 use Rattle.std.proofs.Common.{◌≡◌, ◌⊎◌, ℕ, Bool, List, Option, None, Result, Ok, Err, OnOk, OnErr, inl, inr, sym, ap, subst, ◌∙◌, IsTrue}
 use Rattle.sqlite.specs.Tree.{Trees}
-use Rattle.sqlite.specs.Effect.{Database}
-use Rattle.sqlite.specs.State.{State, HasCleanDisk, Survives}
+use Rattle.sqlite.specs.State.{State}
 use Rattle.fuse_tree.specs.State.{State as TreeState, profile_of}
 use Rattle.fuse_rows.specs.Rows.{Rows}
 use Rattle.fuse_tree.specs.Rowed.{rowed}
@@ -12,16 +11,16 @@ use Rattle.fuse_keeper.specs.KeeperState.{IsFirm, Leaves}
 use Rattle.fuse_keeper.specs.Lots.{Lots, SameLots}
 use Rattle.fuse_init.specs.declared.profile.Profile.{Profile}
 use Rattle.fuse_store_tables.specs.Content.{LeftAs}
-use Rattle.fuse_store_tables.specs.Moves.{RestsAs, ServesAs}
 use Rattle.fuse_store_tree.specs.Store.{records_of}
 use Rattle.fuse_store_tree.specs.Holding.{Holding, HeldFor}
 use Rattle.fuse_store_tree.specs.declared.meta.Meta.{Meta}
-use Rattle.fuse_store_tree.specs.Knowing.{Knows, HeldForKnown}
+use Rattle.fuse_store_tree.specs.Knowing.{Knows}
 use Rattle.fuse_store_tree.specs.Performing.{OneHolding, HoldingStands}
-use Rattle.fuse_keeper.specs.declared.fault.StoreFault.{StoreFault}
-use Rattle.sqlite.proofs.StateLemmas.{survives_weaker}
+use Rattle.fuse_store_tree.specs.StoreState.{StoreState, IsHonest, IsUsable, IsAtRest, LeavesEither, ServesStore}
 use Rattle.fuse_tree.specs.TheTree.{tree_of}
 use Rattle.fuse_store.specs.TableState.{IsOf, HoldsIn, LeavesSome, table_told}
+use Rattle.fuse_store.specs.Opening.Stored.{Second}
+use Rattle.fuse_store.specs.inner.Leaving.{stored_left}
 
 -- while the connection is open, a crash leaves what was committed
 abbrev pub Settled : State → Type 0
@@ -29,61 +28,35 @@ Settled s = (db : Trees) → IsTrue s.is_open → s.may_leave db → db ≡ s.co
 
 -- ---- one thing
 
-same_database : (a b : Database) → a.schema ≡ b.schema → a.trees ≡ b.trees → a ≡ b
-same_database a b schema trees = ap (λ s. record a { schema = s }) schema ∙ ap (λ t. record b { trees = t }) trees
+pub one_left : OneHolding → (file : List ℕ) (x y : Holding) (db : Trees) → LeftAs (HeldFor file x) db → LeftAs (HeldFor file y) db → x ≡ y
+one_left one file x y db (d, held, is) (e, kept, are) = one file x y d held (stored_left file (Second y) d held.held.1.sound (e, kept, are ∙ sym is))
 
-pub one_left : OneHolding → (x y : Holding) (db : Trees) → LeftAs (HeldFor x) db → LeftAs (HeldFor y) db → x ≡ y
-one_left one x y db (d, held, is) (e, kept, are) =
-    one x y d held (subst (HeldFor y) (same_database e d (kept.held.1.schema ∙ sym held.held.1.schema) (are ∙ sym is)) kept)
+-- where what is known now is right of what was held
+abbrev pub KnowsStill : Option Meta → Option Meta → Type 0
+KnowsStill m n = (y : Holding) → Knows m (rowed y.tree) → Knows n (rowed y.tree)
 
-pub rests_for : (m : Option Meta) (y : Holding) (s : State) → RestsAs (HeldForKnown m y) s → RestsAs (HeldFor y) s
-rests_for m y s at = record { is_open = at.is_open; autocommit = at.autocommit; holds = at.holds.0; committed = at.committed }
-
--- what is held, with what is known
-pub known_rests : {p : Profile} {m : Option Meta} {s : State} {rows : Rows} {records : Records} → (at : HoldsIn p m s rows records) → RestsAs (HeldForKnown m at.holding) s
-known_rests at = record {
-  is_open = at.rests.is_open;
-  autocommit = at.rests.autocommit;
-  holds = (at.rests.holds, at.knows);
-  committed = at.rests.committed;
+pub knowing_so : (m n : Option Meta) (y : Holding) (s : StoreState) → (Knows m (rowed y.tree) → Knows n (rowed y.tree)) → IsAtRest m y s → IsAtRest n y s
+knowing_so m n y s knows at = record {
+  rests = record {
+    is_open = at.rests.is_open;
+    autocommit = at.rests.autocommit;
+    holds = (at.rests.holds.0, knows at.rests.holds.1);
+    committed = at.rests.committed;
+  };
+  usable = at.usable;
+  in_use = at.in_use;
+  synced = at.synced;
 }
 
-pub holds_at : {p : Profile} → OneHolding → (m : Option Meta) (s : State) (y : Holding) (rows : Rows) (records : Records) → profile_of y.tree ≡ p
-    → RestsAs (HeldForKnown m y) s → IsOf y rows records → HoldsIn p m s rows records
+pub holds_at : {p : Profile} → OneHolding → (m : Option Meta) (s : StoreState) (y : Holding) (rows : Rows) (records : Records) → profile_of y.tree ≡ p
+    → IsAtRest m y s → IsOf y rows records → HoldsIn p m s rows records
 holds_at one m s y rows records own rests is = record {
   holding = y;
-  rests = rests_for m y s rests;
-  alone = λ z held. one z y s.now held rests.holds.0;
+  rests = rests;
+  alone = λ z held. one s.contents.seen z y s.tables.now held rests.rests.holds.0;
   is_of = is;
-  knows = rests.holds.1;
   profile = own;
 }
-
--- where nothing is known, nothing is asked of it
-pub rests_unknown : (y : Holding) (s : State) → RestsAs (HeldFor y) s → RestsAs (HeldForKnown None y) s
-rests_unknown y s at = record { is_open = at.is_open; autocommit = at.autocommit; holds = (at.holds, tt); committed = at.committed }
-
--- a call that keeps what is known right
-pub serves_known : {X : Type 0} (m n : Option Meta) (f : Holding → Holding) (a b : State) (r : Result X StoreFault)
-    → ((y : Holding) → Knows m (rowed y.tree) → Knows n (rowed (f y).tree)) → ServesAs HeldFor (λ y. HeldFor (f y)) a b r
-    → ServesAs (HeldForKnown m) (λ y. HeldForKnown n (f y)) a b r
-serves_known {X = X} m n f a b r knows p = record {
-  survives = survives_weaker a b _ _ (λ _ db left y at. let (d, held, is) = left y (rests_for m y a at) in (d, (held, knows y at.holds.1), is)) p.survives;
-  kept = kept_so r p.kept;
-  done = done_so r p.done;
-} where
-  with_known : (o : Option Meta) (z : Holding) → RestsAs (HeldFor z) b → Knows o (rowed z.tree) → RestsAs (HeldForKnown o z) b
-  with_known o z at k = record { is_open = at.is_open; autocommit = at.autocommit; holds = (at.holds, k); committed = at.committed }
-
-  kept_so : (q : Result X StoreFault) → OnErr q (HasCleanDisk b → IsTrue b.is_open → (c : Holding) → RestsAs (HeldFor c) a → RestsAs (HeldFor c) b)
-      → OnErr q (HasCleanDisk b → IsTrue b.is_open → (c : Holding) → RestsAs (HeldForKnown m c) a → RestsAs (HeldForKnown m c) b)
-  kept_so (Ok x) kept = tt
-  kept_so (Err e) kept = λ clean is_open y at. with_known m y (kept clean is_open y (rests_for m y a at)) at.holds.1
-
-  done_so : (q : Result X StoreFault) → OnOk q (HasCleanDisk b → (c : Holding) → RestsAs (HeldFor c) a → RestsAs (HeldFor (f c)) b)
-      → OnOk q (HasCleanDisk b → (c : Holding) → RestsAs (HeldForKnown m c) a → RestsAs (HeldForKnown n (f c)) b)
-  done_so (Ok x) done = λ clean y at. with_known n (f y) (done clean y (rests_for m y a at)) (knows y at.holds.1)
-  done_so (Err e) done = tt
 
 -- ---- what stands for a history
 
@@ -108,39 +81,45 @@ stands_of p y rows records s h t is so = moved p (rowed y.tree) rows (records_of
 
 -- ---- what a crash leaves
 
+-- the same is held over what a crash leaves of the data file
+pub lasts : (m : Option Meta) (y : Holding) (s : StoreState) → IsAtRest m y s → (file : List ℕ) → s.contents.may_leave file → HeldFor file y s.tables.now
+lasts m y s at file may = subst (λ f. HeldFor f y s.tables.now) (sym (at.synced file may)) at.rests.holds.0
+
 -- of a store at rest, just what it holds
-pub left_now : (s : State) (y : Holding) (db : Trees) → Settled s → RestsAs (HeldFor y) s → s.may_leave db → LeftAs (HeldFor y) db
-left_now s y db settled rests may = (s.now, rests.holds, sym (settled db rests.is_open may ∙ ap (λ d. d.trees) rests.committed))
+pub left_now : (m : Option Meta) (s : StoreState) (y : Holding) (db : Trees) (file : List ℕ) → Settled s.tables → IsAtRest m y s → s.tables.may_leave db
+    → s.contents.may_leave file → LeftAs (HeldFor file y) db
+left_now m s y db file settled at may may_file =
+    (s.tables.now, lasts m y s at file may_file, sym (settled db at.rests.is_open may ∙ ap (λ d. d.trees) at.rests.committed))
 
 -- what holds without a condition holds under one
 pub under_any : {X E : Type 0} (A B C : Type 0) (r : Result X E) → OnOk r (A → B) → OnOk r (A → C → B)
 under_any A B C (Ok x) so = λ a c. so a
 under_any A B C (Err e) so = tt
 
-pub firm : (p : Profile) → OneHolding → (m : Option Meta) (s : State) (lot : Option ℕ) (failed : Bool) → Settled s → IsFirm (table_told p ⊥ m s lot failed)
+pub firm : (p : Profile) → OneHolding → (m : Option Meta) (s : StoreState) (lot : Option ℕ) (failed : Bool) → Settled s.tables
+    → IsFirm (table_told p ⊥ m s lot failed)
 firm p one m s lot failed settled rows records at = (
-  λ clean db may. record { holding = at.holding; left = left_now s at.holding db settled at.rests may; profile = at.profile },
+  λ clean db may file may_file.
+      record { holding = at.holding; left = left_now m s at.holding db file settled at.rests may may_file; profile = at.profile },
   λ x r left.
       let z = left.these.some.holding in
-      let same : z ≡ at.holding = one_left one z at.holding left.trees left.these.some.left
-      (left_now s at.holding left.trees settled at.rests left.may) in (
+      let same : z ≡ at.holding = one_left one left.file z at.holding left.trees left.these.some.left
+      (left_now m s at.holding left.trees left.file settled at.rests left.may left.may_file) in (
         left.these.is_of.rows_are ∙ ap (λ y. rowed y.tree) same ∙ sym at.is_of.rows_are,
         λ i. left.these.is_of.records_are i ∙ ap (λ y. records_of y.kept i) same ∙ sym (at.is_of.records_are i),
       ),
 )
 
--- a call over what is held leaves that, or what it makes of it
-module _ (one : OneHolding) (m n : Option Meta) (f : Holding → Holding) (a b : State) (settled : Settled a)
-    (survives : Survives a b (λ db. (c : Holding) → RestsAs (HeldForKnown m c) a → LeftAs (HeldForKnown n (f c)) db)) (y : Holding)
-    (rests : RestsAs (HeldForKnown m y) a) where
-  pub left_either : HasCleanDisk b → (db : Trees) → b.may_leave db → LeftAs (HeldFor y) db ⊎ LeftAs (HeldFor (f y)) db
-  left_either clean db may = elim (survives.crash clean db may) [
-    | inl before ↦ inl (left_now a y db settled (rests_for m y a rests) before)
-    | inr made ↦ inr (let (d, held, is) = made y rests in (d, held.0, is))
-  ]
+-- what a crash leaves after a call
+abbrev pub LeavesMade : Option Meta → (Holding → Holding) → StoreState → StoreState → Type 0
+LeavesMade m f a b = IsHonest b → (y : Holding) → IsAtRest m y a → (db : Trees) → b.tables.may_leave db → (file : List ℕ) → b.contents.may_leave file
+    → LeavesEither f y db file
 
-  whole : (p : Profile) → profile_of y.tree ≡ p → profile_of (f y).tree ≡ p → HasCleanDisk b → (db : Trees) → b.may_leave db → LeavesSome p db
-  whole p own made_own clean db may = elim (left_either clean db may) [
+-- a call over what is held leaves that, or what it makes of it
+module _ (one : OneHolding) (m n : Option Meta) (f : Holding → Holding) (a b : StoreState) (crash : LeavesMade m f a b) (y : Holding) (rests : IsAtRest m y a) where
+  whole : (p : Profile) → profile_of y.tree ≡ p → profile_of (f y).tree ≡ p → IsHonest b → (db : Trees) → b.tables.may_leave db → (file : List ℕ)
+      → b.contents.may_leave file → LeavesSome p db file
+  whole p own made_own clean db may file may_file = elim (crash clean y rests db may file may_file) [
     | inl old ↦ record { holding = y; left = old; profile = own }
     | inr new ↦ record { holding = f y; left = new; profile = made_own }
   ]
@@ -152,9 +131,9 @@ module _ (one : OneHolding) (m n : Option Meta) (f : Holding → Holding) (a b :
     whole p own made_own,
     λ x r left.
         let z = left.these.some.holding in
-        elim (left_either left.clean left.trees left.may) [
-          | inl old ↦ before x r (subst (λ w. IsOf w x r) (one_left one z y left.trees left.these.some.left old) left.these.is_of)
-          | inr new ↦ after x r (subst (λ w. IsOf w x r) (one_left one z (f y) left.trees left.these.some.left new) left.these.is_of)
+        elim (crash left.clean y rests left.trees left.may left.file left.may_file) [
+          | inl old ↦ before x r (subst (λ w. IsOf w x r) (one_left one left.file z y left.trees left.these.some.left old) left.these.is_of)
+          | inr new ↦ after x r (subst (λ w. IsOf w x r) (one_left one left.file z (f y) left.trees left.these.some.left new) left.these.is_of)
         ],
   )
 
@@ -168,18 +147,11 @@ module _ (one : OneHolding) (m n : Option Meta) (f : Holding → Holding) (a b :
 
 -- ---- what is held after a call
 
-pub kept_held : {p : Profile} {X E : Type 0} → OneHolding → (m n : Option Meta) (f : Holding → Holding) (a b : State) (e : E) (rows : Rows) (records : Records)
-    → ((y : Holding) → Knows m (rowed y.tree) → Knows n (rowed y.tree)) → ServesAs {X = X} (HeldForKnown m) (λ y. HeldForKnown n (f y)) a b (Err e)
-    → HasCleanDisk b → IsTrue b.is_open → HoldsIn p m a rows records → HoldsIn p n b rows records
-kept_held one m n f a b e rows records knows p clean is_open at =
+pub kept_held : {p : Profile} {X E : Type 0} → OneHolding → (m n : Option Meta) (f : Holding → Holding) (a b : StoreState) (e : E) (rows : Rows) (records : Records)
+    → KnowsStill m n → ServesStore {X = X} m n f a b (Err e) → IsHonest b → IsUsable b → HoldsIn p m a rows records → HoldsIn p n b rows records
+kept_held one m n f a b e rows records knows serves clean usable at =
     let y = at.holding in
-    let now = p.kept clean is_open y (known_rests at) in
-    holds_at one n b y rows records at.profile (record {
-      is_open = now.is_open;
-      autocommit = now.autocommit;
-      holds = (now.holds.0, knows y at.knows);
-      committed = now.committed;
-    }) at.is_of
+    holds_at one n b y rows records at.profile (knowing_so m n y b (knows y) (serves.kept clean usable y at.rests)) at.is_of
 
 -- ---- lots
 
@@ -189,3 +161,13 @@ same_both x a b p q = record {
   current = q.current ∙ sym p.current;
   under = λ i. q.under i ∙ sym (p.under i);
 }
+
+-- ---- of another value
+
+pub serves_ok : {X Y E : Type 0} (m n : Option Meta) (f : Holding → Holding) (a b : StoreState) (x : X) (y : Y) → ServesStore {E = E} m n f a b (Ok x)
+    → ServesStore {E = E} m n f a b (Ok y)
+serves_ok m n f a b x y serves = record { honest = serves.honest; crash = serves.crash; kept = tt; done = serves.done }
+
+pub serves_err : {X Y E : Type 0} (m n : Option Meta) (f : Holding → Holding) (a b : StoreState) (e : E) → ServesStore {X = X} m n f a b (Err e)
+    → ServesStore {X = Y} m n f a b (Err e)
+serves_err m n f a b e serves = record { honest = serves.honest; crash = serves.crash; kept = serves.kept; done = tt }

@@ -6,4 +6,5 @@ pub mod TableKeeper
 pub mod StoreKeeper
 pub mod Starting
 pub mod Storing
+pub mod SecondVersion
 pub mod inner

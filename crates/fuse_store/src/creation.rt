@@ -1,33 +1,47 @@
 // A new store.
-ghost use Rattle.std.specs.Prelude.{◌≡◌, ◌<◌, ◌^◌, ◌↔◌, true, false, IsTrue, IfErr, IfSome, IsErrAnd, OnOk};
+ghost use Rattle.std.specs.Prelude.{◌≡◌, ◌<◌, ◌^◌, ◌↔◌, ℕ, List, true, false, IsTrue, IfErr, IfSome};
+ghost use Rattle.std.specs.Prelude.{IsErrAnd, OnOk};
 ghost use Rattle.sqlite.specs.State.{HasCleanDisk, Survives};
 ghost use Rattle.sqlite.specs.Held.{state};
-ghost use Rattle.fuse_tree.specs.State.{capacity_for};
 ghost use Rattle.fuse_store_tables.specs.Content.{HasWidths};
 ghost use Rattle.fuse_store_tables.specs.Faults.{IsOutside};
 ghost use Rattle.fuse_store_tables.specs.Layout.{no_schema};
-ghost use Rattle.fuse_store_tables.specs.Making.{IsBare, root};
+ghost use Rattle.fuse_store_tables.specs.declared.version.Layout.{Layout};
+ghost use Rattle.fuse_store_tables.specs.Making.{IsBare, IsVolume, root};
 ghost use Rattle.fuse_store_tables.specs.Moves.{RestsAs, ServesAs, LeavesAlone};
 ghost use Rattle.fuse_store_tables.specs.Refusing.{HasMetaTable};
+ghost use Rattle.fuse_data.specs.declared.gaps.Gap.{Gap};
 ghost use Rattle.fuse_store_tree.specs.Holding.{HeldFor};
-ghost use Rattle.fuse_store.specs.Creating.{new_holding, IsBlank, LeavesNew, IsTakenFault};
+ghost use Rattle.fuse_store_tree.specs.Leaving.{ListsInUse};
+ghost use Rattle.fuse_store.specs.Creating.{IsBlank, IsDataOf, IsTakenFault, LeavesNewTables};
+ghost use Rattle.fuse_store.specs.Creating.{new_holding, volume_for};
+ghost use Rattle.fuse_store.specs.Opening.{Stored, WasOver};
 
 use fuse_init::Profile;
 use fuse_keeper::StoreFault;
 use fuse_plan::new_store_is_tree;
 use fuse_rows::Origin;
-use fuse_store_tables::{is_empty, make_store, try_store};
+use fuse_store_tables::{Volume, is_empty, make_store, try_store};
 use sqlite::{Alter, Connection, Error};
 
-// The blocks that a store of this profile has room for, where it has a bound.
-fn room_for(profile: Profile, capacity: u64) -> Option<u64>
-    requires { capacity < 2 ^ 51 }
-    ensures is { result ≡ capacity_for profile capacity }
-    ensures low { IfSome result (λ c. c < 2 ^ 51) }
+/// Whether a database is blank.
+pub(crate) fn is_blank<S: Alter>(conn: &Connection<S>) -> bool
+    ensures blank { IsTrue result ↔ IsBlank (state S.Store conn.now) }
+    ensures none { IsTrue result → (file : List ℕ) (z : Stored)
+        → WasOver file z (state S.Store conn.now) → ⊥ }
+{
+    conn.is_autocommit() && is_empty(conn.schema())
+}
+
+// How a store of this profile is made: a plain one has no bound and no number.
+fn volume_for(profile: Profile, volume: Volume) -> Option<Volume>
+    requires { IsVolume volume }
+    ensures is { result ≡ volume_for profile volume }
+    ensures low { IfSome result IsVolume }
 {
     match profile {
         Profile::Plain => None,
-        Profile::Everyday => Some(capacity),
+        Profile::Everyday => Some(volume),
     }
 }
 
@@ -47,7 +61,7 @@ fn narrow(number: u32)
 
 // The columns of the root are of their widths.
 fn law_of_root(from: Origin)
-    ensures { HasWidths (root from) }
+    ensures { (layout : Layout) → HasWidths (root layout from) }
 {
     narrow(from.owner.uid);
     narrow(from.owner.gid);
@@ -70,25 +84,49 @@ fn refuse_store<S: Alter>(conn: &mut Connection<S>, from: Origin) -> StoreFault
     }
 }
 
+/// The fault of a new store in a database that is not blank, which is left as it was.
+pub(crate) fn refuse_new<S: Alter>(conn: &mut Connection<S>, from: Origin) -> StoreFault
+    ensures outside { IsOutside result }
+    ensures alone { (state S.Store conn.old).in_transaction ≡ false
+        → LeavesAlone (state S.Store conn.old) (state S.Store conn.new) }
+    ensures busy { (state S.Store conn.old).in_transaction ≡ true → conn.new ≡ conn.old }
+    ensures taken { HasCleanDisk (state S.Store conn.new)
+        → (state S.Store conn.old).in_transaction ≡ false
+        → HasMetaTable (state S.Store conn.old).now.schema → IsTakenFault result }
+{
+    if !conn.is_autocommit() {
+        return StoreFault::Sql(Error::InvalidQuery);
+    }
+    refuse_store(conn, from)
+}
+
 /// Makes a new store of this origin in a blank database. The commit is its last call of the
 /// database.
 pub(crate) fn make_for<S: Alter>(
     conn: &mut Connection<S>,
     profile: Profile,
-    capacity: u64,
+    volume: Volume,
     from: Origin,
 ) -> Result<(), StoreFault>
-    requires { capacity < 2 ^ 51 }
-    ensures serves { ServesAs (IsBare no_schema) (λ _. HeldFor (new_holding profile capacity from))
+    requires { IsVolume volume }
+    // Over the data file of the store, where it has one.
+    ensures serves { (file : List ℕ) → IsDataOf profile volume.number file
+        → ServesAs (IsBare no_schema) (λ _. HeldFor file (new_holding profile volume.capacity from))
         (state S.Store conn.old) (state S.Store conn.new) result }
     ensures blank { OnOk result (IsBlank (state S.Store conn.old)) }
     ensures was { HasCleanDisk (state S.Store conn.new)
         → OnOk result (IsTrue (state S.Store conn.old).is_open) }
     ensures done { HasCleanDisk (state S.Store conn.new) → OnOk result
-        (IsTrue (state S.Store conn.old).is_open
-        → RestsAs (HeldFor (new_holding profile capacity from)) (state S.Store conn.new)) }
+        (IsTrue (state S.Store conn.old).is_open → (file : List ℕ)
+        → IsDataOf profile volume.number file
+        → RestsAs (HeldFor file (new_holding profile volume.capacity from))
+        (state S.Store conn.new)) }
+    // It lists no piece.
+    ensures lists { HasCleanDisk (state S.Store conn.new) → OnOk result
+        (IsTrue (state S.Store conn.old).is_open → (gaps : List Gap)
+        → ListsInUse gaps (state S.Store conn.new).now) }
     ensures crash { Survives (state S.Store conn.old) (state S.Store conn.new)
-        (LeavesNew profile capacity from (state S.Store conn.old)) }
+        (LeavesNewTables profile volume from (state S.Store conn.old)) }
     // The fault is out of memory or of SQL.
     ensures outside { IfErr result IsOutside }
     ensures ended { HasCleanDisk (state S.Store conn.new)
@@ -113,5 +151,5 @@ pub(crate) fn make_for<S: Alter>(
     if !is_empty(conn.schema()) {
         return Err(refuse_store(conn, from));
     }
-    make_store(conn, room_for(profile, capacity), from)
+    make_store(conn, volume_for(profile, volume), from)
 }

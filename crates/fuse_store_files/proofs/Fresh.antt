@@ -1,5 +1,5 @@
 -- Files that were just opened.
-use Rattle.std.proofs.Common.{◌≡◌, ℕ, Bool, List, [], ◌∷◌, Option, Some, None, IfSome, ap, subst, inl, inr}
+use Rattle.std.proofs.Common.{◌≡◌, ℕ, Bool, List, [], ◌∷◌, Option, Some, None, IfSome, option_map, refl, sym, ap, subst, inl, inr, ◌∙◌}
 use Rattle.sqlite_disk.specs.Events.{Event, replay, settled}
 use Rattle.sqlite_disk.specs.History.{MayLeave}
 
@@ -17,3 +17,16 @@ fresh_alone mixes start key events c fresh may =
 pub some_weaker : {X : Type 0} (o : Option X) (P Q : X → Type 0) → ((x : X) → P x → Q x) → IfSome o P → IfSome o Q
 some_weaker None P Q f it = tt
 some_weaker (Some x) P Q f it = f x it
+
+-- what is known of a value is known of what was made of it
+mapped : {X Y : Type 0} (o : Option X) (f : X → Y) (P : X → Type 0) (Q : Y → Type 0) → ((x : X) → P x → Q (f x)) → IfSome o P → IfSome (option_map f o) Q
+mapped None f P Q more it = tt
+mapped (Some x) f P Q more it = more x it
+
+pub some_made : {X Y : Type 0} (o : Option X) (f : X → Y) (P : X → Type 0) (Q : Y → Type 0) → ((x : X) → P x → Q (f x)) → (made : Option Y) → made ≡ option_map f o
+    → IfSome o P → IfSome made Q
+some_made o f P Q more made is it = subst (λ m. IfSome m Q) (sym is) (mapped o f P Q more it)
+
+pub none_made : {X Y : Type 0} (o : Option X) (f : X → Y) (made : Option Y) → made ≡ option_map f o → made ≡ None → o ≡ None
+none_made None f made is none = refl
+none_made (Some x) f made is none = let e : Some (f x) ≡ None = sym is ∙ none in absurd (cc)

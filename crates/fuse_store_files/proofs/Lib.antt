@@ -1,3 +1,4 @@
+pub mod Beside
 pub mod Closed
 pub mod Crashed
 pub mod Finding
@@ -5,3 +6,4 @@ pub mod Found
 pub mod Fresh
 pub mod Nothing
 pub mod Opened
+pub mod Plain

@@ -1,4 +1,4 @@
--- Files that hold any database, a store or not (defined by this project).
+-- Files that hold any database, a store or not: the database file and its log (defined by this project).
 use Rattle.std.specs.Prelude.{◌≡◌, ◌⊎◌, ⊤}
 use Rattle.sqlite_disk.specs.declared.Disk.{Ghosts}
 use Rattle.sqlite_wal.specs.Recovery.{Image}
@@ -22,28 +22,34 @@ use Rattle.fuse_store_tables.specs.Saying.{Says, IsTabled, IsToMigrate}
 use Rattle.fuse_store_files.specs.declared.files.Opening.{Opening}
 use Rattle.fuse_store_files.specs.declared.files.Opening.TheVariants.{Existing, Any, Fresh}
 use Rattle.fuse_store_files.specs.Files.{HoldNothing, AreTheirs}
-use Rattle.fuse_store_files.specs.Left.{LeavesAsFound, StaysAsFound}
+use Rattle.fuse_store_files.specs.Left.{TablesAsFound, StaysAsFound}
 
 -- the files hold this database
 pub record FilesHave (image : Image) (d : Database) : Type 0 where
   pub sound : IsDatabase d
   pub held : ∥ HoldsDatabase image d.trees ∥₁
 
+-- only a store that is there is opened
+abbrev pub IsExisting : Opening → Type 0
+IsExisting (Existing n) = ⊤
+IsExisting (Any new) = ⊥
+IsExisting (Fresh new) = ⊥
+
 -- it is opened, and no new store is made in it
 abbrev pub IsToOpen : Opening → Database → Type 0
-IsToOpen Existing d = ⊤
+IsToOpen (Existing n) d = ⊤
 IsToOpen (Any new) d = ¬ (d.schema ≡ no_schema)
 IsToOpen (Fresh new) d = ¬ (d.schema ≡ no_schema)
 
 -- where there is nothing, a new store is made
 abbrev pub IsToMake : Opening → Type 0
-IsToMake Existing = ⊥
+IsToMake (Existing n) = ⊥
 IsToMake (Any new) = ⊤
 IsToMake (Fresh new) = ⊤
 
 -- only such a database is changed by the opening
 abbrev pub IsToChange : Opening → Database → Type 0
-IsToChange Existing d = IsToMigrate d
+IsToChange (Existing n) d = IsToMigrate d
 IsToChange (Any new) d = IsToMigrate d
 IsToChange (Fresh new) d = IsTabled d
 
@@ -74,7 +80,7 @@ KeepsFound how image s = (d : Database) → FilesHave image d → IsToOpen how d
 -- nothing, the fault is out of memory or of SQL.
 pub record FailsOver {D : Type 0} {g : Ghosts D} (how : Opening) (image : Image) (f : StoreFault) (it : Leftover D g) : Type 0 where
   pub says : IsCleanLeft it → (d : Database) → FilesHave image d → IsToOpen how d → Says d f
-  pub alone : (d : Database) → FilesHave image d → IsToOpen how d → ¬ (IsToChange how d) → LeavesAsFound image it
+  pub alone : (d : Database) → FilesHave image d → IsToOpen how d → ¬ (IsToChange how d) → TablesAsFound image it
   pub once : (d : Database) → FilesHave image d → IsToOpen how d → LeavesOnce image it
   pub blank : IsCleanLeft it → IsToMake how → HoldNothing image → IsOutside f
 

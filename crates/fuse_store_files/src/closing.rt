@@ -9,7 +9,7 @@ ghost use Rattle.fuse_store_files.specs.inner.Connections.{EndsAsStore, IsClosed
 ghost use Rattle.fuse_store_files.specs.inner.Connections.{IsUncopied};
 
 use fuse_init::Profiled;
-use fuse_store::TableKeeper;
+use fuse_store::{StoreParts, TableKeeper};
 use sqlite::{Connection, FileStore, Files};
 use sqlite_disk::Disk;
 use sqlite_trees::store::Store;
@@ -33,14 +33,16 @@ pub(crate) fn close_connection<D: Disk + Drop>(
 }
 
 /// Closes the files of a keeper: rolls back, copies the log into the database file, and gives both
-/// back. Where the copying fails, the store is given back; the log then holds what is committed.
-pub fn close_store<P: Profiled, D: Disk + Drop>(
-    keeper: TableKeeper<P, FileStore<D>>,
-) -> Result<Files<D>, FileStore<D>>
-    ensures closes { Closes P.PROFILE keeper result }
+/// back, and the data file beside them. Where the copying fails, the store is given back; the log then
+/// holds what is committed. Nothing is asked of the data file.
+pub fn close_store<P: Profiled, D: Disk + Drop, E: Disk + Drop>(
+    keeper: TableKeeper<P, FileStore<D>, E>,
+) -> (Result<Files<D>, FileStore<D>>, Option<E>)
+    ensures closes { Closes E.Disk P.PROFILE keeper result.0 result.1 }
     // What was committed last is in the database file alone.
-    ensures copied { IfOk result (λ files. AreClean D.Disk files.log files.db
-        → IsCopied (conn_of over_files keeper) files) }
+    ensures copied { IfOk result.0 (λ files. AreClean D.Disk files.log files.db
+        → IsCopied (conn_of over_files E.Disk keeper) files) }
 {
-    close_connection(keeper.into_connection())
+    let StoreParts { conn, disk } = keeper.into_parts();
+    (close_connection(conn), disk)
 }

@@ -2,28 +2,35 @@
 ghost use Rattle.std.specs.Prelude.{◌≡◌};
 ghost use Rattle.fuse_store_files.specs.Restarting.{inner_of};
 
-use crate::crashing::{Crashing, crash_files};
+use crate::crashing::{Crashing, crash_store};
+use crate::left::{CrashedFiles, StoreLeft};
 use fuse_answer::Answer;
 use fuse_init::{Profiled, Settings};
 use fuse_keeper::{Done, Keeper, Restart, StoreCounts, StoreFault};
 use fuse_request::Request;
-use fuse_store::{TableKeeper, opening_fault};
+use fuse_store::{StoreParts, TableKeeper, opening_fault};
 use fuse_store_tree::lots_are_read;
 use fuse_wire::{Id, Moment};
-use sqlite::{Alter, Connection, FileStore, Leftover, Options};
+use sqlite::{Connection, FileStore, Leftover, Options};
+use sqlite_disk::Disk;
 use std::alloc::Global;
 
-/// A keeper over tables. Over files of disks that crash, its restart lets both crash.
+/// A keeper over tables in files, and over a data file. Over disks that crash, its restart lets all
+/// files crash.
 #[derive(Drop)]
-pub struct CrashKeeper<P, S: Alter> {
+pub struct CrashKeeper<P, D: Disk, E: Disk> {
     alloc: Global,
-    inner: TableKeeper<P, S>,
+    inner: TableKeeper<P, FileStore<D>, E>,
     options: Options,
 }
 
-impl<P: Profiled, S: Alter> CrashKeeper<P, S> {
+impl<P: Profiled, D: Disk, E: Disk> CrashKeeper<P, D, E> {
     /// Over this keeper. Its files are opened again with these options.
-    pub fn new(alloc: Global, inner: TableKeeper<P, S>, options: Options) -> CrashKeeper<P, S>
+    pub fn new(
+        alloc: Global,
+        inner: TableKeeper<P, FileStore<D>, E>,
+        options: Options,
+    ) -> CrashKeeper<P, D, E>
         ensures { inner_of result ≡ inner }
     {
         CrashKeeper {
@@ -34,32 +41,33 @@ impl<P: Profiled, S: Alter> CrashKeeper<P, S> {
     }
 
     /// The keeper that it stands on.
-    pub fn into_inner(self) -> TableKeeper<P, S>
+    pub fn into_inner(self) -> TableKeeper<P, FileStore<D>, E>
         ensures { result ≡ inner_of self }
     {
         self.inner
     }
 }
 
-impl<P: Profiled, S: Alter + Drop> Keeper for CrashKeeper<P, S> {
+impl<P: Profiled, D: Disk + Drop, E: Disk + Drop> Keeper for CrashKeeper<P, D, E> {
     ghost use Rattle.fuse_tree.specs.TheTree.{tree_of};
     ghost use Rattle.fuse_store.specs.inner.Laws.{one_held};
     ghost use Rattle.fuse_store_files.specs.Restarting.{crash_told};
+    ghost use Rattle.fuse_store_files.specs.inner.Laws.{clean_in_memory};
 
     ghost model = { tree_of P.PROFILE };
 
-    ghost told = { crash_told P.PROFILE S.Store };
+    ghost told = { crash_told P.PROFILE E.Disk };
 
     ghost became = { λ a b n. Unit {0} };
 
     ghost performed = { λ a b list. Unit {0} };
 
     fn serves(opcode: u32) -> bool {
-        TableKeeper::<P, S>::serves(opcode)
+        TableKeeper::<P, FileStore<D>, E>::serves(opcode)
     }
 
     fn sees(opcode: u32) -> bool {
-        TableKeeper::<P, S>::sees(opcode)
+        TableKeeper::<P, FileStore<D>, E>::sees(opcode)
     }
 
     fn perform(
@@ -91,7 +99,7 @@ impl<P: Profiled, S: Alter + Drop> Keeper for CrashKeeper<P, S> {
     }
 
     fn model_is_sound() {
-        TableKeeper::<P, S>::model_is_sound();
+        TableKeeper::<P, FileStore<D>, E>::model_is_sound();
     }
 
     ghost sound = { λ k. record {
@@ -99,31 +107,34 @@ impl<P: Profiled, S: Alter + Drop> Keeper for CrashKeeper<P, S> {
       clean_is_honest = λ clean. clean.0;
     } };
 
-    ghost memory_is_clean = { λ k memory. memory k.inner.look.conn };
+    ghost memory_is_clean = { λ k memory. clean_in_memory _ _ memory k.inner.look.conn k.inner.look.contents.file };
 
     ghost counted = { record { none = λ k. tt; then = λ a b c m n before after. tt } };
 
     ghost log = { record { none = λ k. tt; onward = λ a b c before after one two. tt } };
 }
 
-impl<P: Profiled, D: Crashing + Drop> Restart for CrashKeeper<P, FileStore<D>> {
+impl<P: Profiled, D: Crashing + Drop, E: Crashing + Drop> Restart for CrashKeeper<P, D, E> {
     ghost use Rattle.std.specs.Prelude.{IfOk, IfErr};
     ghost use Rattle.fuse_keeper.specs.KeeperState.{Reopened};
-    ghost use Rattle.sqlite.specs.Files.{over_files};
+    ghost use Rattle.fuse_store_files.specs.Crashing.{crash_relations};
     ghost use Rattle.fuse_store_files.specs.Restarting.{crash_told, ReopensCrashed, CrashRefuses};
 
-    type Rest = Leftover<D>;
+    type Rest = StoreLeft<D, E>;
 
-    ghost refuses = { CrashRefuses P.PROFILE D.Crashing.crashed };
+    ghost refuses = { CrashRefuses E.Disk P.PROFILE
+        (crash_relations D.Crashing.crashed E.Crashing.crashed) };
 
-    /// Lets both files crash, and opens what is left of them.
-    fn restart(self) -> Result<CrashKeeper<P, FileStore<D>>, (StoreFault, Leftover<D>)>
-        ensures reopened { IfOk result (λ k. Reopened (crash_told P.PROFILE over_files self) (crash_told P.PROFILE over_files k)) }
-        ensures refused { IfErr result (λ e. CrashRefuses P.PROFILE D.Crashing.crashed self e.0 e.1) }
+    /// Lets all files crash, and opens what is left of them.
+    fn restart(self) -> Result<CrashKeeper<P, D, E>, (StoreFault, StoreLeft<D, E>)>
+        ensures reopened { IfOk result (λ k. Reopened (crash_told P.PROFILE E.Disk self) (crash_told P.PROFILE E.Disk k)) }
+        ensures refused { IfErr result (λ e. CrashRefuses E.Disk P.PROFILE
+            (crash_relations D.Crashing.crashed E.Crashing.crashed) self e.0 e.1) }
         ensures once { IfOk result (λ k. Unit {0}) }
         ensures unasked { IfOk result (λ k. Unit {0}) }
         // Nothing but a crash of each file shows this.
-        ensures crashed { IfOk result (ReopensCrashed P.PROFILE D.Crashing.crashed self) }
+        ensures crashed { IfOk result (ReopensCrashed E.Disk P.PROFILE
+            (crash_relations D.Crashing.crashed E.Crashing.crashed) self) }
     {
         lots_are_read();
         let CrashKeeper {
@@ -131,18 +142,23 @@ impl<P: Profiled, D: Crashing + Drop> Restart for CrashKeeper<P, FileStore<D>> {
             inner,
             options,
         } = self;
-        let files = crash_files(inner.into_connection());
-        let conn = match Connection::open_files(alloc, files, options) {
+        let CrashedFiles { tables, disk } = crash_store(inner.into_parts());
+        let conn = match Connection::open_files(alloc, tables, options) {
             Ok(conn) => conn,
-            Err((error, left)) => return Err((opening_fault(error), left)),
+            Err((error, tables)) => {
+                return Err((opening_fault(error), StoreLeft { tables, disk }));
+            }
         };
-        match TableKeeper::open(alloc, conn) {
+        match TableKeeper::open(alloc, StoreParts { conn, disk }, None) {
             Ok(inner) => Ok(CrashKeeper {
                 alloc,
                 inner,
                 options,
             }),
-            Err((fault, conn)) => Err((fault, Leftover::Store(conn.into_store()))),
+            Err((fault, StoreParts { conn, disk })) => {
+                let tables = Leftover::Store(conn.into_store());
+                Err((fault, StoreLeft { tables, disk }))
+            }
         }
     }
 }

@@ -1,9 +1,13 @@
-// Disks whose crashes a contract can name, and a crash of both files of a connection.
-ghost use Rattle.std.specs.Prelude.{◌≡◌, IsTrue};
-ghost use Rattle.fuse_store_files.specs.Crashing.{Crashes};
+// Disks whose crashes a contract can name, and a crash of all files of a store.
+ghost use Rattle.std.specs.Prelude.{◌≡◌, IsTrue, IfSome};
+ghost use Rattle.sqlite_disk.specs.Disk.{Only};
+ghost use Rattle.fuse_store_files.specs.Crashing.{Crashes, DataCrashes, FilesCrash};
+ghost use Rattle.fuse_store_files.specs.Crashing.{crash_relations};
 ghost use Rattle.fuse_store_files.specs.CrashMemory.{bytes_in, synced_in};
 
 use crate::crash_memory::CrashMemory;
+use crate::left::CrashedFiles;
+use fuse_store::StoreParts;
 use sqlite::{Connection, FileStore, Files};
 use sqlite_disk::Disk;
 
@@ -19,7 +23,9 @@ pub trait Crashing: Disk {
         ensures left { Self.Disk.may_leave self.old (Self.Disk.seen self.new) }
         ensures usable { IsTrue (Self.Disk.is_usable self.new) }
         ensures clean { IsTrue (Self.Disk.is_clean self.new)
-            → IsTrue (Self.Disk.is_clean self.old) };
+            → IsTrue (Self.Disk.is_clean self.old) }
+        // What came back is on the disk.
+        ensures settled { Only (Self.Disk.seen self.new) (Self.Disk.may_leave self.new) };
 }
 
 /// What was synced last is what is left.
@@ -41,4 +47,35 @@ pub(crate) fn crash_files<D: Crashing + Drop>(conn: Connection<FileStore<D>>) ->
     files.log.crash_once();
     files.db.crash_once();
     files
+}
+
+// Lets a data file crash, if there is one.
+fn crash_data<E: Crashing + Drop>(disk: Option<E>) -> Option<E>
+    ensures crashed { DataCrashes E.Disk E.Crashing.crashed disk result }
+    ensures usable { IfSome result (λ d. IsTrue (E.Disk.is_usable d)) }
+{
+    match disk {
+        Some(mut disk) => {
+            disk.crash_once();
+            Some(disk)
+        }
+        None => None,
+    }
+}
+
+/// Drops the connection, lets all files of a store crash, and gives them back.
+pub(crate) fn crash_store<D: Crashing + Drop, E: Crashing + Drop>(
+    parts: StoreParts<FileStore<D>, E>,
+) -> CrashedFiles<D, E>
+    ensures crashed { FilesCrash E.Disk (crash_relations D.Crashing.crashed E.Crashing.crashed)
+        parts.conn parts.disk result }
+    ensures log { IsTrue (D.Disk.is_usable result.tables.log) }
+    ensures db { IsTrue (D.Disk.is_usable result.tables.db) }
+    ensures disk { IfSome result.disk (λ d. IsTrue (E.Disk.is_usable d)) }
+{
+    let StoreParts { conn, disk } = parts;
+    CrashedFiles {
+        tables: crash_files(conn),
+        disk: crash_data(disk),
+    }
 }

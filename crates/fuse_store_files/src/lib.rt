@@ -6,6 +6,8 @@ mod crash_keeper;
 mod crash_memory;
 mod crashing;
 mod files;
+mod laws;
+mod left;
 mod opening;
 
 pub use closing::close_store;
@@ -13,3 +15,5 @@ pub use crash_keeper::CrashKeeper;
 pub use crash_memory::CrashMemory;
 pub use crashing::Crashing;
 pub use files::{Opening, StoreFiles, open_store};
+pub use laws::plain_over_any;
+pub use left::{CrashedFiles, StoreLeft};

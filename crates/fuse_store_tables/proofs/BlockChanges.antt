@@ -22,13 +22,12 @@ use Rattle.sqlite.specs.declared.error.Error.{Error}
 use Rattle.sqlite.specs.Listing.{understood}
 use Rattle.sqlite.specs.State.{State, HasCleanDisk, Survives, CommitsBy, Writes}
 use Rattle.sqlite.proofs.Callers.{IsPlain, command_of, statement_of}
-use Rattle.fuse_store_tables.specs.Layout.{blocks, store_schema}
+use Rattle.fuse_store_tables.specs.Layout.{blocks, schema_for}
 use Rattle.fuse_store_tables.specs.Blocks.{Block, block_row, is_at, block_at, rewritten, set_at}
 use Rattle.fuse_store_tables.specs.Content.{Content, Holds, stored, at_by, set_by, with_block, set_block, put_block}
 use Rattle.fuse_store_tables.specs.Moves.{Inside, Makes}
 use Rattle.fuse_store_tables.specs.inner.Performing.{RanAny}
 use Rattle.fuse_store_tables.specs.inner.Rows.{Edits}
-use Rattle.fuse_store_tables.proofs.Writing.{makes_any, says_any}
 use Rattle.fuse_store_tables.proofs.Tables.{wrote, only_blocks}
 use Rattle.fuse_store_tables.proofs.Keyed.{row_cmp_nat, none_there}
 use Rattle.fuse_store_tables.proofs.RowLemmas.{cast_int}
@@ -37,6 +36,10 @@ use Rattle.fuse_store_tables.proofs.Updating.{changing, edits, some_changed, edi
 use Rattle.fuse_store_tables.proofs.BlockRows.{given_block, block_terms, tests_block, found_one, same_number, both_are}
 use Rattle.sqlite_resolve.specs.Compile.{first}
 use Rattle.fuse_store_tables.proofs.Edits.{IsEditText}
+use Rattle.fuse_store_tables.specs.declared.version.Layout.{Layout}
+use Rattle.fuse_store_tables.specs.declared.version.Layout.TheVariants.{Second, Third}
+use Rattle.fuse_store_tables.proofs.Laid.{makes_any_laid, says_any_laid}
+use Rattle.fuse_store_tables.proofs.Tables.{blocks_listed, laid}
 
 abbrev slot : Block → ℕ
 slot b = b.slot
@@ -114,13 +117,15 @@ update_text = codes "UPDATE blocks SET bytes = ?3 WHERE node = ?1 AND block = ?2
 abbrev update_terms : List Term
 update_terms = col 1 0 ∷ col 1 1 ∷ col 1 2 ∷ col 0 2 ∷ []
 
-update_is : command_of (understood store_schema update_text) ≡ Update 3 (changing 5 block_terms update_terms)
+update_is : (l : Layout) → command_of (understood (schema_for l) update_text) ≡ Update 3 (changing 5 block_terms update_terms)
 unfolding understood everything
-update_is = refl
+update_is Second = refl
+update_is Third = refl
 
-update_plain : IsPlain (understood store_schema update_text)
+update_plain : (l : Layout) → IsPlain (understood (schema_for l) update_text)
 unfolding understood everything
-update_plain = (refl, refl)
+update_plain Second = (refl, refl)
+update_plain Third = (refl, refl)
 
 pub update_edit : IsEditText (first update_text)
 unfolding first everything
@@ -143,42 +148,42 @@ module _ (node block : ℕ) (bytes : List ℕ) where
   edited_at bs None db has rise apart none = (has ∙ ap (map block_row) (sym (missing node block bytes bs none)), rise)
   edited_at bs (Some b) db has rise apart found =
       let by = by_slot node block bytes bs b (subst IsTable has rise) apart found in
-      let made = edited_as slot block_row (λ _. refl) b.slot (rewritten bytes) (λ _. refl) 3 blocks refl cells (λ y. cast_block (rewritten bytes y)) bs
+      let made = edited_as Second slot block_row (λ _. refl) b.slot (rewritten bytes) (λ _. refl) 3 blocks (blocks_listed Second) cells (λ y. cast_block (rewritten bytes y)) bs
       (Some b) db has rise by.0 in
       (made.0 ∙ ap (map block_row) by.1, made.1)
 
   asked_for : (c : Content) (old new : State) (n : ℕ) → Holds c old.now → Writes old new None (Update 3 (changing 5 block_terms update_terms))
-      (statement_of update_text (understood store_schema update_text)) (given_block node block bytes) n
+      (statement_of update_text (understood (schema_for c.layout) update_text)) (given_block node block bytes) n
       → Edits blocks 1 (map source (option_to_list (block_at node block c.blocks))) (map source (option_to_list (block_at node block c.blocks))) old.now new.now
       × (n ≡ length (map source (option_to_list (block_at node block c.blocks))))
   asked_for c old new n at w =
-      edits slot block_row 3 blocks refl cells (is_at node block) block_terms update_terms (given_block node block bytes)
+      edits c.layout slot block_row 3 blocks (blocks_listed c.layout) cells (is_at node block) block_terms update_terms (given_block node block bytes)
       (tests_block node block (Blob bytes ∷ [])) (λ y. refl) (λ _. refl) c.blocks (block_at node block c.blocks)
-      (found_one node block c.blocks (blocks_apart c old.now at)) old new _ n at.schema at.rows.1.1.1.0.0 w
+      (found_one node block c.blocks (blocks_apart c old.now at)) old new _ n at.schema (laid c old.now at).blocks.0 w
 
   changed : (c : Content) (old new : State) (n : ℕ) → Holds c old.now → Writes old new None (Update 3 (changing 5 block_terms update_terms))
-      (statement_of update_text (understood store_schema update_text)) (given_block node block bytes) n → Holds (set_block node block bytes c) new.now
+      (statement_of update_text (understood (schema_for c.layout) update_text)) (given_block node block bytes) n → Holds (set_block node block bytes c) new.now
   changed c old new n at w =
-      let was = at.rows.1.1.1.0 in
+      let was = (laid c old.now at).blocks in
       let edit = (asked_for c old new n at w).0 in
       let made = edited_at c.blocks (block_at node block c.blocks) old.now.trees was.0 was.1 (blocks_apart c old.now at) refl in
-      wrote store_schema (stored c) (stored (set_block node block bytes c)) blocks old.now new.now at edit.spares w.sound (only_blocks c _)
+      wrote (schema_for c.layout) (stored c) (stored (set_block node block bytes c)) blocks old.now new.now at edit.spares w.sound (only_blocks c _)
       (edit.rows ∙ made.0) (subst IsTable (sym edit.rows) made.1)
 
   changed_some : (c : Content) (old new : State) (n : ℕ) → Holds c old.now → Writes old new None (Update 3 (changing 5 block_terms update_terms))
-      (statement_of update_text (understood store_schema update_text)) (given_block node block bytes) n
+      (statement_of update_text (understood (schema_for c.layout) update_text)) (given_block node block bytes) n
       → nat_lt 0 n ≡ is_some (block_at node block c.blocks)
   changed_some c old new n at w = some_changed (block_at node block c.blocks) source n (asked_for c old new n at w).1
 
   pub sets : (old new : State) (r : Result Bool Error) → (HasCleanDisk new → RanAny update_text (given_block node block bytes) old new r)
       → Survives old new (CommitsBy update_text (given_block node block bytes) old) → Makes (set_block node block bytes) old new r
-  sets = makes_any Holds store_schema (λ c d h. h.schema) update_text (given_block node block bytes) (Update 3 (changing 5 block_terms update_terms)) update_is
-      update_plain refl update_edit (λ c. Holds (set_block node block bytes c)) changed
+  sets = makes_any_laid update_text (given_block node block bytes) (λ _. Update 3 (changing 5 block_terms update_terms)) update_is
+      update_plain (λ _. refl) update_edit (λ c. Holds (set_block node block bytes c)) changed
 
   pub sets_some : (old new : State) (r : Result Bool Error) → (HasCleanDisk new → RanAny update_text (given_block node block bytes) old new r)
       → HasCleanDisk new → IfOk r (λ any. (c : Content) → Inside c old → any ≡ is_some (block_at node block c.blocks))
-  sets_some = says_any Holds store_schema (λ c d h. h.schema) update_text (given_block node block bytes) (Update 3 (changing 5 block_terms update_terms))
-      update_is update_plain refl (λ c. is_some (block_at node block c.blocks)) changed_some
+  sets_some = says_any_laid update_text (given_block node block bytes) (λ _. Update 3 (changing 5 block_terms update_terms))
+      update_is update_plain (λ _. refl) (λ c. is_some (block_at node block c.blocks)) changed_some
 
   -- ---- in place of the bytes before, or as a new block
 

@@ -28,21 +28,24 @@ use Rattle.sqlite.specs.declared.error.Error.{Error}
 use Rattle.sqlite.specs.Listing.{understood, reads_listing}
 use Rattle.sqlite.specs.State.{State, HasCleanDisk, Survives, CommitsBy, Writes, Shown, FailsToQuery, CommitsShowing}
 use Rattle.sqlite.proofs.Callers.{IsPlain, command_of, statement_of}
-use Rattle.fuse_store_tables.specs.Layout.{blocks, store_schema}
+use Rattle.fuse_store_tables.specs.Layout.{blocks, schema_for}
 use Rattle.fuse_store_tables.specs.Blocks.{Block, block_row, is_at, is_from, block_at, new_block, shown_block}
 use Rattle.fuse_store_tables.specs.Content.{Content, Holds, stored, put_by, with_block, without_blocks_from}
 use Rattle.fuse_store_tables.specs.Moves.{Inside, Makes}
 use Rattle.fuse_store_tables.specs.inner.Performing.{Ran}
-use Rattle.fuse_store_tables.proofs.Writing.{makes}
 use Rattle.fuse_store_tables.proofs.Tables.{wrote, quiet, only_blocks}
 use Rattle.fuse_store_tables.proofs.Keyed.{put_rows, row_cmp_nat}
-use Rattle.fuse_store_tables.proofs.Reading.{plain_query, answered, looks, read, only, both_true}
+use Rattle.fuse_store_tables.proofs.Reading.{plain_query, answered, only, both_true}
 use Rattle.fuse_store_tables.proofs.RowLemmas.{cast_int, cast_null, inserted}
 use Rattle.fuse_store_tables.proofs.Apart.{AreApart, blocks_apart}
 use Rattle.fuse_store_tables.proofs.Deletes.{picking, picks}
 use Rattle.sqlite_resolve.specs.Compile.{first}
 use Rattle.fuse_store_tables.proofs.Edits.{IsEditText}
 use Rattle.fuse_store_tables.proofs.Queries.{IsSelectText}
+use Rattle.fuse_store_tables.specs.declared.version.Layout.{Layout}
+use Rattle.fuse_store_tables.specs.declared.version.Layout.TheVariants.{Second, Third}
+use Rattle.fuse_store_tables.proofs.Laid.{looks_laid, makes_laid, read_laid}
+use Rattle.fuse_store_tables.proofs.Tables.{blocks_listed, laid}
 
 -- ---- a new block
 
@@ -52,13 +55,15 @@ insert_text = codes "INSERT INTO blocks (node, block, bytes) VALUES (?1, ?2, ?3)
 abbrev terms : List Term
 terms = lit Null ∷ col 0 0 ∷ col 0 1 ∷ col 0 2 ∷ []
 
-insert_is : command_of (understood store_schema insert_text) ≡ Insert 3 (Values terms 4)
+insert_is : (l : Layout) → command_of (understood (schema_for l) insert_text) ≡ Insert 3 (Values terms 4)
 unfolding understood everything
-insert_is = refl
+insert_is Second = refl
+insert_is Third = refl
 
-insert_plain : IsPlain (understood store_schema insert_text)
+insert_plain : (l : Layout) → IsPlain (understood (schema_for l) insert_text)
 unfolding understood everything
-insert_plain = (refl, refl)
+insert_plain Second = (refl, refl)
+insert_plain Third = (refl, refl)
 
 pub insert_edit : IsEditText (first insert_text)
 unfolding first everything
@@ -80,18 +85,18 @@ numbered_as : (node block : ℕ) (bytes : List ℕ) (bs : List Block) → with_r
 numbered_as node block bytes bs = ap (λ id. Int id ∷ given_block node block bytes) (next_is bs 1)
 
 inserts : (node block : ℕ) (bytes : List ℕ) (c : Content) (old new : State) (n : ℕ) → Holds c old.now
-    → Writes old new None (Insert 3 (Values terms 4)) (statement_of insert_text (understood store_schema insert_text)) (given_block node block bytes) n
+    → Writes old new None (Insert 3 (Values terms 4)) (statement_of insert_text (understood (schema_for c.layout) insert_text)) (given_block node block bytes) n
     → Holds (with_block node block bytes c) new.now
 inserts node block bytes c old new n at w =
-    let put = inserted store_schema 3 blocks refl terms 4 old new _ (given_block node block bytes) n (Null ∷ given_block node block bytes)
-    (λ keys news. quiet keys 5 [] news)
+    let put = inserted (schema_for c.layout) 3 blocks (blocks_listed c.layout) terms 4 old new _ (given_block node block bytes) n (Null ∷ given_block node block bytes)
+    (λ keys news. quiet c.layout keys 5 [] news)
     (ap (λ r. r ∷ []) (cast_given node block bytes)) at.schema w in
-    let was = at.rows.1.1.1.0 in
+    let was = (laid c old.now at).blocks in
     let b = new_block node block bytes c.blocks in
     let rows : new.now.trees 5 ≡ put_row (block_row b) (old.now.trees 5) =
     put.rows ∙ ap (λ r. put_row r (old.now.trees 5)) (ap (λ all. with_rowid Chosen all (Null ∷ given_block node block bytes)) was.0
     ∙ numbered_as node block bytes c.blocks) in
-    wrote store_schema (stored c) (stored (with_block node block bytes c)) blocks old.now new.now at put.spares w.sound
+    wrote (schema_for c.layout) (stored c) (stored (with_block node block bytes c)) blocks old.now new.now at put.spares w.sound
     (only_blocks c (put_by (λ x. x.slot) b c.blocks))
     (rows ∙ ap (put_row (block_row b)) was.0 ∙ put_rows (λ x. x.slot) block_row (λ _. refl) b c.blocks)
     (subst IsTable (sym rows) (IsTable-put_row (block_row b) (old.now.trees 5) was.1))
@@ -99,8 +104,8 @@ inserts node block bytes c old new n at w =
 pub adds : (node block : ℕ) (bytes : List ℕ) (old new : State) (r : Result (Unit {0}) Error)
     → (HasCleanDisk new → Ran insert_text (given_block node block bytes) old new r)
     → Survives old new (CommitsBy insert_text (given_block node block bytes) old) → Makes (with_block node block bytes) old new r
-adds node block bytes = makes Holds store_schema (λ c d h. h.schema) insert_text (given_block node block bytes) (Insert 3 (Values terms 4)) insert_is
-    insert_plain refl insert_edit (λ c. Holds (with_block node block bytes c))
+adds node block bytes = makes_laid insert_text (given_block node block bytes) (λ _. Insert 3 (Values terms 4)) insert_is
+    insert_plain (λ _. refl) insert_edit (λ c. Holds (with_block node block bytes c))
     (inserts node block bytes)
 
 -- ---- the blocks of a node from a number on
@@ -111,13 +116,15 @@ blocks_text = codes "DELETE FROM blocks WHERE node = ?1 AND block >= ?2"
 abbrev blocks_terms : List Term
 blocks_terms = op2 (Compare Eq Binary) (col 1 1) (col 0 0) ∷ op2 (Compare Ge Binary) (col 1 2) (col 0 1) ∷ []
 
-blocks_is : command_of (understood store_schema blocks_text) ≡ Delete 3 (picking 5 blocks_terms)
+blocks_is : (l : Layout) → command_of (understood (schema_for l) blocks_text) ≡ Delete 3 (picking 5 blocks_terms)
 unfolding understood everything
-blocks_is = refl
+blocks_is Second = refl
+blocks_is Third = refl
 
-blocks_plain : IsPlain (understood store_schema blocks_text)
+blocks_plain : (l : Layout) → IsPlain (understood (schema_for l) blocks_text)
 unfolding understood everything
-blocks_plain = (refl, refl)
+blocks_plain Second = (refl, refl)
+blocks_plain Third = (refl, refl)
 
 pub blocks_edit : IsEditText (first blocks_text)
 unfolding first everything
@@ -132,19 +139,19 @@ tests_blocks node from b =
     ∙ both_true (is_eq (nat_cmp b.node node)) (is_ge (nat_cmp b.block from))
 
 blocks_gone : (node from : ℕ) (c : Content) (old new : State) (n : ℕ) → Holds c old.now
-    → Writes old new None (Delete 3 (picking 5 blocks_terms)) (statement_of blocks_text (understood store_schema blocks_text)) (Int (pos node) ∷ Int (pos from)
+    → Writes old new None (Delete 3 (picking 5 blocks_terms)) (statement_of blocks_text (understood (schema_for c.layout) blocks_text)) (Int (pos node) ∷ Int (pos from)
     ∷ []) n → Holds (without_blocks_from node from c) new.now
 blocks_gone node from c old new n at w =
-    let was = at.rows.1.1.1.0 in
-    let now = picks (λ b. b.slot) block_row (λ _. refl) (is_from node from) 3 blocks refl blocks_terms (Int (pos node) ∷ Int (pos from)
+    let was = (laid c old.now at).blocks in
+    let now = picks c.layout (λ b. b.slot) block_row (λ _. refl) (is_from node from) 3 blocks (blocks_listed c.layout) blocks_terms (Int (pos node) ∷ Int (pos from)
     ∷ []) (tests_blocks node from) (λ _. refl) c.blocks old new _ n at.schema was.0 was.1 w in
-    wrote store_schema (stored c) (stored (without_blocks_from node from c)) blocks old.now new.now at now.2 w.sound (only_blocks c _) now.0 now.1
+    wrote (schema_for c.layout) (stored c) (stored (without_blocks_from node from c)) blocks old.now new.now at now.2 w.sound (only_blocks c _) now.0 now.1
 
 pub removes_blocks : (node from : ℕ) (old new : State) (r : Result (Unit {0}) Error) → (HasCleanDisk new → Ran blocks_text (Int (pos node) ∷ Int (pos from)
     ∷ []) old new r)
     → Survives old new (CommitsBy blocks_text (Int (pos node) ∷ Int (pos from) ∷ []) old) → Makes (without_blocks_from node from) old new r
-removes_blocks node from = makes Holds store_schema (λ c d h. h.schema) blocks_text (Int (pos node) ∷ Int (pos from) ∷ []) (Delete 3 (picking 5 blocks_terms))
-    blocks_is blocks_plain refl blocks_edit
+removes_blocks node from = makes_laid blocks_text (Int (pos node) ∷ Int (pos from) ∷ []) (λ _. Delete 3 (picking 5 blocks_terms))
+    blocks_is blocks_plain (λ _. refl) blocks_edit
     (λ c. Holds (without_blocks_from node from c)) (blocks_gone node from)
 
 -- ---- one block
@@ -166,22 +173,25 @@ tests_block node block more b =
 abbrev pub select_text : List ℕ
 select_text = codes "SELECT bytes FROM blocks WHERE node = ?1 AND block = ?2"
 
-select_is : command_of (understood store_schema select_text) ≡ Select (record { lets = []; body = plain_query 5 block_terms (col 1 3 ∷ []) }) (codes "bytes"
+select_is : (l : Layout) → command_of (understood (schema_for l) select_text) ≡ Select (record { lets = []; body = plain_query 5 block_terms (col 1 3 ∷ []) }) (codes "bytes"
     ∷ [])
 unfolding understood everything
-select_is = refl
+select_is Second = refl
+select_is Third = refl
 
-select_plain : IsPlain (understood store_schema select_text)
+select_plain : (l : Layout) → IsPlain (understood (schema_for l) select_text)
 unfolding understood everything
-select_plain = (refl, refl)
+select_plain Second = (refl, refl)
+select_plain Third = (refl, refl)
 
 pub select_reads : IsSelectText (first select_text)
 unfolding first everything
 select_reads = (_, refl)
 
-select_unlisted : reads_listing store_schema select_text ≡ false
+select_unlisted : (l : Layout) → reads_listing (schema_for l) select_text ≡ false
 unfolding understood everything
-select_unlisted = refl
+select_unlisted Second = refl
+select_unlisted Third = refl
 
 pub same_number : (m n : ℕ) → is_eq (nat_cmp m n) ≡ true → m ≡ n
 same_number m n is = grind (arith, nat_tests)
@@ -211,9 +221,9 @@ finds : (node block : ℕ) (c : Content) (old new : State) (rows : List Row) →
     → rows ≡ map shown_block (option_to_list (block_at node block c.blocks))
 finds node block c old new rows at h =
     let params = Int (pos node) ∷ Int (pos block) ∷ [] in
-    let answer = (read Holds store_schema (λ c d h. h.schema) select_text params _ select_is select_plain select_unlisted c old new rows at h).answer Null in
+    let answer = (read_laid select_text params _ select_is select_plain select_unlisted c old new rows at h).answer Null in
     let same = answered block_row (is_at node block) Null (overlay old.now.trees []) block_terms params (tests_block node block []) 5 (col 1 3 ∷ []) c.blocks rows
-    at.holds.rows.1.1.1.0.0 answer in
+    (laid c old.now at.holds).blocks.0 answer in
     only (block_at node block c.blocks) shown_block rows (subst (λ xs. IsPermutation (map shown_block xs) rows) (found_one node block c.blocks
     (blocks_apart c old.now at.holds)) same)
 
@@ -221,7 +231,7 @@ pub look_makes : {X : Type 0} (items : X → List Row) (node block : ℕ) (old n
     → (HasCleanDisk new → IfOk r (λ x. Shown select_text (Int (pos node) ∷ Int (pos block) ∷ []) old new (items x)))
     → (HasCleanDisk new → IfErr r (FailsToQuery select_text (Int (pos node) ∷ Int (pos block) ∷ []) old new))
     → Survives old new (CommitsShowing select_text (Int (pos node) ∷ Int (pos block) ∷ []) old) → Makes (λ c. c) old new r
-look_makes items node block = looks Holds store_schema (λ c d h. h.schema) select_text (Int (pos node) ∷ Int (pos block) ∷ []) _ select_is select_plain select_reads items
+look_makes items node block = looks_laid select_text (Int (pos node) ∷ Int (pos block) ∷ []) _ select_is select_plain select_reads items
 
 pub look_finds : {X : Type 0} (items : X → List Row) (node block : ℕ) (old new : State) (r : Result X Error)
     → (HasCleanDisk new → IfOk r (λ x. Shown select_text (Int (pos node) ∷ Int (pos block) ∷ []) old new (items x)))

@@ -20,6 +20,7 @@ use Rattle.fuse_store_tables.proofs.Alone.{reads_then}
 use Rattle.fuse_store_tables.proofs.Indexed.{stays_as}
 use Rattle.fuse_store_tables.proofs.Sayings.{plain_fault}
 use Rattle.fuse_store_tables.proofs.Within.{within_then}
+use Rattle.fuse_store_tables.proofs.Nothing.{no_step, still}
 
 -- one test after another, which may build on the first
 pub checks_then : {X Y : Type 0} (Known More P Q : Content → Type 0) (a b d : State) (x : X) (r : Result Y StoreFault) → ChecksIf Known P a b (Ok x)
@@ -138,35 +139,22 @@ fewer rows more least c low is = record {
 
 -- ---- no statement
 
-no_step : (a : State) (P : Trees → Type 0) → Survives a a P
-no_step a P = record {
-  clean = omega arith;
-  shield = λ is. is;
-  counts = omega arith;
-  limit = refl;
-  closes = λ clean is_open. inl is_open;
-  crash = λ clean db may. inl may;
-}
-
 pub nothing_asked : {Y : Type 0} (Known P : Content → Type 0) (a : State) (e : StoreFault) (r : Result Y StoreFault) → IsErrAnd r (λ f. f ≡ e) → IsPlain e
     → ((c : Content) → Known c → IsOutside e) → ChecksIf Known P a a r
 nothing_asked Known P a e (Ok y) same plain out = absurd same
 nothing_asked Known P a e (Err f) same plain out = record {
-  looks = record { stays = record { survives = no_step a _; kept = λ clean inside. still }; within = tt; turns = tt };
+  looks = record { stays = record { survives = no_step a _; kept = λ clean inside. still a }; within = tt; turns = tt };
   reads = record {
-    commits = record { survives = no_step a _; kept = λ clean. still };
+    commits = record { survives = no_step a _; kept = λ clean. still a };
     same = tt;
     outside = λ clean rests. rests;
     seen = λ clean is_open. inl refl;
   };
-  within = record { survives = no_step a _; kept = λ clean inside. still; within = tt };
+  within = record { survives = no_step a _; kept = λ clean inside. still a; within = tt };
   whole = λ clean. tt;
   fault = λ clean c at known holds. subst IsOutside (sym same) (out c known);
   plain = subst IsPlain (sym same) plain;
 }
-  where
-    still : KeepsCommit a a
-    still = record { was_open = λ is. is; committed = λ is. refl }
 
 -- ---- of what an opening begins with
 

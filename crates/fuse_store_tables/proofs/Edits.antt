@@ -1,5 +1,5 @@
 -- A statement within a transaction commits nothing and ends nothing, over any database.
-use Rattle.std.proofs.Common.{◌≡◌, ◌+◌, inl, inr, ℕ, Option, List, [], length, ◌==◌, Bool, true, false, cond, not, ◌&&◌, Ok, Err, Result, subst}
+use Rattle.std.proofs.Common.{◌≡◌, ◌+◌, inl, inr, ℕ, Option, Some, None, is_some, List, [], length, ◌==◌, Bool, true, false, cond, not, ◌&&◌, Ok, Err, Result, subst}
 use Rattle.sqlite.specs.Tree.{Trees}
 use Rattle.sqlite.specs.Order.{Row}
 use Rattle.sqlite.specs.Schema.{Schema}
@@ -10,7 +10,7 @@ use Rattle.sqlite_ast.specs.declared.Rows.{Rows}
 use Rattle.sqlite_ast.specs.declared.Upsert.{Upsert}
 use Rattle.sqlite_syntax.specs.declared.statement.Parsed.{Parsed}
 use Rattle.sqlite_schema.specs.declared.command.Command.{Command}
-use Rattle.sqlite_schema.specs.declared.command.Command.TheVariants.{Insert, InsertOr, Update, Delete, CreateTable, CreateIndex, Nothing}
+use Rattle.sqlite_schema.specs.declared.command.Command.TheVariants.{Insert, InsertOr, Update, Delete, CreateTable, CreateIndex, DropTable, Nothing}
 use Rattle.sqlite_schema.specs.declared.command.Conflict.{Conflict}
 use Rattle.sqlite_schema.specs.declared.command.Conflict.TheVariants as how
 use Rattle.sqlite_schema.specs.declared.command.Returning.{Returning}
@@ -24,7 +24,7 @@ use Rattle.sqlite_resolve.specs.Program.{program}
 use Rattle.sqlite_resolve.specs.Write.{updated, deleted}
 use Rattle.sqlite_resolve.specs.Given.{upserts}
 use Rattle.sqlite_resolve.specs.Compile.{first, compiled, planned, meaning, returning, command, target, new_rows, insert, insert_or, insert_or_abort, update, delete}
-use Rattle.sqlite_resolve.specs.Compile.{create_table, create_index, creates, is_attached, is_reserved}
+use Rattle.sqlite_resolve.specs.Compile.{create_table, create_index, drop_table, dropped, creates, is_attached, is_reserved}
 use Rattle.sqlite_resolve.specs.Define as define
 use Rattle.sqlite_schema.specs.Names.{table_named, index_named, view_named}
 use Rattle.std.specs.Option.{option_or}
@@ -39,7 +39,7 @@ use Rattle.sqlite.proofs.InsideLemmas.{executes_inside, commits_nothing, inside_
 use Rattle.fuse_store_tables.specs.inner.Performing.{Ran, StaysWithin}
 use Rattle.fuse_store_tables.proofs.Control.{keeps_failed}
 
--- ---- a text that changes rows, or makes a table or an index, whatever the schema
+-- ---- a text that changes rows, makes a table or an index, or drops a table, whatever the schema
 
 abbrev pub IsEdit : Command → Type 0
 IsEdit (Insert at from) = Unit {0}
@@ -48,6 +48,7 @@ IsEdit (Update at q) = Unit {0}
 IsEdit (Delete at q) = Unit {0}
 IsEdit CreateTable = Unit {0}
 IsEdit (CreateIndex at) = Unit {0}
+IsEdit (DropTable at) = Unit {0}
 IsEdit Nothing = Unit {0}
 IsEdit _ = ⊥
 
@@ -57,6 +58,7 @@ IsWritten (written.Update name sets test shown) = Unit {0}
 IsWritten (written.Delete name test shown) = Unit {0}
 IsWritten (written.CreateTable def) = Unit {0}
 IsWritten (written.CreateIndex def) = Unit {0}
+IsWritten (written.DropTable if_exists name) = Unit {0}
 IsWritten _ = ⊥
 
 abbrev pub IsEditText : Checked Parsed → Type 0
@@ -126,6 +128,17 @@ edits_create_index schema def =
     (λ table. every_then IsEdit (creates def.if_missing def.name (index_named schema def.name) (option_or (table_named schema def.name)
     (view_named schema def.name))) _ (λ is_new. either IsEdit is_new _ (Ok Nothing) (every_then IsEdit (define.index table def) _ (λ _. tt)) tt))))
 
+edits_dropped : (if_exists : Bool) (o : Option ℕ) → Every IsEdit (dropped DropTable NoSuchTable if_exists o)
+edits_dropped if_exists (Some at) = tt
+edits_dropped true None = tt
+edits_dropped false None = tt
+
+edits_drop_table : (schema : Schema) (if_exists : Bool) (name : Name) → Every IsEdit (drop_table schema if_exists name)
+unfolding drop_table
+edits_drop_table schema if_exists name =
+    either IsEdit (is_reserved name) (Err Misuse) _ tt (either IsEdit (is_some (view_named schema name)) (Err Misuse)
+    (dropped DropTable NoSuchTable if_exists (table_named schema name)) tt (edits_dropped if_exists (table_named schema name)))
+
 edits_command : (schema : Schema) (formats : List Name) (base : ℕ) (st : Statement) → IsWritten st → Every IsEdit (command schema formats base st)
 unfolding command
 edits_command schema formats base (written.Insert conflict.Abort name columns rows clauses shown) is = edits_insert_or_abort schema base name columns rows clauses
@@ -137,6 +150,7 @@ edits_command schema formats base (written.Update name sets test shown) is = edi
 edits_command schema formats base (written.Delete name test shown) is = edits_delete schema name test
 edits_command schema formats base (written.CreateTable def) is = edits_create_table schema formats def
 edits_command schema formats base (written.CreateIndex def) is = edits_create_index schema def
+edits_command schema formats base (written.DropTable if_exists name) is = edits_drop_table schema if_exists name
 edits_command schema formats base _ is = absurd is
 
 abbrev Found : Command × Option Returning → Type 0

@@ -1,4 +1,4 @@
--- What keeps a store of version 2 in order.
+-- What keeps a store of version 2 or 3 in order.
 use Rattle.std.proofs.Common.{◌≡◌, ◌≤◌, ◌<◌, ℕ, suc, List, [], ◌∷◌, filter, length, min, not, Bool, true, false, cond, Ok, Err, Result, refl, sym}
 use Rattle.std.proofs.Common.{◌^◌, ◌-◌, ◌++◌, Option, Some, None, subst, arith, ◌∙◌}
 use Rattle.std.specs.Prelude.{IfSome}
@@ -12,7 +12,10 @@ use Rattle.fuse_init.specs.declared.profile.Profile.TheVariants.{Plain, Everyday
 use Rattle.fuse_init.specs.Profile.{terms}
 use Rattle.fuse_store_tables.specs.Content.{Content, Holds, LeftAs, node_key, value_at, set_counter, is_unnamed}
 use Rattle.fuse_store_tables.specs.Clearing.{cleared, counted_to, lowered, named, unnamed_blocks}
-use Rattle.fuse_store_tables.specs.Making.{new_content, first_counters, room_counters}
+use Rattle.fuse_store_tables.specs.Making.{new_content, first_counters, volume_counters, layout_for, IsVolume}
+use Rattle.fuse_store_tables.specs.declared.version.Volume.{Volume}
+use Rattle.fuse_store_tables.specs.declared.version.Layout.TheVariants.{Second, Third}
+use Rattle.fuse_store_tables.specs.Layout.{version_of}
 use Rattle.fuse_store_tables.specs.Moves.{RestsAs, Serves, ServesAs, IsSafe}
 use Rattle.fuse_store_tables.specs.Opening.{greatest_value, profile_in, meta_rows, IsMetaFrom, MetaOf, AreAbove, IsFitContent, IsSecond}
 use Rattle.fuse_store_tables.proofs.MetaLemmas.{meta_set}
@@ -37,7 +40,7 @@ fit_set key v free c low fit =
     record {
       version = value_set key v 1 free.version c ∙ fit.version;
       meta = subst (λ q. MetaOf q (set_counter key v c)) (sym (profile_set key v c))
-          (meta_set p 1 (meta_rows p) key v c.counters fit.meta.0 low, room_set p key v free.room c fit.meta.1);
+          (meta_set p 1 (meta_rows c.layout p) key v c.counters fit.meta.0 low, room_set p key v free.room c fit.meta.1);
       above = above_set key v free.others c fit.above;
       lots = lots_set key v free.lot c fit.lots;
       errnos = fit.errnos;
@@ -94,11 +97,11 @@ free_ten = free_by 10 refl refl refl refl refl refl refl refl
 fit_lowered : (c : Content) → IsFitContent c → IsFitContent (lowered c)
 fit_lowered c fit =
     let p = profile_in c in
-    let left = value_at 14 c - unnamed_blocks c.nodes in
+    let left = value_at 14 c - unnamed_blocks c.layout c.nodes in
     record {
       version = value_set 14 left 1 refl c ∙ fit.version;
       meta = subst (λ q. MetaOf q (lowered c)) (sym (profile_set 14 left c))
-          (meta_set p 1 (meta_rows p) 14 left c.counters fit.meta.0 (lowered_low p (meta_rows p) c fit.meta.0), room_lowered p c fit.meta.1);
+          (meta_set p 1 (meta_rows c.layout p) 14 left c.counters fit.meta.0 (lowered_low p (meta_rows c.layout p) c fit.meta.0), room_lowered p c fit.meta.1);
       above = above_set 14 left (record { node = refl; fh = refl; cookie = refl }) c fit.above;
       lots = lots_set 14 left refl c fit.lots;
       errnos = fit.errnos;
@@ -137,7 +140,7 @@ fit_cleared c fit =
 one_below_two : 1 < 2
 one_below_two = omega arith
 
-first_meta : IsMetaFrom Plain 1 11 first_counters
+first_meta : IsMetaFrom Plain 1 11 (first_counters Second)
 first_meta = (
   refl,
   omega arith,
@@ -160,15 +163,11 @@ first_meta = (
   ),
 )
 
--- of an everyday store: the number of its profile, its capacity, and no blocks in use
-room_meta : (capacity : ℕ) → capacity < 2 ^ 51 → IsMetaFrom Everyday 1 14 (first_counters ++ room_counters capacity 0)
-room_meta capacity low = (
-  refl,
-  omega arith,
-  (
-    refl,
-    omega arith,
-    (
+-- of an everyday store: the number of its profile, its capacity, no blocks in use, and its own number
+volume_meta : (volume : Volume) → IsVolume volume → IsMetaFrom Everyday 1 15 (first_counters Third ++ volume_counters volume)
+volume_meta volume is =
+    let low = is.capacity in
+    let small = is.number in (
       refl,
       omega arith,
       (
@@ -186,43 +185,57 @@ room_meta capacity low = (
               (
                 refl,
                 omega arith,
-                (refl, omega arith, (refl, omega arith, (refl, omega arith, (refl, omega arith, (refl, omega (arith, low), (refl, omega arith, tt)))))),
+                (
+                  refl,
+                  omega arith,
+                  (
+                    refl,
+                    omega arith,
+                    (
+                      refl,
+                      omega arith,
+                      (
+                        refl,
+                        omega arith,
+                        (refl, omega arith, (refl, omega arith, (refl, omega (arith, low), (refl, omega arith, (refl, omega (arith, small), tt))))),
+                      ),
+                    ),
+                  ),
+                ),
               ),
             ),
           ),
         ),
       ),
-    ),
-  ),
-)
+    )
 
 from_zero : (n : ℕ) → 0 ≤ n
 from_zero n = omega arith
 
-new_meta : (room : Option ℕ) → IfSome room (λ capacity. capacity < 2 ^ 51) → (from : Origin) → MetaOf (profile_in (new_content room from)) (new_content room from)
-new_meta None low from = (first_meta, tt)
-new_meta (Some capacity) low from = (room_meta capacity low, (refl, from_zero capacity))
+new_meta : (volume : Option Volume) → IfSome volume IsVolume → (from : Origin) → MetaOf (profile_in (new_content volume from)) (new_content volume from)
+new_meta None is from = (first_meta, tt)
+new_meta (Some volume) is from = (volume_meta volume is, (refl, from_zero volume.capacity))
 
-new_few : (room : Option ℕ) (from : Origin) → AreFew (new_content room from) (profile_in (new_content room from))
+new_few : (volume : Option Volume) (from : Origin) → AreFew (new_content volume from) (profile_in (new_content volume from))
 new_few None from = omega arith
-new_few (Some capacity) from = omega arith
+new_few (Some volume) from = omega arith
 
-new_version : (room : Option ℕ) (from : Origin) → value_at 1 (new_content room from) ≡ 2
+new_version : (volume : Option Volume) (from : Origin) → value_at 1 (new_content volume from) ≡ version_of (layout_for volume)
 new_version None from = refl
-new_version (Some capacity) from = refl
+new_version (Some volume) from = refl
 
-new_above : (room : Option ℕ) (from : Origin) → AreAbove (new_content room from)
+new_above : (volume : Option Volume) (from : Origin) → AreAbove (new_content volume from)
 new_above None from = record { nodes = (one_below_two, tt); handles = tt; entries = tt }
-new_above (Some capacity) from = record { nodes = (one_below_two, tt); handles = tt; entries = tt }
+new_above (Some volume) from = record { nodes = (one_below_two, tt); handles = tt; entries = tt }
 
-pub fit_new : (room : Option ℕ) (from : Origin) → IfSome room (λ capacity. capacity < 2 ^ 51) → IsFitContent (new_content room from)
-fit_new room from low = record {
-  version = new_version room from;
-  meta = new_meta room low from;
-  above = new_above room from;
+pub fit_new : (volume : Option Volume) (from : Origin) → IfSome volume IsVolume → IsFitContent (new_content volume from)
+fit_new volume from is = record {
+  version = new_version volume from;
+  meta = new_meta volume is from;
+  above = new_above volume from;
   lots = tt;
   errnos = tt;
-  few = new_few room from;
+  few = new_few volume from;
 }
 
 -- a whole transaction, where the content stays in order

@@ -19,16 +19,19 @@ use Rattle.sqlite.specs.declared.error.Error.{Error}
 use Rattle.sqlite.specs.Listing.{understood}
 use Rattle.sqlite.specs.State.{State, HasCleanDisk, Survives, CommitsBy, Writes}
 use Rattle.sqlite.proofs.Callers.{IsPlain, command_of, statement_of}
-use Rattle.fuse_store_tables.specs.Layout.{kept, store_schema}
+use Rattle.fuse_store_tables.specs.Layout.{kept, schema_for}
 use Rattle.fuse_store_tables.specs.Content.{Content, Kept, Holds, stored, has_by, without_by, kept_key, kept_row, without_four}
 use Rattle.fuse_store_tables.specs.Moves.{Makes}
 use Rattle.fuse_store_tables.specs.inner.Performing.{Ran}
-use Rattle.fuse_store_tables.proofs.Writing.{makes}
 use Rattle.fuse_store_tables.proofs.Tables.{wrote, only_kept}
 use Rattle.fuse_store_tables.proofs.Keyed.{row_cmp_nat}
 use Rattle.fuse_store_tables.proofs.Deletes.{picking, picks}
 use Rattle.sqlite_resolve.specs.Compile.{first}
 use Rattle.fuse_store_tables.proofs.Edits.{IsEditText}
+use Rattle.fuse_store_tables.specs.declared.version.Layout.{Layout}
+use Rattle.fuse_store_tables.specs.declared.version.Layout.TheVariants.{Second, Third}
+use Rattle.fuse_store_tables.proofs.Laid.{makes_laid}
+use Rattle.fuse_store_tables.proofs.Tables.{kept_at, kept_listed, laid}
 
 -- ---- the statement
 
@@ -43,13 +46,15 @@ four_terms =
     op2 (Compare Ge Binary) (col 1 0) (col 0 0) ∷ op2 (Compare Le Binary) (col 1 0) (col 0 3)
     ∷ op2 Or (op2 Or (same 0) (same 1)) (op2 Or (same 2) (same 3)) ∷ []
 
-four_is : command_of (understood store_schema four_text) ≡ Delete 7 (picking 10 four_terms)
+four_is : (l : Layout) → command_of (understood (schema_for l) four_text) ≡ Delete (kept_at l) (picking 10 four_terms)
 unfolding understood everything
-four_is = refl
+four_is Second = refl
+four_is Third = refl
 
-four_plain : IsPlain (understood store_schema four_text)
+four_plain : (l : Layout) → IsPlain (understood (schema_for l) four_text)
 unfolding understood everything
-four_plain = (refl, refl)
+four_plain Second = (refl, refl)
+four_plain Third = (refl, refl)
 
 pub four_edit : IsEditText (first four_text)
 unfolding first everything
@@ -130,15 +135,15 @@ module _ (first second third last : ℕ) where
         by false false false true is is_b is_c is_d more = rw is (rw is_b (rw is_c (rw is_d more)))
         by false false false false is is_b is_c is_d more = rw is (rw is_b (rw is_c (rw is_d (ap (λ l. x ∷ l) more))))
 
-    gone : (c : Content) (old new : State) (n : ℕ) → Holds c old.now → Writes old new None (Delete 7 (picking 10 four_terms)) (statement_of four_text
-        (understood store_schema four_text)) params n → Holds (without_four first second third last c) new.now
+    gone : (c : Content) (old new : State) (n : ℕ) → Holds c old.now → Writes old new None (Delete (kept_at c.layout) (picking 10 four_terms)) (statement_of four_text
+        (understood (schema_for c.layout) four_text)) params n → Holds (without_four first second third last c) new.now
     gone c old new n at w =
-        let was = at.rows.1.1.1.1.1.1.1.0 in
-        let now = picks kept_key kept_row (λ _. refl) passes 7 kept refl four_terms params tests (λ _. refl) c.kept old new _ n at.schema was.0 was.1 w in
-        wrote store_schema (stored c) (stored (without_four first second third last c)) kept old.now new.now at now.2 w.sound (only_kept c _)
+        let was = (laid c old.now at).kept in
+        let now = picks c.layout kept_key kept_row (λ _. refl) passes (kept_at c.layout) kept (kept_listed c.layout) four_terms params tests (λ _. refl) c.kept old new _ n at.schema was.0 was.1 w in
+        wrote (schema_for c.layout) (stored c) (stored (without_four first second third last c)) kept old.now new.now at now.2 w.sound (only_kept c _)
         (now.0 ∙ ap (map kept_row) (left c.kept)) now.1
 
     pub removes_four : (old new : State) (r : Result (Unit {0}) Error) → (HasCleanDisk new → Ran four_text params old new r)
         → Survives old new (CommitsBy four_text params old) → Makes (without_four first second third last) old new r
-    removes_four = makes Holds store_schema (λ c d h. h.schema) four_text params (Delete 7 (picking 10 four_terms)) four_is four_plain refl four_edit
+    removes_four = makes_laid four_text params (λ l. Delete (kept_at l) (picking 10 four_terms)) four_is four_plain (λ _. refl) four_edit
         (λ c. Holds (without_four first second third last c)) gone

@@ -12,26 +12,28 @@ use Rattle.sqlite.specs.Order.{Row}
 use Rattle.fuse_init.specs.declared.profile.Profile.{Profile}
 use Rattle.fuse_init.specs.declared.profile.Profile.TheVariants.{Plain, Everyday}
 use Rattle.fuse_rows.specs.declared.rows.NodeRow.{NodeRow}
-use Rattle.fuse_store_tables.specs.Clearing.{blocks_in, lowered, unnamed_blocks}
+use Rattle.fuse_store_tables.specs.Clearing.{blocks_in, extent_of, lowered, unnamed_blocks}
+use Rattle.fuse_store_tables.specs.declared.version.Layout.{Layout}
 use Rattle.fuse_store_tables.specs.Content.{Content, Counter, counter_key, has_by, at_by, set_by, valued, value_at, set_counter, is_unnamed, shown_counter}
 use Rattle.fuse_store_tables.specs.Opening.{IsMetaFrom, HasRoomOf, greatest_value}
 use Rattle.fuse_store_tables.specs.inner.Columns.{number_of_row, shown_number}
-use Rattle.fuse_store_tables.specs.inner.Steps.{lowered_from, read_blocks, unnamed_sizes}
+use Rattle.fuse_store_tables.specs.inner.Steps.{lowered_from, read_blocks, unnamed_extents}
 use Rattle.fuse_store_tables.proofs.CounterValues.{value_set}
 
--- ---- sizes that are read
+-- ---- what was read of nodes
 
-sizes_read : (ns : List NodeRow) → read_blocks (map shown_number (map (λ (n : NodeRow). n.size) ns)) ≡ sum_by (λ n. blocks_in n.size) ns
-sizes_read [] = refl
-sizes_read (n ∷ ns) =
-    sum_by-cons (λ r. blocks_in (number_of_row r)) (shown_number n.size) (map shown_number (map (λ (m : NodeRow). m.size) ns))
-    ∙ ap (λ more. blocks_in n.size + more) (sizes_read ns) ∙ sym (sum_by-cons (λ (m : NodeRow). blocks_in m.size) n ns)
+extents_read : (l : Layout) (ns : List NodeRow) → read_blocks l (map shown_number (map (extent_of l) ns)) ≡ sum_by (λ n. blocks_in l (extent_of l n)) ns
+extents_read l [] = refl
+extents_read l (n ∷ ns) =
+    sum_by-cons (λ r. blocks_in l (number_of_row r)) (shown_number (extent_of l n)) (map shown_number (map (extent_of l) ns))
+    ∙ ap (λ more. blocks_in l (extent_of l n) + more) (extents_read l ns) ∙ sym (sum_by-cons (λ (m : NodeRow). blocks_in l (extent_of l m)) n ns)
 
 -- the number that is left is that of the content
-pub left_is : (rows : List Row) (c : Content) (used left : ℕ) → rows ≡ map shown_number (unnamed_sizes c.nodes) → left ≡ used - read_blocks rows
-    → set_counter 14 left c ≡ lowered_from used c
-left_is rows c used left are is =
-    ap (λ n. set_counter 14 n c) (is ∙ ap (λ rs. used - read_blocks rs) are ∙ ap (λ n. used - n) (sizes_read (filter is_unnamed c.nodes)))
+pub left_is : (l : Layout) (rows : List Row) (c : Content) (used left : ℕ) → l ≡ c.layout → rows ≡ map shown_number (unnamed_extents l c.nodes)
+    → left ≡ used - read_blocks l rows → set_counter 14 left c ≡ lowered_from used c
+left_is l rows c used left same are is =
+    ap (λ n. set_counter 14 n c) (is ∙ ap (λ rs. used - read_blocks l rs) are ∙ ap (λ n. used - n) (extents_read l (filter is_unnamed c.nodes))
+    ∙ ap (λ k. used - unnamed_blocks k c.nodes) same)
 
 minus_more : (left used so_far size next : ℕ) → left ≡ used - so_far → next ≡ so_far + size → left - size ≡ used - next
 minus_more left used so_far size next is more = omega (arith, is, more)
@@ -39,12 +41,12 @@ minus_more left used so_far size next is more = omega (arith, is, more)
 pub left_low : (used so_far left : ℕ) → left ≡ used - so_far → left ≤ used
 left_low used so_far left is = omega (arith, is)
 
--- one size more
-pub left_more : (rows : List Row) (at : ℕ) (d : Row) (used left : ℕ) → at < length rows → left ≡ used - read_blocks (take at rows)
-    → left - blocks_in (number_of_row (slice_index_or rows at d)) ≡ used - read_blocks (take (at + 1) rows)
-left_more rows at d used left low is =
-    minus_more left used (read_blocks (take at rows)) (blocks_in (number_of_row (slice_index_or rows at d))) (read_blocks (take (at + 1) rows)) is
-    (sum_by_more (λ r. blocks_in (number_of_row r)) rows at d low)
+-- one node more
+pub left_more : (l : Layout) (rows : List Row) (at : ℕ) (d : Row) (used left : ℕ) → at < length rows → left ≡ used - read_blocks l (take at rows)
+    → left - blocks_in l (number_of_row (slice_index_or rows at d)) ≡ used - read_blocks l (take (at + 1) rows)
+left_more l rows at d used left low is =
+    minus_more left used (read_blocks l (take at rows)) (blocks_in l (number_of_row (slice_index_or rows at d))) (read_blocks l (take (at + 1) rows)) is
+    (sum_by_more (λ r. blocks_in l (number_of_row r)) rows at d low)
 
 -- ---- the number that was in use
 
@@ -90,7 +92,7 @@ none_set key v (c ∷ cs) none = elim (cases_Bool (has_by counter_key key c)) [
 
 -- a plain store stays as it is
 pub lowered_plain : (c : Content) → at_by counter_key 14 c.counters ≡ None → lowered c ≡ c
-lowered_plain c none = ap (λ cs. record c { counters = cs }) (none_set 14 (value_at 14 c - unnamed_blocks c.nodes) c.counters none)
+lowered_plain c none = ap (λ cs. record c { counters = cs }) (none_set 14 (value_at 14 c - unnamed_blocks c.layout c.nodes) c.counters none)
 
 no_row : (o : Option Counter) → map shown_counter (option_to_list o) ≡ [] → o ≡ None
 no_row None is = refl
@@ -107,7 +109,7 @@ not_above v = omega arith
 from_zero : (n : ℕ) → 0 ≤ n
 from_zero n = omega arith
 
-set_at_most : (key v : ℕ) (cs : List Counter) → value_in (at_by counter_key key (set_by counter_key key (valued v) cs)) ≤ v
+pub set_at_most : (key v : ℕ) (cs : List Counter) → value_in (at_by counter_key key (set_by counter_key key (valued v) cs)) ≤ v
 set_at_most key v [] = from_zero v
 set_at_most key v (c ∷ cs) =
     let rest = set_by counter_key key (valued v) cs in
@@ -123,7 +125,7 @@ set_at_most key v (c ∷ cs) =
 is_key : (a b : ℕ) → is_eq (nat_cmp a b) ≡ true → a ≡ b
 is_key a b is = grind (arith, nat_tests)
 
-value_low : (p : Profile) (k n key : ℕ) (cs : List Counter) → IsMetaFrom p k n cs → value_in (at_by counter_key key cs) ≤ greatest_value p key
+pub value_low : (p : Profile) (k n key : ℕ) (cs : List Counter) → IsMetaFrom p k n cs → value_in (at_by counter_key key cs) ≤ greatest_value p key
 value_low p k zero key [] meta = from_zero (greatest_value p key)
 value_low p k zero key (c ∷ cs) meta = absurd meta
 value_low p k (suc n) key [] meta = absurd meta
@@ -138,8 +140,8 @@ value_low p k (suc n) key (c ∷ cs) meta = elim (cases_Bool (has_by counter_key
 minus_low : (a b c : ℕ) → a ≤ c → a - b ≤ c
 minus_low a b c low = omega (arith, low)
 
-pub lowered_low : (p : Profile) (n : ℕ) (c : Content) → IsMetaFrom p 1 n c.counters → value_at 14 c - unnamed_blocks c.nodes ≤ greatest_value p 14
-lowered_low p n c meta = minus_low (value_at 14 c) (unnamed_blocks c.nodes) (greatest_value p 14) (value_low p 1 n 14 c.counters meta)
+pub lowered_low : (p : Profile) (n : ℕ) (c : Content) → IsMetaFrom p 1 n c.counters → value_at 14 c - unnamed_blocks c.layout c.nodes ≤ greatest_value p 14
+lowered_low p n c meta = minus_low (value_at 14 c) (unnamed_blocks c.layout c.nodes) (greatest_value p 14) (value_low p 1 n 14 c.counters meta)
 
 lower_still : (x a b c y : ℕ) → x ≤ a - b → a ≤ c → y ≡ c → x ≤ y
 lower_still x a b c y one two three = omega (arith, one, two, three)
@@ -147,7 +149,7 @@ lower_still x a b c y one two three = omega (arith, one, two, three)
 pub room_lowered : (p : Profile) (c : Content) → HasRoomOf p c → HasRoomOf p (lowered c)
 room_lowered Plain c room = tt
 room_lowered Everyday c room =
-    let left = value_at 14 c - unnamed_blocks c.nodes in (
+    let left = value_at 14 c - unnamed_blocks c.layout c.nodes in (
       value_set 14 left 12 refl c ∙ room.0,
-      lower_still _ (value_at 14 c) (unnamed_blocks c.nodes) (value_at 13 c) _ (set_at_most 14 left c.counters) room.1 (value_set 14 left 13 refl c),
+      lower_still _ (value_at 14 c) (unnamed_blocks c.layout c.nodes) (value_at 13 c) _ (set_at_most 14 left c.counters) room.1 (value_set 14 left 13 refl c),
     )

@@ -25,10 +25,14 @@ use Rattle.sqlite.specs.State.{State, HasCleanDisk, Survives, Shown, FailsToQuer
 use Rattle.fuse_keeper.specs.declared.fault.StoreFault.{StoreFault}
 use Rattle.fuse_keeper.specs.Faults.{fault_of}
 use Rattle.fuse_store_tables.specs.Faults.{IsPlain as IsPlainFault, IsOutside}
-use Rattle.fuse_store_tables.specs.Layout.{with_answers, with_kept, store_schema}
-use Rattle.fuse_store_tables.specs.Content.{Content, Counter, Holds, HoldsAs, stored, node_columns, lot_row, access_code}
+use Rattle.fuse_store_tables.specs.Layout.{with_answers, with_kept, schema_for}
+use Rattle.fuse_store_tables.specs.declared.version.Layout.{Layout}
+use Rattle.fuse_store_tables.specs.declared.version.Layout.TheVariants.{Second, Third}
+use Rattle.fuse_store_tables.proofs.Laid.{looks_laid, read_held_laid}
+use Rattle.fuse_store_tables.proofs.Tables.{laid}
+use Rattle.fuse_store_tables.specs.Content.{Content, Counter, Holds, node_columns, lot_row, access_code}
 use Rattle.fuse_store_tables.specs.Content.{node_key, cookie_of, fh_of, value_at}
-use Rattle.fuse_store_tables.specs.Opening.{IsLaid, HoldsUnindexed, AllBelow}
+use Rattle.fuse_store_tables.specs.Opening.{IsLaid, HoldsFirst, HoldsUnindexed, AllBelow}
 use Rattle.fuse_store_tables.specs.inner.Columns.{shown_number, shown_meta}
 use Rattle.fuse_store_tables.specs.inner.Checking.{ChecksIf, IsMetaIn}
 use Rattle.fuse_store_tables.specs.inner.Performing.{StaysWithin}
@@ -208,18 +212,18 @@ module _ {X Z : Type 0} (key : X → ℕ) (rows_in : Content → List X) (counte
 
 -- ---- a table that all versions have
 
-module _ {X Z : Type 0} (key : X → ℕ) (cells : X → Row) (rows_in : Content → List X) (tree : ℕ) (text : List ℕ) (names : List (List ℕ))
+module _ {X Z : Type 0} (key : X → ℕ) (cells : Content → X → Row) (rows_in : Content → List X) (tree : ℕ) (text : List ℕ) (names : List (List ℕ))
     (reads : IsRead text (from_query tree) names)
-    (has : (c : Content) (d : Database) → HasFirstRows c d → (overlay d.trees [] tree ≡ map (row_of key cells) (rows_in c)) × IsTable (overlay d.trees [] tree)) (next : ℕ)
+    (has : (c : Content) (d : Database) → HasFirstRows c d → (overlay d.trees [] tree ≡ map (row_of key (cells c)) (rows_in c)) × IsTable (overlay d.trees [] tree)) (next : ℕ)
     (items : Z → List Row) where
   asks_table : Asks key rows_in text next items
   asks_table = record {
     selects = reads.selects;
-    looks = looks_in text (Int (pos next) ∷ []) (from_query tree) names reads (λ c. HoldsAs with_answers (stored c)) Holds HoldsUnindexed any_rows items;
+    looks = looks_in text (Int (pos next) ∷ []) (from_query tree) names reads HoldsFirst Holds HoldsUnindexed any_rows items;
     finds =
-        finds_in text (Int (pos next) ∷ []) (from_query tree) names reads (λ c. HoldsAs with_answers (stored c)) Holds HoldsUnindexed any_rows items
+        finds_in text (Int (pos next) ∷ []) (from_query tree) names reads HoldsFirst Holds HoldsUnindexed any_rows items
         (λ c rows. rows ≡ shown_from key next (rows_in c))
-        (λ c d rows h answers. found_from key next cells tree (rows_in c) d rows (has c d h) answers);
+        (λ c d rows h answers. found_from key next (cells c) tree (rows_in c) d rows (has c d h) answers);
   }
 
 -- ---- nodes
@@ -231,17 +235,22 @@ nodes_select : IsSelectText (first nodes_text)
 unfolding first everything
 nodes_select = (_, refl)
 
+nodes_in : (l : Layout) → IsReadIn (schema_for l) nodes_text (from_query 1) (codes "node" ∷ [])
+unfolding understood everything
+nodes_in Second = record { is = refl; plain = (refl, refl); unlisted = refl }
+nodes_in Third = record { is = refl; plain = (refl, refl); unlisted = refl }
+
 nodes_read : IsRead nodes_text (from_query 1) (codes "node" ∷ [])
 unfolding understood everything
 nodes_read = record {
   first = record { is = refl; plain = (refl, refl); unlisted = refl };
-  second = record { is = refl; plain = (refl, refl); unlisted = refl };
+  second = nodes_in;
   unindexed = record { is = refl; plain = (refl, refl); unlisted = refl };
   selects = nodes_select;
 }
 
 pub asks_nodes : {Z : Type 0} (next : ℕ) (items : Z → List Row) → Asks node_key (λ c. c.nodes) nodes_text next items
-asks_nodes next items = asks_table node_key (λ n. Null ∷ node_columns n) (λ c. c.nodes) 1 nodes_text (codes "node" ∷ []) nodes_read (λ c d h. h.1.0) next items
+asks_nodes next items = asks_table node_key (λ c n. Null ∷ node_columns c.layout n) (λ c. c.nodes) 1 nodes_text (codes "node" ∷ []) nodes_read (λ c d h. h.nodes) next items
 
 -- ---- handles
 
@@ -252,17 +261,22 @@ handles_select : IsSelectText (first handles_text)
 unfolding first everything
 handles_select = (_, refl)
 
+handles_in : (l : Layout) → IsReadIn (schema_for l) handles_text (from_query 7) (codes "fh" ∷ [])
+unfolding understood everything
+handles_in Second = record { is = refl; plain = (refl, refl); unlisted = refl }
+handles_in Third = record { is = refl; plain = (refl, refl); unlisted = refl }
+
 handles_read : IsRead handles_text (from_query 7) (codes "fh" ∷ [])
 unfolding understood everything
 handles_read = record {
   first = record { is = refl; plain = (refl, refl); unlisted = refl };
-  second = record { is = refl; plain = (refl, refl); unlisted = refl };
+  second = handles_in;
   unindexed = record { is = refl; plain = (refl, refl); unlisted = refl };
   selects = handles_select;
 }
 
 pub asks_handles : {Z : Type 0} (next : ℕ) (items : Z → List Row) → Asks fh_of (λ c. c.handles) handles_text next items
-asks_handles next items = asks_table fh_of (λ h. Null ∷ Int (pos h.node) ∷ Int (pos (access_code h.access)) ∷ []) (λ c. c.handles) 7 handles_text (codes "fh" ∷ []) handles_read (λ c d h. h.1.1.1.1.0) next items
+asks_handles next items = asks_table fh_of (λ _ h. Null ∷ Int (pos h.node) ∷ Int (pos (access_code h.access)) ∷ []) (λ c. c.handles) 7 handles_text (codes "fh" ∷ []) handles_read (λ c d h. h.handles) next items
 
 -- ---- entries
 
@@ -273,17 +287,22 @@ entries_select : IsSelectText (first entries_text)
 unfolding first everything
 entries_select = (_, refl)
 
+entries_in : (l : Layout) → IsReadIn (schema_for l) entries_text (from_query 2) (codes "cookie" ∷ [])
+unfolding understood everything
+entries_in Second = record { is = refl; plain = (refl, refl); unlisted = refl }
+entries_in Third = record { is = refl; plain = (refl, refl); unlisted = refl }
+
 entries_read : IsRead entries_text (from_query 2) (codes "cookie" ∷ [])
 unfolding understood everything
 entries_read = record {
   first = record { is = refl; plain = (refl, refl); unlisted = refl };
-  second = record { is = refl; plain = (refl, refl); unlisted = refl };
+  second = entries_in;
   unindexed = record { is = refl; plain = (refl, refl); unlisted = refl };
   selects = entries_select;
 }
 
 pub asks_entries : {Z : Type 0} (next : ℕ) (items : Z → List Row) → Asks cookie_of (λ c. c.entries) entries_text next items
-asks_entries next items = asks_table cookie_of (λ e. Null ∷ Int (pos e.dir) ∷ Blob e.name ∷ Int (pos e.child) ∷ []) (λ c. c.entries) 2 entries_text (codes "cookie" ∷ []) entries_read (λ c d h. h.1.1.0) next items
+asks_entries next items = asks_table cookie_of (λ _ e. Null ∷ Int (pos e.dir) ∷ Blob e.name ∷ Int (pos e.child) ∷ []) (λ c. c.entries) 2 entries_text (codes "cookie" ∷ []) entries_read (λ c d h. h.entries) next items
 
 -- ---- lots, of which version 1 has none
 
@@ -294,9 +313,10 @@ lots_select : IsSelectText (first lots_text)
 unfolding first everything
 lots_select = (_, refl)
 
-lots_second : IsReadIn store_schema lots_text (from_query 9) (codes "lot" ∷ [])
+lots_second : (l : Layout) → IsReadIn (schema_for l) lots_text (from_query 9) (codes "lot" ∷ [])
 unfolding understood everything
-lots_second = record { is = refl; plain = (refl, refl); unlisted = refl }
+lots_second Second = record { is = refl; plain = (refl, refl); unlisted = refl }
+lots_second Third = record { is = refl; plain = (refl, refl); unlisted = refl }
 
 lots_unindexed : IsReadIn with_kept lots_text (from_query 9) (codes "lot" ∷ [])
 unfolding understood everything
@@ -307,13 +327,13 @@ unfolding understood listing_schema everything
 lots_first = refl
 
 abbrev First : Content → Database → Type 0
-First c = HoldsAs with_answers (stored c)
+First = HoldsFirst
 
 module _ (next : ℕ) where
   never_first : {X : Type 0} (c : Content) (a b : State) (rows : List Row) → First c a.now → Shown lots_text (Int (pos next) ∷ []) a b rows → X
   unfolding Shown
   never_first c a b rows at h =
-      absurd (let clash = sym (ap is_ok h.1.is) ∙ ap (λ (s : Schema). is_ok (understood s lots_text)) at.schema ∙ lots_first in cc)
+      absurd (let clash = sym (ap is_ok h.1.is) ∙ ap (λ (s : Schema). is_ok (understood s lots_text)) at.0.schema ∙ lots_first in cc)
 
   first_looks : {Z : Type 0} (items : Z → List Row) (a b : State) (r : Result Z Error)
       → (HasCleanDisk b → IfOk r (λ x. Shown lots_text (Int (pos next) ∷ []) a b (items x))) → StaysWithin a b r → Takes First First a b r
@@ -335,8 +355,8 @@ module _ (next : ℕ) where
     lots_looks a b r ok err survives =
         both_looks (Both First Holds) HoldsUnindexed a b r
         (both_looks First Holds a b r (first_looks items a b r ok (reads_within lots_text (Int (pos next) ∷ []) lots_select items a b r ok err survives))
-        (looks Holds store_schema (λ c d h. h.schema) lots_text (Int (pos next) ∷ []) _ lots_second.is lots_second.plain lots_select items a b r ok err survives))
-        (looks HoldsUnindexed with_kept (λ c d h. h.schema) lots_text (Int (pos next) ∷ []) _ lots_unindexed.is lots_unindexed.plain lots_select items a b r ok err survives)
+        (looks_laid lots_text (Int (pos next) ∷ []) _ (λ l. (lots_second l).is) (λ l. (lots_second l).plain) lots_select items a b r ok err survives))
+        (looks HoldsUnindexed with_kept (λ c d h. h.0.schema) lots_text (Int (pos next) ∷ []) _ lots_unindexed.is lots_unindexed.plain lots_select items a b r ok err survives)
 
     found_lots : (c : Content) (d : Database) (rows : List Row) → (d.trees 9 ≡ map lot_row c.lots) × IsTable (d.trees 9)
         → Answers d (from_query 9) (Int (pos next) ∷ []) rows → rows ≡ shown_from (λ lot. lot) next c.lots
@@ -349,13 +369,13 @@ module _ (next : ℕ) where
       | inl whole ↦ elim whole [
         | inl h ↦ never_first c a b (items x) h (ok clean)
         | inr h ↦
-            found_lots c a.now (items x) h.rows.1.1.1.1.1.1.0
-            (read Holds store_schema (λ k d g. g.schema) lots_text (Int (pos next) ∷ []) _ lots_second.is lots_second.plain lots_second.unlisted c a b (items x)
-            (record { is_open = at.is_open; in_transaction = at.in_transaction; holds = h }) (ok clean))
+            found_lots c a.now (items x) (laid c a.now h).lots
+            (read_held_laid lots_text (Int (pos next) ∷ []) _ (λ l. (lots_second l).is) (λ l. (lots_second l).plain) (λ l. (lots_second l).unlisted) c a b (items x)
+            h (ok clean))
       ]
       | inr h ↦
-          found_lots c a.now (items x) h.rows.1.1.1.1.1.1.0
-          (read HoldsUnindexed with_kept (λ k d g. g.schema) lots_text (Int (pos next) ∷ []) _ lots_unindexed.is lots_unindexed.plain lots_unindexed.unlisted c a b
+          found_lots c a.now (items x) h.0.rows.1.1.1.1.1.1.0
+          (read HoldsUnindexed with_kept (λ k d g. g.0.schema) lots_text (Int (pos next) ∷ []) _ lots_unindexed.is lots_unindexed.plain lots_unindexed.unlisted c a b
           (items x) (record { is_open = at.is_open; in_transaction = at.in_transaction; holds = h }) (ok clean))
     ]
 

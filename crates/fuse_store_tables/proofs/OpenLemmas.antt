@@ -26,9 +26,13 @@ use Rattle.sqlite.specs.declared.error.Error.{Error}
 use Rattle.sqlite.specs.Listing.{understood, reads_listing}
 use Rattle.sqlite.specs.State.{State, HasCleanDisk, Survives, Shown, FailsToQuery, CommitsShowing}
 use Rattle.sqlite.proofs.Callers.{IsPlain, command_of}
-use Rattle.fuse_store_tables.specs.Layout.{with_answers, with_kept, store_schema}
-use Rattle.fuse_store_tables.specs.Content.{Content, Counter, Holds, HoldsAs, HasRows, stored, counter_row, counter_key, has_by, at_by, value_at, shown_counter}
-use Rattle.fuse_store_tables.specs.Opening.{IsFirst, IsSecond, IsUnindexed, HoldsUnindexed, IsLaid, HasMeta, HasSecondMeta}
+use Rattle.fuse_store_tables.specs.Layout.{with_answers, with_kept, schema_for, version_of}
+use Rattle.fuse_store_tables.specs.declared.version.Layout.{Layout}
+use Rattle.fuse_store_tables.specs.declared.version.Layout.TheVariants.{Second, Third}
+use Rattle.fuse_store_tables.proofs.Laid.{looks_over, read_held_laid}
+use Rattle.fuse_store_tables.proofs.Tables.{laid}
+use Rattle.fuse_store_tables.specs.Content.{Content, Counter, Holds, stored, counter_row, counter_key, has_by, at_by, value_at, shown_counter}
+use Rattle.fuse_store_tables.specs.Opening.{IsFirst, IsSecond, IsUnindexed, HoldsFirst, HoldsUnindexed, IsLaid, HasMeta, HasSecondMeta}
 use Rattle.fuse_store_tables.specs.inner.Steps.{Tests}
 use Rattle.fuse_store_tables.specs.inner.Columns.{shown_meta}
 use Rattle.fuse_store_tables.specs.Moves.{InsideAs, Takes}
@@ -40,35 +44,46 @@ use Rattle.fuse_store_tables.proofs.Either.{Both, both_looks}
 use Rattle.sqlite_resolve.specs.Compile.{first as first_of}
 use Rattle.fuse_store_tables.proofs.Queries.{IsSelectText}
 
--- families of databases of the two versions, and of version 2 without the index
+-- families of databases of version 1, of the later ones, and of version 2 without the index
 pub record Versions (First Second Unindexed : Content → Database → Type 0) : Type 0 where
-  pub first : (c : Content) (d : Database) → First c d → HoldsAs with_answers (stored c) d
+  pub first : (c : Content) (d : Database) → First c d → HoldsFirst c d
   pub second : (c : Content) (d : Database) → Second c d → Holds c d
   pub unindexed : (c : Content) (d : Database) → Unindexed c d → HoldsUnindexed c d
 
 pub in_order : Versions IsFirst IsSecond IsUnindexed
 in_order = record { first = λ c d h. h.holds; second = λ c d h. h.holds; unindexed = λ c d h. h.holds }
 
-pub any_rows : Versions (λ c. HoldsAs with_answers (stored c)) Holds HoldsUnindexed
+pub any_rows : Versions HoldsFirst Holds HoldsUnindexed
 any_rows = record { first = λ c d h. h; second = λ c d h. h; unindexed = λ c d h. h }
 
 abbrev no_limit : Term
 no_limit = lit (Int (negsuc 0))
 
--- ---- the tables of version 1, which all of them have
+-- ---- the tables that all of them have
 
-abbrev pub HasFirstRows : Content → Database → Type 0
-HasFirstRows c d = AllByRecursion (HasRows (stored c) d.trees) with_answers.tables
+abbrev HasIn : Content → Database → ℕ → Type 0
+HasIn c d tree = (d.trees tree ≡ stored c tree) × IsTable (d.trees tree)
+
+pub record HasFirstRows (c : Content) (d : Database) : Type 0 where
+  pub counters : HasIn c d 0
+  pub nodes : HasIn c d 1
+  pub entries : HasIn c d 2
+  pub handles : HasIn c d 7
+
+rows_of_first : (c : Content) (d : Database) → HoldsFirst c d → HasFirstRows c d
+rows_of_first c d h =
+    let r = h.0.rows in
+    record { counters = r.0; nodes = r.1.0; entries = r.1.1.0; handles = r.1.1.1.1.0 }
 
 rows_of_second : (c : Content) (d : Database) → Holds c d → HasFirstRows c d
 rows_of_second c d h =
-    let r = h.rows in
-    (r.0, (r.1.0, (r.1.1.0, (r.1.1.1.0, (r.1.1.1.1.0, (r.1.1.1.1.1.0, tt))))))
+    let r = laid c d h in
+    record { counters = r.counters; nodes = r.nodes; entries = r.entries; handles = r.handles }
 
 rows_of_unindexed : (c : Content) (d : Database) → HoldsUnindexed c d → HasFirstRows c d
 rows_of_unindexed c d h =
-    let r = h.rows in
-    (r.0, (r.1.0, (r.1.1.0, (r.1.1.1.0, (r.1.1.1.1.0, (r.1.1.1.1.1.0, tt))))))
+    let r = h.0.rows in
+    record { counters = r.0; nodes = r.1.0; entries = r.1.1.0; handles = r.1.1.1.1.0 }
 
 -- ---- a text that all of them read in the same way
 
@@ -79,7 +94,7 @@ pub record IsReadIn (layout : Schema) (sql : List ℕ) (q : Program) (names : Li
 
 pub record IsRead (sql : List ℕ) (q : Program) (names : List (List ℕ)) : Type 0 where
   pub first : IsReadIn with_answers sql q names
-  pub second : IsReadIn store_schema sql q names
+  pub second : (l : Layout) → IsReadIn (schema_for l) sql q names
   pub unindexed : IsReadIn with_kept sql q names
   pub selects : IsSelectText (first_of sql)
 
@@ -103,9 +118,9 @@ module _ (sql : List ℕ) (params : Row) (q : Program) (names : List (List ℕ))
   looks_in items old new r ok err survives =
       both_looks (Both First Second) Unindexed old new r
       (both_looks First Second old new r
-      (looks_by First with_answers (λ c d h. (are.first c d h).schema) reads.first items old new r ok err survives)
-      (looks_by Second store_schema (λ c d h. (are.second c d h).schema) reads.second items old new r ok err survives))
-      (looks_by Unindexed with_kept (λ c d h. (are.unindexed c d h).schema) reads.unindexed items old new r ok err survives)
+      (looks_by First with_answers (λ c d h. (are.first c d h).0.schema) reads.first items old new r ok err survives)
+      (looks_over sql params (λ _. Select q names) (λ l. (reads.second l).is) (λ l. (reads.second l).plain) Second are.second reads.selects items old new r ok err survives))
+      (looks_by Unindexed with_kept (λ c d h. (are.unindexed c d h).0.schema) reads.unindexed items old new r ok err survives)
 
   -- what it finds follows from the rows of the tables of version 1, if it does for any schema
   pub finds_in : {X : Type 0} (items : X → List Row) (Found : Content → List Row → Type 0)
@@ -117,17 +132,18 @@ module _ (sql : List ℕ) (params : Row) (q : Program) (names : List (List ℕ))
     | inl whole ↦ elim whole [
       | inl h ↦
           let inside : InsideAs (First c) old = record { is_open = at.is_open; in_transaction = at.in_transaction; holds = h } in
-          does c old.now (items x) (are.first c old.now h).rows
-          (read_by First with_answers (λ k d g. (are.first k d g).schema) reads.first c old new (items x) inside (ok clean))
+          does c old.now (items x) (rows_of_first c old.now (are.first c old.now h))
+          (read_by First with_answers (λ k d g. (are.first k d g).0.schema) reads.first c old new (items x) inside (ok clean))
       | inr h ↦
-          let inside : InsideAs (Second c) old = record { is_open = at.is_open; in_transaction = at.in_transaction; holds = h } in
-          does c old.now (items x) (rows_of_second c old.now (are.second c old.now h))
-          (read_by Second store_schema (λ k d g. (are.second k d g).schema) reads.second c old new (items x) inside (ok clean))
+          let held = are.second c old.now h in
+          does c old.now (items x) (rows_of_second c old.now held)
+          (read_held_laid sql params (λ _. Select q names) (λ l. (reads.second l).is) (λ l. (reads.second l).plain) (λ l. (reads.second l).unlisted) c old new (items x)
+          held (ok clean))
     ]
     | inr h ↦
         let inside : InsideAs (Unindexed c) old = record { is_open = at.is_open; in_transaction = at.in_transaction; holds = h } in
         does c old.now (items x) (rows_of_unindexed c old.now (are.unindexed c old.now h))
-        (read_by Unindexed with_kept (λ k d g. (are.unindexed k d g).schema) reads.unindexed c old new (items x) inside (ok clean))
+        (read_by Unindexed with_kept (λ k d g. (are.unindexed k d g).0.schema) reads.unindexed c old new (items x) inside (ok clean))
   ]
 
 -- ---- the version
@@ -145,11 +161,16 @@ pub version_select : IsSelectText (first_of version_text)
 unfolding first_of everything
 version_select = (_, refl)
 
+version_in : (l : Layout) → IsReadIn (schema_for l) version_text version_query (codes "v" ∷ [])
+unfolding understood everything
+version_in Second = record { is = refl; plain = (refl, refl); unlisted = refl }
+version_in Third = record { is = refl; plain = (refl, refl); unlisted = refl }
+
 pub version_read : IsRead version_text version_query (codes "v" ∷ [])
 unfolding understood everything
 version_read = record {
   first = record { is = refl; plain = (refl, refl); unlisted = refl };
-  second = record { is = refl; plain = (refl, refl); unlisted = refl };
+  second = version_in;
   unindexed = record { is = refl; plain = (refl, refl); unlisted = refl };
   selects = version_select;
 }
@@ -163,7 +184,7 @@ FoundVersion c rows = rows ≡ map shown_counter (option_to_list (at_by counter_
 
 finds_version : (c : Content) (d : Database) (rows : List Row) → HasFirstRows c d → Answers d version_query [] rows → FoundVersion c rows
 finds_version c d rows has h =
-    let was = has.0 in
+    let was = has.counters in
     let same = answered counter_row (has_by counter_key 1) Null (overlay d.trees []) version_terms [] tests_version 0 (col 1 2 ∷ []) c.counters rows was.0
     (h.answer Null) in
     only (at_by counter_key 1 c.counters) shown_counter rows (subst (λ xs. IsPermutation (map shown_counter xs) rows) (found_rows counter_key counter_row
@@ -194,11 +215,16 @@ pub meta_select : IsSelectText (first_of meta_text)
 unfolding first_of everything
 meta_select = (_, refl)
 
+meta_in : (l : Layout) → IsReadIn (schema_for l) meta_text meta_query (codes "k" ∷ codes "v" ∷ [])
+unfolding understood everything
+meta_in Second = record { is = refl; plain = (refl, refl); unlisted = refl }
+meta_in Third = record { is = refl; plain = (refl, refl); unlisted = refl }
+
 pub meta_read : IsRead meta_text meta_query (codes "k" ∷ codes "v" ∷ [])
 unfolding understood everything
 meta_read = record {
   first = record { is = refl; plain = (refl, refl); unlisted = refl };
-  second = record { is = refl; plain = (refl, refl); unlisted = refl };
+  second = meta_in;
   unindexed = record { is = refl; plain = (refl, refl); unlisted = refl };
   selects = meta_select;
 }
@@ -208,7 +234,7 @@ FoundMeta c rows = rows ≡ map shown_meta c.counters
 
 finds_meta : (c : Content) (d : Database) (rows : List Row) → HasFirstRows c d → Answers d meta_query [] rows → FoundMeta c rows
 finds_meta c d rows has h =
-    let was = has.0 in
+    let was = has.counters in
     answered_in_order (λ (x : Counter). x.key) (λ x. Null ∷ Int (pos x.value) ∷ []) (λ _. true) Null (overlay d.trees []) [] [] (λ _. refl) (col 1 0 ∷ col 1 2
     ∷ []) no_limit 0 c.counters rows was.0
     (rises_from (λ (x : Counter). x.key) counter_row (λ _. refl) c.counters (subst IsTable was.0 was.1)) (h.answer Null)
@@ -231,8 +257,9 @@ module _ (First Second Unindexed : Content → Database → Type 0) (are : Versi
 
 -- the version was found, and then the rows of that version
 pub tested_second : {X E : Type 0} (a b d : State) (n : ℕ) (r : Result X E) {K : Trees → Type 0} → Takes {E = StoreFault} IsLaid IsLaid a b (Ok n)
-    → (HasCleanDisk b → (c : Content) → InsideAs (IsLaid c) a → n ≡ value_at 1 c) → n ≡ 2 → Survives b d K → Tests HasSecondMeta b d r → Tests HasMeta a d r
+    → (HasCleanDisk b → (c : Content) → InsideAs (IsLaid c) a → n ≡ value_at 1 c) → ((c : Content) → IsLaid c a.now → n ≡ version_of c.layout)
+    → Survives b d K → Tests HasSecondMeta b d r → Tests HasMeta a d r
 tested_second a b d n (Err e) laid value is survives tests clean = tt
 tested_second a b d n (Ok x) laid value is survives tests clean = λ c at.
     let mid = earlier b d _ survives clean in
-    inr (sym (value mid c at) ∙ is, tests clean c (laid.turns mid c at))
+    inr (sym (value mid c at) ∙ is c at.holds, tests clean c (laid.turns mid c at))

@@ -1,6 +1,6 @@
 -- An opening and the begin of a mount, in one transaction.
 use Rattle.std.specs.Prelude.{⊤}
-use Rattle.std.proofs.Common.{◌≡◌, Ok, Err, Result, IfErr, IsErrAnd, sym, subst}
+use Rattle.std.proofs.Common.{◌≡◌, ℕ, Option, Ok, Err, Result, IfErr, IsErrAnd, sym, subst}
 use Rattle.sqlite.specs.Effect.{Database}
 use Rattle.sqlite.specs.State.{State}
 use Rattle.fuse_init.specs.declared.profile.Profile.{Profile}
@@ -20,35 +20,36 @@ use Rattle.fuse_store_tables.proofs.Joining.{made_from}
 use Rattle.fuse_store_tables.proofs.Either.{sub_from, narrowed_if}
 use Rattle.fuse_store_tables.proofs.Fitting.{fit_cleared}
 
-pub clears_opened : {X E : Type 0} (a b : State) (r : Result X E) → Makes cleared a b r → Takes IsOpened IsBegun a b r
-clears_opened a b r p =
-    narrowed_if IsOpened (λ k. Holds (cleared (opened k))) IsBegun a b r
-    (sub_from IsOpened (λ k. Holds (opened k)) (λ k. Holds (cleared (opened k))) (λ k d h. h.holds) a b r (made_from opened cleared a b r p))
+pub clears_opened : {X E : Type 0} (number : Option ℕ) (a b : State) (r : Result X E) → Makes cleared a b r → Takes (IsOpened number) (IsBegun number) a b r
+clears_opened number a b r p =
+    narrowed_if (IsOpened number) (λ k. Holds (cleared (opened number k))) (IsBegun number) a b r
+    (sub_from (IsOpened number) (λ k. Holds (opened number k)) (λ k. Holds (cleared (opened number k))) (λ k d h. h.holds) a b r
+    (made_from (opened number) cleared a b r p))
     (λ clean k at on. record {
       is_open = on.is_open;
       in_transaction = on.in_transaction;
-      holds = record { holds = on.holds; fit = fit_cleared (opened k) at.holds.fit };
+      holds = record { holds = on.holds; fit = fit_cleared (opened number k) at.holds.fit };
     })
 
-held : (c : Content) (s : State) → InsideAs (IsOpened c) s → InsideAs (Holds (opened c)) s
-held c s at = record { is_open = at.is_open; in_transaction = at.in_transaction; holds = at.holds.holds }
+held : (number : Option ℕ) (c : Content) (s : State) → InsideAs (IsOpened number c) s → InsideAs (Holds (opened number c)) s
+held number c s at = record { is_open = at.is_open; in_transaction = at.in_transaction; holds = at.holds.holds }
 
-pub sure_cleared : {X : Type 0} (a b : State) (r : Result X StoreFault) → IsSure Holds a b r → IsSure IsOpened a b r
-sure_cleared a b (Ok x) q clean = tt
-sure_cleared a b (Err f) q clean = λ at. q clean (opened at.0, held at.0 a at.1)
+pub sure_cleared : {X : Type 0} (number : Option ℕ) (a b : State) (r : Result X StoreFault) → IsSure Holds a b r → IsSure (IsOpened number) a b r
+sure_cleared number a b (Ok x) q clean = tt
+sure_cleared number a b (Err f) q clean = λ at. q clean (opened number at.0, held number at.0 a at.1)
 
 -- ---- the test of what is left
 
-module _ (a b : State) (r : Result Profile StoreFault) (p : ChecksIf (λ _. ⊤) HasSecondMeta a b r) where
-  pub begun_keeps : Takes IsBegun IsBegun a b r
-  begun_keeps = taken_from IsSecond IsSecond (λ k. cleared (opened k)) a b r (checks_keep IsSecond second_laid HasSecondMeta a b r p)
+module _ (number : Option ℕ) (a b : State) (r : Result Profile StoreFault) (p : ChecksIf (λ _. ⊤) HasSecondMeta a b r) where
+  pub begun_keeps : Takes (IsBegun number) (IsBegun number) a b r
+  begun_keeps = taken_from IsSecond IsSecond (λ k. cleared (opened number k)) a b r (checks_keep IsSecond second_laid HasSecondMeta a b r p)
 
-  pub begun_sure : IsSure IsBegun a b r
+  pub begun_sure : IsSure (IsBegun number) a b r
   begun_sure clean = told r (checks_sure IsSecond second_laid HasSecondMeta a b r p second_passes clean)
     where
-      told : (r : Result Profile StoreFault) → IfErr r (λ f. IsReady IsSecond a → IsOutside f) → IfErr r (λ f. IsReady IsBegun a → IsOutside f)
+      told : (r : Result Profile StoreFault) → IfErr r (λ f. IsReady IsSecond a → IsOutside f) → IfErr r (λ f. IsReady (IsBegun number) a → IsOutside f)
       told (Ok x) all = tt
-      told (Err f) all = λ at. all (cleared (opened at.0), at.1)
+      told (Err f) all = λ at. all (cleared (opened number at.0), at.1)
 
 -- ---- what `?` returns of it
 

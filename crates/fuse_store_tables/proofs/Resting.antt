@@ -76,7 +76,7 @@ module _ (old new : State) where
       shown None it = it.3.0.was_open
       shown (Some what) it = command_open sql _ e h.0 is_open it
 
-  shown_open : (sql : List ℕ) (params : Row) (rows : List Row) → Shown sql params old new rows → IsTrue old.is_open × IsTrue new.is_open
+  pub shown_open : (sql : List ℕ) (params : Row) (rows : List Row) → Shown sql params old new rows → IsTrue old.is_open × IsTrue new.is_open
   unfolding Shown
   shown_open sql params rows h = shown h.0.returning h.2
     where
@@ -95,17 +95,17 @@ peeks_open sql params items old new (Err e) ok err = record { was = λ clean is_
 
 -- ---- a query
 
-module _ {C : Type 0} (P : C → Database → Type 0) (layout : Schema) (known : (c : C) (d : Database) → P c d → d.schema ≡ layout) (sql : List ℕ) (params : Row)
-    (plain : IsPlain (understood layout sql)) where
+module _ {C : Type 0} (P : C → Database → Type 0) (layout : C → Schema) (known : (c : C) (d : Database) → P c d → d.schema ≡ layout c) (sql : List ℕ) (params : Row)
+    (plain : (c : C) → IsPlain (understood (layout c) sql)) where
   same : (c : C) (old new : State) (rows : List Row) → P c old.now → Shown sql params old new rows → IsUnchanged old new
   unfolding Shown
   same c old new rows at h =
       let heard = sym h.1.is ∙ ap (λ (t : Schema). understood t sql) (known c old.now at) in
-      let bare = subst IsPlain (sym heard) plain in
+      let bare = subst IsPlain (sym heard) (plain c) in
       (rw (bare.0) at h.2).3
 
   none : (c : C) (s : State) (db : Trees) → P c s.now → ¬ CommitsShowing sql params s db
-  none c s db at = never_commits sql params s db (subst (λ (t : Schema). IsPlain (understood t sql)) (sym (known c s.now at)) plain)
+  none c s db at = never_commits sql params s db (subst (λ (t : Schema). IsPlain (understood t sql)) (sym (known c s.now at)) (plain c))
 
   pub peeks : {X : Type 0} (items : X → List Row) (old new : State) (r : Result X Error) → (HasCleanDisk new → IfOk r (λ x. Shown sql params old new (items x)))
       → (HasCleanDisk new → IfErr r (FailsToQuery sql params old new)) → Survives old new (CommitsShowing sql params old) → ServesAs P P old new r

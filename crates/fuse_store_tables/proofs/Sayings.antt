@@ -1,5 +1,5 @@
 -- What the tables say.
-use Rattle.std.proofs.Common.{◌≡◌, ◌≢◌, ◌<◌, List, [], ◌∷◌, length, Bool, true, false, cond, Ok, Err, Result, IfOk, IfErr, refl, subst, arith}
+use Rattle.std.proofs.Common.{◌≡◌, ◌≢◌, ◌<◌, ℕ, List, [], ◌∷◌, length, Bool, true, false, cond, Ok, Err, Result, IfOk, IfErr, refl, subst, arith}
 use Rattle.sqlite.specs.declared.types.Value.{Value}
 use Rattle.sqlite.specs.declared.types.Value.TheVariants.{Int}
 use Rattle.sqlite.specs.Values.{IsInt}
@@ -14,9 +14,10 @@ use Rattle.fuse_keeper.specs.declared.fault.StoreFault.TheVariants.{Memory, Sql,
 use Rattle.fuse_keeper.specs.Faults.{fault_of, is_memory}
 use Rattle.fuse_store_tables.specs.Faults.{IsPlain, IsMisread}
 use Rattle.fuse_store_tables.specs.inner.Columns.{misread_as}
-use Rattle.fuse_store_tables.specs.Saying.{version_text, ShowsVersion, IsOwn, Says}
+use Rattle.fuse_store_tables.specs.Saying.{version_text, meta_text, Shows, ShowsVersion, IsOwn, Says}
 use Rattle.fuse_store_tables.specs.inner.Versions.{plain_says}
-use Rattle.fuse_store_tables.proofs.Selects.{returns_none, version_select}
+use Rattle.fuse_store_tables.proofs.Selects.{IsSelectText, returns_none, version_select, meta_select}
+use Rattle.sqlite_resolve.specs.Compile.{first}
 
 pub plain_fault : (e : Error) → IsPlain (fault_of e)
 plain_fault e = told (is_memory e)
@@ -39,16 +40,21 @@ misread_so e = told (is_memory e)
     told true = tt
     told false = tt
 
-shows : (old new : State) (rows : List Row) → Shown version_text [] old new rows → ShowsVersion old.now rows
+shows : (text : List ℕ) → IsSelectText (first text) → (old new : State) (rows : List Row) → Shown text [] old new rows → Shows text old.now rows
 unfolding Shown
-shows old new rows h =
-    let none = returns_none version_text version_select old.now.schema h.0 h.1.is in
+shows text selects old new rows h =
+    let none = returns_none text selects old.now.schema h.0 h.1.is in
     let it = rw none at h.2 in
     (h.0, h.1.is, h.1.now, it.0, it.1, it.2)
 
+pub says_meta : {X : Type 0} (items : X → List Row) (old new : State) (r : Result X Error)
+    → (HasCleanDisk new → IfOk r (λ x. Shown meta_text [] old new (items x))) → HasCleanDisk new → IfOk r (λ x. Shows meta_text old.now (items x))
+says_meta items old new (Ok x) ok clean = shows meta_text meta_select old new (items x) (ok clean)
+says_meta items old new (Err e) ok clean = tt
+
 pub says_version : {X : Type 0} (items : X → List Row) (old new : State) (r : Result X Error)
     → (HasCleanDisk new → IfOk r (λ x. Shown version_text [] old new (items x))) → HasCleanDisk new → IfOk r (λ x. ShowsVersion old.now (items x))
-says_version items old new (Ok x) ok clean = shows old new (items x) (ok clean)
+says_version items old new (Ok x) ok clean = shows version_text version_select old new (items x) (ok clean)
 says_version items old new (Err e) ok clean = tt
 
 -- ---- a value that is no version

@@ -17,6 +17,9 @@ use Rattle.sqlite.specs.State.{State, HasCleanDisk, Survives, CommitsBy, Writes,
 use Rattle.sqlite.proofs.Callers.{IsPlain, command_of, statement_of}
 use Rattle.fuse_store_tables.specs.Layout.{no_schema, with_meta, with_nodes, with_entries, with_blocks, with_handles, with_answers, with_lots, with_kept, meta, nodes}
 use Rattle.fuse_store_tables.specs.Layout.{entries, blocks, handles, answers, lots, kept, entries_in_order, store_schema}
+use Rattle.fuse_store_tables.specs.Layout.{third_nodes, third_entries, third_handles, pieces, xattrs}
+use Rattle.fuse_store_tables.specs.Layout.{third_with_nodes, third_with_entries, third_with_blocks, third_with_handles}
+use Rattle.fuse_store_tables.specs.Layout.{third_with_lots, third_with_kept, third_with_pieces}
 use Rattle.sqlite_trees.specs.Tree.{IsTable, no_trees}
 use Rattle.sqlite.specs.declared.error.Error.{Error}
 use Rattle.sqlite.specs.Tree.{Trees}
@@ -242,3 +245,83 @@ orders =
     makes (IsBare with_kept) with_kept (λ c d h. h.schema) entries_in_order_text [] (CreateIndex 2) entries_in_order_made.command entries_in_order_made.plain
     refl entries_in_order_edit
     (IsBare store_schema) (λ c. index_more with_kept 2 entries entries_in_order entries_in_order_text entries_in_order_made no_trees)
+
+-- ---- version 3
+
+abbrev pub third_nodes_text : List ℕ
+third_nodes_text =
+    codes "CREATE TABLE nodes (node INTEGER PRIMARY KEY, mode INTEGER NOT NULL, uid INTEGER NOT NULL, gid INTEGER NOT NULL, "
+    ++ codes "rdev INTEGER NOT NULL, size INTEGER NOT NULL, atime INTEGER NOT NULL, atimensec INTEGER NOT NULL, mtime INTEGER "
+    ++ codes "NOT NULL, mtimensec INTEGER NOT NULL, ctime INTEGER NOT NULL, ctimensec INTEGER NOT NULL, up INTEGER NOT NULL, "
+    ++ codes "subdirs INTEGER NOT NULL, links INTEGER NOT NULL, written INTEGER NOT NULL, attributes INTEGER NOT NULL) STRICT"
+
+abbrev pub third_entries_text : List ℕ
+third_entries_text =
+    codes "CREATE TABLE entries (cookie INTEGER PRIMARY KEY, dir INTEGER NOT NULL, name BLOB NOT NULL, child INTEGER NOT NULL, "
+    ++ codes "UNIQUE (dir, name), UNIQUE (dir, cookie)) STRICT"
+
+abbrev pub third_handles_text : List ℕ
+third_handles_text =
+    codes "CREATE TABLE handles (fh INTEGER PRIMARY KEY, node INTEGER NOT NULL REFERENCES nodes (node), access INTEGER NOT NULL, "
+    ++ codes "UNIQUE (node, fh)) STRICT"
+
+abbrev pub pieces_text : List ℕ
+pieces_text =
+    codes "CREATE TABLE pieces (node INTEGER NOT NULL, first INTEGER NOT NULL, count INTEGER NOT NULL, place INTEGER NOT NULL, "
+    ++ codes "sum INTEGER NOT NULL, PRIMARY KEY (node, first)) STRICT"
+
+abbrev pub xattrs_text : List ℕ
+xattrs_text =
+    codes "CREATE TABLE xattrs (node INTEGER NOT NULL, name BLOB NOT NULL, value BLOB NOT NULL, PRIMARY KEY (node, name)) STRICT"
+
+pub third_nodes_edit : IsEditText (first third_nodes_text)
+unfolding first everything
+third_nodes_edit = tt
+
+pub third_nodes_made : IsTextOf with_meta third_nodes third_nodes_text
+unfolding understood everything
+third_nodes_made = record { defines = refl; statement = refl; command = refl; plain = (refl, refl); lacks = refl; edit = third_nodes_edit }
+
+pub third_entries_edit : IsEditText (first third_entries_text)
+unfolding first everything
+third_entries_edit = tt
+
+pub third_entries_made : IsTextOf third_with_nodes third_entries third_entries_text
+unfolding understood everything
+third_entries_made = record { defines = refl; statement = refl; command = refl; plain = (refl, refl); lacks = refl; edit = third_entries_edit }
+
+pub third_blocks_made : IsTextOf third_with_entries blocks blocks_text
+unfolding understood everything
+third_blocks_made = record { defines = refl; statement = refl; command = refl; plain = (refl, refl); lacks = refl; edit = blocks_edit }
+
+pub third_handles_edit : IsEditText (first third_handles_text)
+unfolding first everything
+third_handles_edit = tt
+
+pub third_handles_made : IsTextOf third_with_blocks third_handles third_handles_text
+unfolding understood everything
+third_handles_made = record { defines = refl; statement = refl; command = refl; plain = (refl, refl); lacks = refl; edit = third_handles_edit }
+
+pub third_lots_made : IsTextOf third_with_handles lots lots_text
+unfolding understood everything
+third_lots_made = record { defines = refl; statement = refl; command = refl; plain = (refl, refl); lacks = refl; edit = lots_edit }
+
+pub third_kept_made : IsTextOf third_with_lots kept kept_text
+unfolding understood everything
+third_kept_made = record { defines = refl; statement = refl; command = refl; plain = (refl, refl); lacks = refl; edit = kept_edit }
+
+pub pieces_edit : IsEditText (first pieces_text)
+unfolding first everything
+pieces_edit = tt
+
+pub pieces_made : IsTextOf third_with_kept pieces pieces_text
+unfolding understood everything
+pieces_made = record { defines = refl; statement = refl; command = refl; plain = (refl, refl); lacks = refl; edit = pieces_edit }
+
+pub xattrs_edit : IsEditText (first xattrs_text)
+unfolding first everything
+xattrs_edit = tt
+
+pub xattrs_made : IsTextOf third_with_pieces xattrs xattrs_text
+unfolding understood everything
+xattrs_made = record { defines = refl; statement = refl; command = refl; plain = (refl, refl); lacks = refl; edit = xattrs_edit }

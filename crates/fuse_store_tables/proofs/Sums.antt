@@ -24,14 +24,17 @@ use Rattle.sqlite_resolve.specs.Compile.{first}
 use Rattle.fuse_rows.specs.declared.rows.NodeRow.{NodeRow}
 use Rattle.fuse_keeper.specs.declared.fault.StoreFault.{StoreFault}
 use Rattle.fuse_store_tables.specs.Faults.{IsOutside}
-use Rattle.fuse_store_tables.specs.Layout.{store_schema}
+use Rattle.fuse_store_tables.specs.Layout.{schema_for}
 use Rattle.fuse_store_tables.specs.Content.{Content, Holds, node_row}
 use Rattle.fuse_store_tables.specs.inner.Columns.{shown_number}
 use Rattle.fuse_store_tables.specs.Moves.{Rests, Serves}
-use Rattle.fuse_store_tables.proofs.Reading.{read_held, matched}
-use Rattle.fuse_store_tables.proofs.Resting.{peeks}
+use Rattle.fuse_store_tables.proofs.Reading.{matched}
 use Rattle.fuse_store_tables.proofs.CounterRows.{all_of}
 use Rattle.fuse_store_tables.proofs.Selects.{IsSelectText}
+use Rattle.fuse_store_tables.specs.declared.version.Layout.{Layout}
+use Rattle.fuse_store_tables.specs.declared.version.Layout.TheVariants.{Second, Third}
+use Rattle.fuse_store_tables.proofs.Laid.{peeks_laid, read_held_laid}
+use Rattle.fuse_store_tables.proofs.Tables.{laid}
 
 abbrev pub sizes_text : List ℕ
 sizes_text = codes "SELECT coalesce(sum(size), 0) FROM nodes"
@@ -52,17 +55,20 @@ sum_query = record {
   offset = lit (Int (pos 0));
 }
 
-sizes_is : command_of (understood store_schema sizes_text) ≡ Select (record { lets = []; body = sum_query }) (codes "coalesce(sum(size), 0)" ∷ [])
+sizes_is : (l : Layout) → command_of (understood (schema_for l) sizes_text) ≡ Select (record { lets = []; body = sum_query }) (codes "coalesce(sum(size), 0)" ∷ [])
 unfolding understood everything
-sizes_is = refl
+sizes_is Second = refl
+sizes_is Third = refl
 
-sizes_plain : IsPlain (understood store_schema sizes_text)
+sizes_plain : (l : Layout) → IsPlain (understood (schema_for l) sizes_text)
 unfolding understood everything
-sizes_plain = (refl, refl)
+sizes_plain Second = (refl, refl)
+sizes_plain Third = (refl, refl)
 
-sizes_unlisted : reads_listing store_schema sizes_text ≡ false
+sizes_unlisted : (l : Layout) → reads_listing (schema_for l) sizes_text ≡ false
 unfolding understood everything
-sizes_unlisted = refl
+sizes_unlisted Second = refl
+sizes_unlisted Third = refl
 
 pub sizes_select : IsSelectText (first sizes_text)
 unfolding first everything
@@ -76,8 +82,8 @@ sizes_of = sum_by (λ n. n.size)
 abbrev shown_size : NodeRow → Option ℤ
 shown_size n = Some (pos n.size)
 
-abbrev slots : NodeRow → Env
-slots n = [] ∷ node_row n ∷ []
+abbrev slots : Layout → NodeRow → Env
+slots l n = [] ∷ node_row l n ∷ []
 
 whole_sum : (ns : List NodeRow) → int_sum (present (map shown_size ns)) ≡ pos (sizes_of ns)
 whole_sum [] = refl
@@ -85,27 +91,27 @@ whole_sum (n ∷ ns) =
     let added : pos n.size +ℤ pos (sizes_of ns) ≡ pos (n.size + sizes_of ns) = omega (arith, ints) in
     ap (λ z. pos n.size +ℤ z) (whole_sum ns) ∙ added ∙ ap pos (sym (sum_by-cons (λ (m : NodeRow). m.size) n ns))
 
-module _ (db : Trees) (ns : List NodeRow) (has : db 1 ≡ map node_row ns) where
-  all_match : matches db [] (inner 1 end) ([] ∷ []) ≡ map slots ns
+module _ (l : Layout) (db : Trees) (ns : List NodeRow) (has : db 1 ≡ map (node_row l) ns) where
+  all_match : matches db [] (inner 1 end) ([] ∷ []) ≡ map (slots l) ns
   all_match = ap (λ rs. flat_map (λ r. Rattle.sqlite.specs.Query.matches_as Null db [] end ([] ∷ r ∷ [])) rs) has
-      ∙ matched node_row (λ _. true) Null db [] [] (λ _. refl) ns ∙ ap (map slots) (all_of ns)
+      ∙ matched (node_row l) (λ _. true) Null db [] [] (λ _. refl) ns ∙ ap (map (slots l)) (all_of ns)
 
   pub summed : (rows : List Row) → Rattle.sqlite.specs.Query.IsAnswerAs Null sum_query db [] rows → rows ≡ shown_number (sizes_of ns) ∷ []
   summed rows answer =
-      sum_answer sum_query db [] size ns slots shown_size refl all_match (λ n. refl) rows refl refl answer
+      sum_answer sum_query db [] size ns (slots l) shown_size refl all_match (λ n. refl) rows refl refl answer
       ∙ ap (λ z. (Int z ∷ []) ∷ []) (whole_sum ns)
 
 -- ---- what the text finds
 
 finds : (c : Content) (old new : State) (rows : List Row) → Holds c old.now → Shown sizes_text [] old new rows → rows ≡ shown_number (sizes_of c.nodes) ∷ []
 finds c old new rows at h =
-    let answer = (read_held Holds store_schema (λ c d h. h.schema) sizes_text [] _ sizes_is sizes_plain sizes_unlisted c old new rows at h).answer Null in
-    summed (overlay old.now.trees []) c.nodes at.rows.1.0.0 rows answer
+    let answer = (read_held_laid sizes_text [] _ sizes_is sizes_plain sizes_unlisted c old new rows at h).answer Null in
+    summed c.layout (overlay old.now.trees []) c.nodes (laid c old.now at).nodes.0 rows answer
 
 pub sizes_serve : {Y : Type 0} (items : Y → List Row) (old new : State) (r : Result Y Error)
     → (HasCleanDisk new → IfOk r (λ x. Shown sizes_text [] old new (items x)))
     → (HasCleanDisk new → IfErr r (FailsToQuery sizes_text [] old new)) → Survives old new (CommitsShowing sizes_text [] old) → Serves (λ c. c) old new r
-sizes_serve items = peeks Holds store_schema (λ c d h. h.schema) sizes_text [] sizes_plain items
+sizes_serve items = peeks_laid sizes_text [] sizes_plain items
 
 pub sizes_found : {Y : Type 0} (items : Y → List Row) (old new : State) (r : Result Y Error)
     → (HasCleanDisk new → IfOk r (λ x. Shown sizes_text [] old new (items x)))

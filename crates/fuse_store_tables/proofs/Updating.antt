@@ -23,7 +23,8 @@ use Rattle.sqlite_schema.specs.declared.program.Program.{Program}
 use Rattle.sqlite_schema.specs.declared.schema.Keys.TheVariants.{Enforced}
 use Rattle.sqlite.specs.Effect.{Answers}
 use Rattle.sqlite.specs.State.{State, Writes}
-use Rattle.fuse_store_tables.specs.Layout.{store_schema}
+use Rattle.fuse_store_tables.specs.declared.version.Layout.{Layout}
+use Rattle.fuse_store_tables.specs.Layout.{schema_for}
 use Rattle.fuse_store_tables.specs.Content.{has_by, at_by, set_by}
 use Rattle.fuse_store_tables.specs.inner.Rows.{Edits, Spares}
 use Rattle.fuse_store_tables.proofs.Tables.{quiet}
@@ -39,7 +40,7 @@ pub same_key : (m n : ℕ) → is_eq (nat_cmp m n) ≡ true → m ≡ n
 same_key m n is = grind (arith, nat_tests)
 
 -- the rows that an UPDATE asks for, and how many there are
-module _ {X : Type 0} (key : X → ℕ) (row : X → Row) (at : ℕ) (table : Table) (listed : slice_get store_schema.tables at ≡ Some (uncounted table))
+module _ (l : Layout) {X : Type 0} (key : X → ℕ) (row : X → Row) (at : ℕ) (table : Table) (listed : slice_get (schema_for l).tables at ≡ Some (uncounted table))
     (cells : X → Row) (p : X → Bool) (terms shown : List Term) (params : Row) (tests : (x : X) → list_all (holds (params ∷ row x ∷ [])) terms ≡ p x)
     (shows : (x : X) → eval_all (col 1 0 ∷ shown) (params ∷ row x ∷ []) ≡ Int (pos (key x)) ∷ cells x) (own : (db : Trees)
     → overlay db [] table.tree ≡ db table.tree) where
@@ -50,21 +51,21 @@ module _ {X : Type 0} (key : X → ℕ) (row : X → Row) (at : ℕ) (table : Ta
   shows_all [] = refl
   shows_all (x ∷ xs) = ap (λ r. r ∷ map (λ y. eval_all (col 1 0 ∷ shown) (params ∷ row y ∷ [])) xs) (shows x) ∙ ap (λ more. asked x ∷ more) (shows_all xs)
 
-  pub edits : (xs : List X) (o : Option X) → filter p xs ≡ option_to_list o → (old new : State) (text : List ℕ) (n : ℕ) → old.now.schema ≡ store_schema
+  pub edits : (xs : List X) (o : Option X) → filter p xs ≡ option_to_list o → (old new : State) (text : List ℕ) (n : ℕ) → old.now.schema ≡ schema_for l
       → old.now.trees table.tree ≡ map row xs
       → Writes old new None (Update at (changing table.tree terms shown)) text params n
       → Edits table 1 (map asked (option_to_list o)) (map asked (option_to_list o)) old.now new.now × (n ≡ length (map asked (option_to_list o)))
   edits xs o picked old new text n has is w =
       let q = changing table.tree terms shown in
-      let reads = λ (rows : List Row) (h : Answers (record old.now { schema = store_schema }) q params rows).
+      let reads = λ (rows : List Row) (h : Answers (record old.now { schema = schema_for l }) q params rows).
       let all = answered row p Null (overlay old.now.trees []) terms params tests table.tree (col 1 0 ∷ shown) xs rows (own old.now.trees
       ∙ is) (h.answer Null) in
       let mine = subst (λ l. IsPermutation l rows) (shows_all _) all in
       only o asked rows (subst (λ l. IsPermutation (map asked l) rows) picked mine) in (
-        updated store_schema at table listed q old new text params n (map asked (option_to_list o)) has reads
-            (λ olds news. quiet Enforced table.tree olds news) w,
-        counted store_schema at table listed q old new text params n (map asked (option_to_list o)) has reads
-            (λ olds news. quiet Enforced table.tree olds news) w,
+        updated (schema_for l) at table listed q old new text params n (map asked (option_to_list o)) has reads
+            (λ olds news. quiet l Enforced table.tree olds news) w,
+        counted (schema_for l) at table listed q old new text params n (map asked (option_to_list o)) has reads
+            (λ olds news. quiet l Enforced table.tree olds news) w,
       )
 
 -- whether a row was changed
@@ -72,9 +73,9 @@ pub some_changed : {X : Type 0} (o : Option X) (show : X → Row) (n : ℕ) → 
 some_changed None show n is = rw is refl
 some_changed (Some x) show n is = rw is refl
 
-module _ {X : Type 0} (key : X → ℕ) (row : X → Row) (keyed : (x : X) → rowid (row x) ≡ Int (pos (key x))) (k : ℕ) (f : X → X) (same : (x : X)
+module _ (l : Layout) {X : Type 0} (key : X → ℕ) (row : X → Row) (keyed : (x : X) → rowid (row x) ≡ Int (pos (key x))) (k : ℕ) (f : X → X) (same : (x : X)
     → key (f x) ≡ key x) (at : ℕ) (table : Table)
-    (listed : slice_get store_schema.tables at ≡ Some (uncounted table)) (cells : X → Row) (cast : (x : X) → cast_row table (cells x) ≡ row (f x)) where
+    (listed : slice_get (schema_for l).tables at ≡ Some (uncounted table)) (cells : X → Row) (cast : (x : X) → cast_row table (cells x) ≡ row (f x)) where
   abbrev source : X → Row
   source x = Int (pos (key x)) ∷ cells x
 
@@ -95,19 +96,19 @@ module _ {X : Type 0} (key : X → ℕ) (row : X → Row) (keyed : (x : X) → r
   module _ (terms shown : List Term) (params : Row) (tests : (x : X) → list_all (holds (params ∷ row x ∷ [])) terms ≡ has_by key k x)
       (shows : (x : X) → eval_all (col 1 0 ∷ shown) (params ∷ row x ∷ []) ≡ source x) (own : (db : Trees) → overlay db [] table.tree ≡ db table.tree) where
     -- what was changed, and how many rows
-    pub changes : (xs : List X) (old new : State) (text : List ℕ) (n : ℕ) → old.now.schema ≡ store_schema → old.now.trees table.tree ≡ map row xs
+    pub changes : (xs : List X) (old new : State) (text : List ℕ) (n : ℕ) → old.now.schema ≡ schema_for l → old.now.trees table.tree ≡ map row xs
         → IsTable (old.now.trees table.tree)
         → Writes old new None (Update at (changing table.tree terms shown)) text params n
         → (new.now.trees table.tree ≡ map row (set_by key k f xs)) × IsTable (new.now.trees table.tree) × Spares table old.now new.now
     changes xs old new text n has is rise w =
-        let edit = (edits key row at table listed cells (has_by key k) terms shown params tests shows own xs (at_by key k xs)
+        let edit = (edits l key row at table listed cells (has_by key k) terms shown params tests shows own xs (at_by key k xs)
         (found_rows key row keyed k xs (subst IsTable is rise)) old new text n has is w).0 in
         let made = edited_as xs (at_by key k xs) old.now.trees is rise refl in
         (edit.rows ∙ made.0, subst IsTable (sym edit.rows) made.1, edit.spares)
 
-    pub changes_some : (xs : List X) (old new : State) (text : List ℕ) (n : ℕ) → old.now.schema ≡ store_schema → old.now.trees table.tree ≡ map row xs
+    pub changes_some : (xs : List X) (old new : State) (text : List ℕ) (n : ℕ) → old.now.schema ≡ schema_for l → old.now.trees table.tree ≡ map row xs
         → IsTable (old.now.trees table.tree)
         → Writes old new None (Update at (changing table.tree terms shown)) text params n → nat_lt 0 n ≡ is_some (at_by key k xs)
     changes_some xs old new text n has is rise w =
-        some_changed (at_by key k xs) source n (edits key row at table listed cells (has_by key k) terms shown params tests shows own xs (at_by key k xs)
+        some_changed (at_by key k xs) source n (edits l key row at table listed cells (has_by key k) terms shown params tests shows own xs (at_by key k xs)
         (found_rows key row keyed k xs (subst IsTable is rise)) old new text n has is w).1

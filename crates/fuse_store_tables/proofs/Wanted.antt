@@ -7,7 +7,7 @@ use Rattle.fuse_keeper.specs.declared.fault.StoreFault.{StoreFault}
 use Rattle.fuse_keeper.specs.declared.fault.StoreFault.TheVariants.{Damaged}
 use Rattle.fuse_store_tables.specs.Content.{Content}
 use Rattle.fuse_store_tables.specs.Moves.{InsideAs, Takes}
-use Rattle.fuse_store_tables.specs.Opening.{IsStored, IsLaid, IsWanted, IsWantedStore, profile_in}
+use Rattle.fuse_store_tables.specs.Opening.{IsStored, IsSound, IsLaid, IsWanted, IsWantedStore, profile_in}
 use Rattle.fuse_store_tables.specs.inner.Performing.{IsSure}
 use Rattle.fuse_store_tables.proofs.Checks.{first_laid, second_laid, unindexed_laid}
 
@@ -22,7 +22,7 @@ pub told_refused : {C X Y E F : Type 0} (P Q : C → Database → Type 0) (a b :
 told_refused P Q a b x f p = record { stays = p.stays; within = tt; turns = tt }
 
 -- a fault says nothing of any store, so none of one that is wanted
-pub sure_wanted : (wanted : Option Profile) (a b : State) (f : StoreFault) → IsSure {X = Profile} IsStored a b (Err f)
+pub sure_wanted : (wanted : Option Profile) (a b : State) (f : StoreFault) → IsSure {X = Profile} IsSound a b (Err f)
     → IsSure {X = Profile} (IsWantedStore wanted) a b (Err f)
 sure_wanted wanted a b f sure clean at =
     sure clean (at.0, record { is_open = at.1.is_open; in_transaction = at.1.in_transaction; holds = at.1.holds.0 })
@@ -34,6 +34,6 @@ unwanted wanted a b p told other clean at =
     let laid : InsideAs (IsLaid at.0) a = record {
       is_open = at.1.is_open;
       in_transaction = at.1.in_transaction;
-      holds = stored_laid at.0 a.now at.1.holds.0;
+      holds = stored_laid at.0 a.now at.1.holds.0.stored;
     } in
     absurd (other (subst (IsWanted wanted) (sym (told clean at.0 laid)) at.1.holds.1))

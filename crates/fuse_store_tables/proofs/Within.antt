@@ -4,7 +4,8 @@ use Rattle.std.specs.Result.{IsErr}
 use Rattle.sqlite.specs.State.{State, HasCleanDisk, KeepsCommit}
 use Rattle.sqlite.proofs.StateLemmas.{survives_weaker, survives_then}
 use Rattle.sqlite.proofs.InsideLemmas.{keeps_then}
-use Rattle.fuse_store_tables.specs.Moves.{Begins, Ends}
+use Rattle.sqlite.specs.Effect.{Database}
+use Rattle.fuse_store_tables.specs.Moves.{Begins, Ends, Takes}
 use Rattle.fuse_store_tables.specs.inner.Following.{earlier}
 use Rattle.fuse_store_tables.specs.inner.Performing.{CommitsNothing, StaysWithin}
 pub use Rattle.fuse_store_tables.proofs.Edits.{edits_within}
@@ -16,7 +17,6 @@ pub use Rattle.fuse_store_tables.proofs.Refills.{copy_edit, counter_edit}
 pub use Rattle.fuse_store_tables.proofs.LotRows.{insert_edit as lot_edit}
 pub use Rattle.fuse_store_tables.proofs.SchemaLemmas.{lots_edit as lots_made_edit, kept_edit as kept_made_edit, entries_in_order_edit as index_made_edit, meta_edit, nodes_edit, entries_edit, blocks_edit as blocks_made_edit, handles_edit as handles_made_edit, answers_edit as answers_made_edit}
 pub use Rattle.fuse_store_tables.proofs.MakingLemmas.{fill_edit}
-pub use Rattle.fuse_store_tables.proofs.NodeRows.{insert_edit as node_edit}
 
 -- ---- one call after another
 
@@ -70,3 +70,8 @@ keeps_within a b d x r p q clean =
 pub keeps_commit : {X Y Z E F G : Type 0} (a b d e : State) (x : X) (r : Result Y F) (f : G) → Begins {E = E} a b (Ok x) → StaysWithin b d r
     → Ends {X = Z} d e (Err f) → HasCleanDisk e → KeepsCommit a e
 keeps_commit a b d e x r f p q t clean = keeps_then a d e (keeps_within a b d x r p q (earlier d e _ t.survives clean)) (t.kept clean)
+
+-- a step of the tables
+pub takes_within : {C X E : Type 0} (P Q : C → Database → Type 0) (a b : State) (r : Result X E) → Takes P Q a b r → StaysWithin a b r
+takes_within P Q a b (Ok x) p = record { survives = p.stays.survives; kept = p.stays.kept; within = p.within }
+takes_within P Q a b (Err e) p = record { survives = p.stays.survives; kept = p.stays.kept; within = tt }

@@ -6,7 +6,7 @@ use Rattle.sqlite.specs.Order.{Row}
 use Rattle.sqlite.specs.declared.error.Error.{Error}
 use Rattle.sqlite_schema.specs.declared.command.Command.{Command}
 use Rattle.sqlite_schema.specs.declared.command.Returning.{Returning}
-use Rattle.sqlite.specs.Command.TheVariants.{Insert, InsertOr, Update, Delete, CreateTable, CreateIndex}
+use Rattle.sqlite.specs.Command.TheVariants.{Insert, InsertOr, Update, Delete, CreateTable, CreateIndex, DropTable}
 use Rattle.sqlite.specs.Listing.{understood}
 use Rattle.sqlite.specs.Effect.{Database}
 use Rattle.sqlite.specs.State.{State, HasCleanDisk, Survives, Executes, CommitsBy, Runs, Writes}
@@ -22,6 +22,7 @@ writes (Update at q) = true
 writes (Delete at q) = true
 writes CreateTable = true
 writes (CreateIndex at) = true
+writes (DropTable at) = true
 writes _ = false
 
 true_is_not_false : {X : Type 0} → true ≡ false → X
@@ -35,6 +36,7 @@ runs_write old new (Update at q) text params n is h = h
 runs_write old new (Delete at q) text params n is h = h
 runs_write old new CreateTable text params n is h = h
 runs_write old new (CreateIndex at) text params n is h = h
+runs_write old new (DropTable at) text params n is h = h
 runs_write old new _ text params n is h = true_is_not_false (sym is)
 
 -- `layout` is the schema that each readiness fixes

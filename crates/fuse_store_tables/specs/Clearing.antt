@@ -1,10 +1,13 @@
 -- The content of the tables after the begin of a mount (defined by this project).
-use Rattle.std.specs.Prelude.{ℕ, ◌+◌, ◌-◌, ◌/◌, Bool, not, List, [], map, filter, length, min}
+use Rattle.std.specs.Prelude.{ℕ, ◌-◌, Bool, not, List, [], Option, map, filter}
 use Rattle.std.specs.List.{list_any, sum_by}
 use Rattle.std.specs.Ordering.{is_eq, nat_cmp}
 use Rattle.fuse_rows.specs.declared.rows.NodeRow.{NodeRow}
-use Rattle.fuse_rows.specs.Bounds.{block_bytes}
+use Rattle.fuse_rows.specs.Blocks.{blocks_for, how_many}
 use Rattle.sqlite.specs.Effect.{Database}
+use Rattle.fuse_store_tables.specs.declared.version.Layout.{Layout}
+use Rattle.fuse_store_tables.specs.declared.version.Layout.TheVariants.{Second, Third}
+pub use Rattle.fuse_store_tables.specs.Counted.{reached, counted_to}
 use Rattle.fuse_store_tables.specs.Content.{Content, is_unnamed, set_counter, value_at}
 use Rattle.fuse_store_tables.specs.Opening.{IsSecond, opened}
 
@@ -23,23 +26,21 @@ has_unnamed nodes node = list_any (λ n. is_eq (nat_cmp node n)) (unnamed_number
 abbrev pub without_settings : Content → Content
 without_settings c = set_counter 10 0 (set_counter 9 0 (set_counter 8 0 (set_counter 7 0 c)))
 
--- SQLite counts no further
-abbrev pub reached : ℕ → ℕ
-reached n = min n 9223372036854775807
+-- the column of a node that says how many blocks it uses: version 2 has its size alone, and version 3 how many were written
+abbrev pub extent_of : Layout → NodeRow → ℕ
+extent_of Second n = n.size
+extent_of Third n = how_many n.written
 
-abbrev pub counted_to : {X : Type 0} → List X → ℕ
-counted_to xs = reached (length xs)
+abbrev pub blocks_in : Layout → ℕ → ℕ
+blocks_in Second size = blocks_for size
+blocks_in Third written = written
 
--- the blocks that a size takes, written or not
-abbrev pub blocks_in : ℕ → ℕ
-blocks_in size = (size + (block_bytes - 1)) / block_bytes
-
-abbrev pub unnamed_blocks : List NodeRow → ℕ
-unnamed_blocks nodes = sum_by (λ n. blocks_in n.size) (filter is_unnamed nodes)
+abbrev pub unnamed_blocks : Layout → List NodeRow → ℕ
+unnamed_blocks layout nodes = sum_by (λ n. blocks_in layout (extent_of layout n)) (filter is_unnamed nodes)
 
 -- The blocks of the unnamed nodes are in use no more. A plain store has no row that counts blocks.
 abbrev pub lowered : Content → Content
-lowered c = set_counter 14 (value_at 14 c - unnamed_blocks c.nodes) c
+lowered c = set_counter 14 (value_at 14 c - unnamed_blocks c.layout c.nodes) c
 
 -- ---- all of them
 
@@ -52,8 +53,9 @@ cleared c = record c {
   handles = [];
   lots = [];
   kept = [];
+  pieces = filter (λ p. not (has_unnamed c.nodes p.node)) c.pieces;
 }
 
 -- opened, and a mount of it begun
-abbrev pub IsBegun : Content → Database → Type 0
-IsBegun c = IsSecond (cleared (opened c))
+abbrev pub IsBegun : Option ℕ → Content → Database → Type 0
+IsBegun number c = IsSecond (cleared (opened number c))

@@ -1,5 +1,6 @@
 -- The content of the tables, as lists of typed rows (defined by this project).
-use Rattle.std.specs.Prelude.{◌≡◌, ◌<◌, ◌^◌, ℕ, pos, Bool, not, ◌&&◌, List, [], ◌∷◌, ◌++◌, map, filter, find, if◌then◌else◌, unwrap_or, option_map, Option, Some, None}
+use Rattle.std.specs.Prelude.{◌≡◌, ◌<◌, ◌^◌, ◌/◌, ◌%◌, ◌==◌, ◌||◌, ℕ, pos, Bool, not, ◌&&◌, List, [], ◌∷◌, ◌++◌, map, filter, find, if◌then◌else◌, unwrap_or, option_map}
+use Rattle.std.specs.Prelude.{Option, Some, None, IsSome}
 use Rattle.std.specs.Option.{is_some}
 use Rattle.std.specs.Ordering.{is_eq, is_gt, nat_cmp, match_ordering}
 use Rattle.std.specs.Cmp.Lexicographic.{slice_cmp}
@@ -19,8 +20,13 @@ use Rattle.fuse_answer.specs.Said.{Said}
 use Rattle.fuse_rows.specs.declared.rows.NodeRow.{NodeRow}
 use Rattle.fuse_rows.specs.declared.rows.EntryRow.{EntryRow}
 use Rattle.fuse_rows.specs.declared.rows.HandleRow.{HandleRow}
-use Rattle.fuse_store_tables.specs.Layout.{store_schema}
+use Rattle.fuse_rows.specs.Blocks.{how_many}
+use Rattle.fuse_store_tables.specs.declared.version.Layout.{Layout}
+use Rattle.fuse_store_tables.specs.declared.version.Layout.TheVariants.{Second, Third}
+use Rattle.fuse_store_tables.specs.Layout.{schema_for}
 use Rattle.fuse_store_tables.specs.Blocks.{Block, block_row, is_from, block_at, new_block, set_at}
+use Rattle.fuse_store_tables.specs.Pieces.{Piece, piece_row, new_piece, begins_between}
+use Rattle.fuse_store_tables.specs.declared.pieces.PieceRow.{PieceRow}
 
 pub record Counter : Type 0 where
   pub key : ℕ
@@ -37,8 +43,17 @@ pub record Kept : Type 0 where
   pub lot : ℕ
   pub said : Said
 
--- in rising order of their keys, and the blocks in that of their hidden rowids
+-- an extended attribute of a node; the slot is the hidden rowid
+pub record Attribute : Type 0 where
+  pub slot : ℕ
+  pub node : ℕ
+  pub name : List ℕ
+  pub value : List ℕ
+
+-- In rising order of their keys, and the blocks, pieces and attributes in that of their hidden rowids. Version 2 has no tables of pieces
+-- and attributes, and version 3 has none of answers.
 pub record Content : Type 0 where
+  pub layout : Layout
   pub counters : List Counter
   pub nodes : List NodeRow
   pub entries : List EntryRow
@@ -47,21 +62,41 @@ pub record Content : Type 0 where
   pub answers : List Answer
   pub lots : List ℕ
   pub kept : List Kept
+  pub pieces : List Piece
+  pub attributes : List Attribute
 
 -- ---- a row as it is stored, which keeps its key as the rowid
 
 abbrev pub counter_row : Counter → Row
 counter_row c = Int (pos c.key) ∷ Null ∷ Int (pos c.value) ∷ []
 
+-- a directory, by its type
+abbrev pub is_directory : NodeRow → Bool
+is_directory n = n.mode / 4096 % 16 == 4
+
+-- the entries that lead to a node which is no directory
+abbrev pub links_of : NodeRow → ℕ
+links_of n = if is_directory n || n.up == 0 then 0 else 1
+
+-- the number of entries, of written blocks, and of extended attributes, of which there are none yet
+abbrev pub later_values : Layout → NodeRow → Row
+later_values Second n = []
+later_values Third n = Int (pos (links_of n)) ∷ Int (pos (how_many n.written)) ∷ Int (pos 0) ∷ []
+
 -- the seconds of a time are the signed number with the same bits
-abbrev pub node_columns : NodeRow → Row
-node_columns n =
+abbrev pub node_columns : Layout → NodeRow → Row
+node_columns layout n =
     Int (pos n.mode) ∷ Int (pos n.uid) ∷ Int (pos n.gid) ∷ Int (pos n.rdev) ∷ Int (pos n.size) ∷ Int (cast_signed w64 n.atime.secs) ∷ Int (pos n.atime.nanos)
     ∷ Int (cast_signed w64 n.mtime.secs)
-    ∷ Int (pos n.mtime.nanos) ∷ Int (cast_signed w64 n.ctime.secs) ∷ Int (pos n.ctime.nanos) ∷ Int (pos n.up) ∷ Int (pos n.subdirs) ∷ []
+    ∷ Int (pos n.mtime.nanos) ∷ Int (cast_signed w64 n.ctime.secs) ∷ Int (pos n.ctime.nanos) ∷ Int (pos n.up) ∷ Int (pos n.subdirs) ∷ later_values layout n
 
-abbrev pub node_row : NodeRow → Row
-node_row n = Int (pos n.node) ∷ Null ∷ node_columns n
+abbrev pub node_row : Layout → NodeRow → Row
+node_row layout n = Int (pos n.node) ∷ Null ∷ node_columns layout n
+
+-- its written blocks are counted in version 3 alone
+abbrev pub HasCount : Layout → NodeRow → Type 0
+HasCount Second n = n.written ≡ None
+HasCount Third n = IsSome n.written
 
 -- a time whose seconds are of 64 bits, and its nanoseconds of 32
 pub record IsTime (t : Moment) : Type 0 where
@@ -99,11 +134,15 @@ lot_row lot = Int (pos lot) ∷ Null ∷ []
 abbrev pub kept_row : Kept → Row
 kept_row k = Int (pos k.id) ∷ Null ∷ Int (pos k.lot) ∷ Int (pos k.said.errno) ∷ Blob k.said.body ∷ []
 
+abbrev pub attribute_row : Attribute → Row
+attribute_row a = Int (pos a.slot) ∷ Int (pos a.node) ∷ Blob a.name ∷ Blob a.value ∷ []
+
 -- the rows of each tree of a table
 abbrev pub stored : Content → Trees
-stored c = with_tree (with_tree (with_tree (with_tree (with_tree (with_tree (with_tree (with_tree no_trees
-    0 (map counter_row c.counters)) 1 (map node_row c.nodes)) 2 (map entry_row c.entries)) 5 (map block_row c.blocks))
-    7 (map handle_row c.handles)) 8 (map answer_row c.answers)) 9 (map lot_row c.lots)) 10 (map kept_row c.kept)
+stored c = with_tree (with_tree (with_tree (with_tree (with_tree (with_tree (with_tree (with_tree (with_tree (with_tree no_trees
+    0 (map counter_row c.counters)) 1 (map (node_row c.layout) c.nodes)) 2 (map entry_row c.entries)) 5 (map block_row c.blocks))
+    7 (map handle_row c.handles)) 8 (map answer_row c.answers)) 9 (map lot_row c.lots)) 10 (map kept_row c.kept))
+    11 (map piece_row c.pieces)) 13 (map attribute_row c.attributes)
 
 -- the table has these rows, which rise
 abbrev pub HasRows : Trees → Trees → Table → Type 0
@@ -116,7 +155,11 @@ pub record HoldsAs (layout : Schema) (held : Trees) (d : Database) : Type 0 wher
   pub rows : AllByRecursion (HasRows held d.trees) layout.tables
 
 abbrev pub Holds : Content → Database → Type 0
-Holds c = HoldsAs store_schema (stored c)
+Holds c = HoldsAs (schema_for c.layout) (stored c)
+
+-- the tables of this layout
+abbrev pub HoldsIn : Layout → Content → Database → Type 0
+HoldsIn layout c d = Holds c d × (c.layout ≡ layout)
 
 -- the trees of a database that is so
 abbrev pub LeftAs : (Database → Type 0) → Trees → Type 0
@@ -221,14 +264,18 @@ shown_counter c = Int (pos c.value) ∷ []
 abbrev pub shown_entry : EntryRow → Row
 shown_entry e = Int (pos e.cookie) ∷ Blob e.name ∷ Int (pos e.child) ∷ []
 
+abbrev pub later_nulls : Layout → Row
+later_nulls Second = []
+later_nulls Third = Null ∷ Null ∷ Null ∷ []
+
 -- the columns of a node, each NULL where there is none
-abbrev pub columns_of : Option NodeRow → Row
-columns_of None = Null ∷ Null ∷ Null ∷ Null ∷ Null ∷ Null ∷ Null ∷ Null ∷ Null ∷ Null ∷ Null ∷ Null ∷ Null ∷ []
-columns_of (Some n) = node_columns n
+abbrev pub columns_of : Layout → Option NodeRow → Row
+columns_of layout None = Null ∷ Null ∷ Null ∷ Null ∷ Null ∷ Null ∷ Null ∷ Null ∷ Null ∷ Null ∷ Null ∷ Null ∷ Null ∷ later_nulls layout
+columns_of layout (Some n) = node_columns layout n
 
 -- an entry, after the columns of the node that it leads to
 abbrev pub shown_child : Content → EntryRow → Row
-shown_child c e = columns_of (at_by node_key e.child c.nodes) ++ shown_entry e
+shown_child c e = columns_of c.layout (at_by node_key e.child c.nodes) ++ shown_entry e
 
 abbrev pub shown_place : EntryRow → Row
 shown_place e = Int (pos e.cookie) ∷ Int (pos e.child) ∷ []
@@ -271,3 +318,18 @@ put_block node block bytes c = record c { blocks = put_at node block bytes c.blo
 
 abbrev pub without_blocks_from : ℕ → ℕ → Content → Content
 without_blocks_from node from c = record c { blocks = filter (λ b. not (is_from node from b)) c.blocks }
+
+-- ---- pieces
+
+abbrev pub with_piece : PieceRow → Content → Content
+with_piece x c = record c { pieces = put_by (λ p. p.slot) (new_piece x c.pieces) c.pieces }
+
+-- without those of a node that begin from one block on, below another
+abbrev pub without_pieces_between : ℕ → ℕ → ℕ → Content → Content
+without_pieces_between node from to c = record c { pieces = filter (λ p. not (begins_between node from to p)) c.pieces }
+
+abbrev pub is_piece_of : ℕ → Piece → Bool
+is_piece_of node p = is_eq (nat_cmp p.node node)
+
+abbrev pub without_pieces : ℕ → Content → Content
+without_pieces node c = record c { pieces = filter (λ p. not (is_piece_of node p)) c.pieces }

@@ -1,4 +1,4 @@
--- The tables, and the schema that their texts make (defined by this project; SQLite: CREATE TABLE, CREATE INDEX).
+-- The tables of each version, and the schema that their texts make (defined by this project; SQLite: CREATE TABLE, CREATE INDEX).
 use Rattle.sqlite.specs.Collation.TheVariants.{Binary}
 use Rattle.std.specs.Prelude.{true, false, [], ◌∷◌, Some, None, codes, List, ℕ, Bool}
 use Rattle.sqlite.specs.declared.types.Value.TheVariants.{Null}
@@ -13,6 +13,8 @@ use Rattle.sqlite_schema.specs.declared.schema.Column.{Column}
 use Rattle.sqlite_schema.specs.declared.schema.Index.{Index}
 use Rattle.sqlite_schema.specs.declared.schema.Reference.{Reference}
 use Rattle.sqlite_schema.specs.declared.schema.Action.TheVariants.{NoAction}
+use Rattle.fuse_store_tables.specs.declared.version.Layout.{Layout}
+use Rattle.fuse_store_tables.specs.declared.version.Layout.TheVariants.{Second, Third}
 
 abbrev pub strict : List ℕ → Kind → Bool → Column
 strict name kind filled = record { name = name; kind = kind; is_strict = true; not_null = filled; default = Null; collation = Binary }
@@ -62,36 +64,65 @@ keyed_table name tree columns uniques orders references = record {
 abbrev pub meta : Table
 meta = keyed_table (codes "meta") 0 (key (codes "k") ∷ number_column (codes "v") ∷ []) [] [] []
 
-abbrev pub nodes : Table
-nodes = keyed_table (codes "nodes") 1
+abbrev pub node_table : List Column → Table
+node_table more = keyed_table (codes "nodes") 1
     (key (codes "node") ∷ number_column (codes "mode") ∷ number_column (codes "uid") ∷ number_column (codes "gid") ∷ number_column (codes "rdev") ∷ number_column (codes "size")
     ∷ number_column (codes "atime") ∷ number_column (codes "atimensec")
     ∷ number_column (codes "mtime") ∷ number_column (codes "mtimensec") ∷ number_column (codes "ctime") ∷ number_column (codes "ctimensec") ∷ number_column (codes "up") ∷ number_column (codes "subdirs")
-    ∷ []) [] [] []
+    ∷ more) [] [] []
+
+abbrev pub nodes : Table
+nodes = node_table []
+
+-- the columns that version 3 adds
+abbrev pub later_columns : List Column
+later_columns = number_column (codes "links") ∷ number_column (codes "written") ∷ number_column (codes "attributes") ∷ []
+
+abbrev pub third_nodes : Table
+third_nodes = node_table later_columns
+
+abbrev pub entry_columns : List Column
+entry_columns = key (codes "cookie") ∷ number_column (codes "dir") ∷ bytes_column (codes "name") ∷ number_column (codes "child") ∷ []
 
 abbrev pub entries : Table
-entries = keyed_table (codes "entries") 2 (key (codes "cookie") ∷ number_column (codes "dir") ∷ bytes_column (codes "name") ∷ number_column (codes "child") ∷ [])
-    ((4 ∷ []) ∷ (2 ∷ 3 ∷ []) ∷ []) (plain ∷ plain ∷ []) (to_nodes 2 ∷ to_nodes 4 ∷ [])
+entries = keyed_table (codes "entries") 2 entry_columns ((4 ∷ []) ∷ (2 ∷ 3 ∷ []) ∷ []) (plain ∷ plain ∷ []) (to_nodes 2 ∷ to_nodes 4 ∷ [])
 
--- its rowid is hidden
-abbrev pub blocks : Table
-blocks = record {
-  name = codes "blocks";
-  tree = 5;
-  columns = number_column (codes "node") ∷ number_column (codes "block") ∷ bytes_column (codes "bytes") ∷ [];
+-- A node may be the child of many entries. That its nodes are there is tested where an entry is read. The second constraint always holds,
+-- since the cookie is the rowid. Its index has the entries of a directory in order. SQLite makes the indexes of constraints right after their
+-- table, in VACUUM and from a dump too (VACUUM; PRIMARY KEY and UNIQUE constraints), so each tree keeps its number.
+abbrev pub third_entries : Table
+third_entries = keyed_table (codes "entries") 2 entry_columns ((2 ∷ 3 ∷ []) ∷ (2 ∷ 0 ∷ []) ∷ []) (plain ∷ plain ∷ []) []
+
+-- a table whose key is its first two columns, and whose rowid is hidden
+abbrev pub paired_table : List ℕ → ℕ → List Column → List Reference → Table
+paired_table name tree columns references = record {
+  name = name;
+  tree = tree;
+  columns = columns;
   key = None;
   primary = 1 ∷ 2 ∷ [];
   uniques = (1 ∷ 2 ∷ []) ∷ [];
   orders = plain ∷ [];
   checks = [];
-  references = to_nodes 1 ∷ [];
+  references = references;
   computed = [];
   stamps = record { places = []; terms = []; formats = [] };
   is_counted = false;
 }
 
+abbrev pub blocks : Table
+blocks = paired_table (codes "blocks") 5 (number_column (codes "node") ∷ number_column (codes "block") ∷ bytes_column (codes "bytes") ∷ []) (to_nodes 1 ∷ [])
+
+abbrev pub handle_table : List (List ℕ) → List Order → Table
+handle_table uniques orders = keyed_table (codes "handles") 7 (key (codes "fh") ∷ number_column (codes "node") ∷ number_column (codes "access") ∷ []) uniques orders
+    (to_nodes 2 ∷ [])
+
 abbrev pub handles : Table
-handles = keyed_table (codes "handles") 7 (key (codes "fh") ∷ number_column (codes "node") ∷ number_column (codes "access") ∷ []) [] [] (to_nodes 2 ∷ [])
+handles = handle_table [] []
+
+-- The constraint always holds, since the fh is the rowid. Its index has the handles of a node.
+abbrev pub third_handles : Table
+third_handles = handle_table ((2 ∷ 0 ∷ []) ∷ []) (plain ∷ [])
 
 abbrev pub answers : Table
 answers = keyed_table (codes "answers") 8 (key (codes "id") ∷ number_column (codes "errno") ∷ bytes_column (codes "body") ∷ []) [] [] []
@@ -102,6 +133,14 @@ lots = keyed_table (codes "lots") 9 (key (codes "lot") ∷ []) [] [] []
 abbrev pub kept : Table
 kept = keyed_table (codes "kept") 10 (key (codes "id") ∷ number_column (codes "lot") ∷ number_column (codes "errno") ∷ bytes_column (codes "body")
     ∷ []) [] [] (refers 2 (codes "lots") (codes "lot") ∷ [])
+
+-- the pieces of contents; version 3 alone has these two tables
+abbrev pub pieces : Table
+pieces = paired_table (codes "pieces") 11
+    (number_column (codes "node") ∷ number_column (codes "first") ∷ number_column (codes "count") ∷ number_column (codes "place") ∷ number_column (codes "sum") ∷ []) []
+
+abbrev pub xattrs : Table
+xattrs = paired_table (codes "xattrs") 13 (number_column (codes "node") ∷ bytes_column (codes "name") ∷ bytes_column (codes "value") ∷ []) []
 
 -- the entries of a directory in the order of their cookies
 abbrev pub entries_in_order : Index
@@ -138,3 +177,42 @@ with_kept = created with_lots kept
 -- the schema of version 2: the index is made last
 abbrev pub store_schema : Schema
 store_schema = indexed with_kept entries entries_in_order
+
+-- ---- version 3
+
+-- the indexes of the constraints stand where version 2 has that of the children and the answers, so each table has the tree that it has there
+abbrev pub third_with_nodes : Schema
+third_with_nodes = created with_meta third_nodes
+
+abbrev pub third_with_entries : Schema
+third_with_entries = created third_with_nodes third_entries
+
+abbrev pub third_with_blocks : Schema
+third_with_blocks = created third_with_entries blocks
+
+abbrev pub third_with_handles : Schema
+third_with_handles = created third_with_blocks third_handles
+
+abbrev pub third_with_lots : Schema
+third_with_lots = created third_with_handles lots
+
+abbrev pub third_with_kept : Schema
+third_with_kept = created third_with_lots kept
+
+abbrev pub third_with_pieces : Schema
+third_with_pieces = created third_with_kept pieces
+
+-- the schema of version 3
+abbrev pub third_schema : Schema
+third_schema = created third_with_pieces xattrs
+
+-- ---- either
+
+abbrev pub schema_for : Layout → Schema
+schema_for Second = store_schema
+schema_for Third = third_schema
+
+-- the number that `meta` has of it
+abbrev pub version_of : Layout → ℕ
+version_of Second = 2
+version_of Third = 3

@@ -10,9 +10,10 @@ ghost use Rattle.fuse_rows.specs.declared.rows.NodeRow.{NodeRow as Node};
 ghost use Rattle.fuse_keeper.specs.Faults.{is_memory};
 ghost use Rattle.fuse_store_tables.specs.Faults.{IsOutside, IsPlain, IsMisread};
 ghost use Rattle.fuse_store_tables.specs.inner.Columns.{misread_as, shown_number};
-ghost use Rattle.fuse_store_tables.specs.Content.{node_columns, columns_of, HasWidths};
+ghost use Rattle.fuse_store_tables.specs.Content.{node_columns, columns_of, HasWidths, HasCount};
 ghost use Rattle.fuse_store_tables.specs.Clearing.{reached};
 
+use crate::version::Layout;
 use fuse_keeper::StoreFault;
 use fuse_rows::NodeRow;
 use fuse_wire::Moment;
@@ -62,6 +63,7 @@ pub fn number_at(row: &Row, at: usize) -> Result<u64, StoreFault>
 /// The number in the only row of a count.
 pub(crate) fn the_number(rows: &[Row]) -> Result<u64, StoreFault>
     ensures value { IfOk result (λ n. (m : ℕ) → rows.now ≡ shown_number m ∷ [] → n ≡ m) }
+    ensures some { IfOk result (λ n. 0 < length rows.now) }
     ensures small { IfOk result (λ n. n < 2 ^ 63) }
     ensures fault { IfErr result (λ f. (m : ℕ) → rows.now ≡ shown_number m ∷ [] → IsOutside f) }
     ensures plain { IfErr result IsPlain }
@@ -78,6 +80,7 @@ const LAST_COUNT: u64 = i64::MAX as u64;
 /// The number of rows, in the only row of a count.
 pub(crate) fn the_count(rows: &[Row]) -> Result<u64, StoreFault>
     ensures value { IfOk result (λ n. (m : ℕ) → rows.now ≡ shown_number (reached m) ∷ [] → n ≡ m) }
+    ensures small { IfOk result (λ n. n < 2 ^ 63) }
     ensures fault { IfErr result (λ f. (m : ℕ) → rows.now ≡ shown_number m ∷ [] → IsOutside f) }
     ensures plain { IfErr result IsPlain }
 {
@@ -151,13 +154,31 @@ fn moment_at(row: &Row, at: usize) -> Result<Moment, StoreFault>
     Ok(Moment { secs, nanos })
 }
 
-/// The row of a node, without its number, in the first columns.
-pub fn node_at(row: &Row, node: u64) -> Result<NodeRow, StoreFault>
+// The written blocks of a node, none where the layout doesn't count them.
+fn written_at(row: &Row, layout: Layout) -> Result<Option<u64>, StoreFault>
+    ensures value { IfOk result (λ o. (n : Node) (more : List Value) → HasCount layout n
+        → row.now ≡ node_columns layout n ++ more → o ≡ n.written) }
+    ensures misread { IfErr result IsMisread }
+    ensures fault { IfErr result (λ f. (n : Node) (more : List Value)
+        → row.now ≡ node_columns layout n ++ more → IsOutside f) }
+    ensures plain { IfErr result IsPlain }
+{
+    match layout {
+        Layout::Second => Ok(None),
+        Layout::Third => match number_at(row, 14) {
+            Ok(count) => Ok(Some(count)),
+            Err(fault) => Err(fault),
+        },
+    }
+}
+
+/// The row of a node, without its number, in the first columns, as tables of this layout have them.
+pub fn node_at(row: &Row, node: u64, layout: Layout) -> Result<NodeRow, StoreFault>
     ensures value { IfOk result (λ r. (n : Node) (more : List Value) → HasWidths n
-        → n.node ≡ node → row.now ≡ node_columns n ++ more → r ≡ n) }
+        → HasCount layout n → n.node ≡ node → row.now ≡ node_columns layout n ++ more → r ≡ n) }
     ensures misread { IfErr result IsMisread }
     ensures fault { IfErr result (λ f. (n : Node) (more : List Value) → HasWidths n
-        → row.now ≡ node_columns n ++ more → IsOutside f) }
+        → row.now ≡ node_columns layout n ++ more → IsOutside f) }
     ensures plain { IfErr result IsPlain }
 {
     let mode = small_at(row, 0)?;
@@ -170,6 +191,7 @@ pub fn node_at(row: &Row, node: u64) -> Result<NodeRow, StoreFault>
     let ctime = moment_at(row, 9)?;
     let up = number_at(row, 11)?;
     let subdirs = small_at(row, 12)?;
+    let written = written_at(row, layout)?;
     Ok(NodeRow {
         node,
         mode,
@@ -182,6 +204,7 @@ pub fn node_at(row: &Row, node: u64) -> Result<NodeRow, StoreFault>
         ctime,
         up,
         subdirs,
+        written,
     })
 }
 
@@ -202,19 +225,19 @@ fn mode_at(row: &Row) -> Result<Option<u32>, StoreFault>
 }
 
 /// The same, and none where these columns are NULL.
-pub fn node_if_any(row: &Row, node: u64) -> Result<Option<NodeRow>, StoreFault>
+pub fn node_if_any(row: &Row, node: u64, layout: Layout) -> Result<Option<NodeRow>, StoreFault>
     ensures value { IfOk result (λ r. (o : Option Node) (more : List Value)
-        → IfSome o (λ n. HasWidths n × (n.node ≡ node)) → row.now ≡ columns_of o ++ more
-        → r ≡ o) }
+        → IfSome o (λ n. HasWidths n × HasCount layout n × (n.node ≡ node))
+        → row.now ≡ columns_of layout o ++ more → r ≡ o) }
     ensures misread { IfErr result IsMisread }
     ensures fault { IfErr result (λ f. (o : Option Node) (more : List Value)
-        → IfSome o HasWidths → row.now ≡ columns_of o ++ more → IsOutside f) }
+        → IfSome o HasWidths → row.now ≡ columns_of layout o ++ more → IsOutside f) }
     ensures plain { IfErr result IsPlain }
 {
     let mode = mode_at(row)?;
     match mode {
         None => Ok(None),
-        Some(_) => match node_at(row, node) {
+        Some(_) => match node_at(row, node, layout) {
             Ok(found) => Ok(Some(found)),
             Err(fault) => Err(fault),
         },

@@ -46,8 +46,8 @@ pub(crate) const FLAGS: u64 = 10;
 /// The key of the next lot.
 pub const NEXT_LOT: u64 = 11;
 
-/// The key of the profile, 2, of an everyday store. The capacity and the blocks in use follow. A
-/// plain store has none of the three.
+/// The key of the profile, 2, of an everyday store. The capacity, the blocks in use and, in version
+/// 3, the number of the store follow. A plain store has none of them.
 pub(crate) const PROFILE: u64 = 12;
 
 /// The key of the blocks that the store has room for.
@@ -55,6 +55,9 @@ pub(crate) const CAPACITY: u64 = 13;
 
 /// The key of the blocks in use.
 pub const USED: u64 = 14;
+
+/// The key of the store's number, which version 3 has.
+pub(crate) const NUMBER: u64 = 15;
 
 const INSERT: &str = "INSERT INTO meta (k, v) VALUES (?1, ?2)";
 

@@ -1,23 +1,28 @@
 // A new store, made in one transaction.
-ghost use Rattle.std.specs.Prelude.{◌≡◌, ◌<◌, ◌^◌, false, None, IsTrue, IfSome, IfErr, IsErrAnd, OnOk};
+ghost use Rattle.std.specs.Prelude.{◌≡◌, ◌<◌, ◌^◌, false, None, Some, IsTrue, IfSome, IfErr};
+ghost use Rattle.std.specs.Prelude.{IsErrAnd, OnOk};
 ghost use Rattle.sqlite.specs.State.{HasCleanDisk};
 ghost use Rattle.sqlite.specs.Held.{state};
 ghost use Rattle.fuse_store_tables.specs.Faults.{IsOutside};
 ghost use Rattle.fuse_store_tables.specs.Layout.{no_schema, with_meta, with_nodes, with_entries};
 ghost use Rattle.fuse_store_tables.specs.Layout.{with_blocks, with_handles, with_answers, with_lots};
 ghost use Rattle.fuse_store_tables.specs.Layout.{with_kept, store_schema};
-ghost use Rattle.fuse_store_tables.specs.Making.{IsBare, IsNew};
+ghost use Rattle.fuse_store_tables.specs.Making.{IsBare, IsNew, IsVolume, root};
+ghost use Rattle.fuse_store_tables.specs.declared.version.Layout.TheVariants.{Second};
+ghost use Rattle.fuse_rows.specs.Columns.{FitsNode};
 ghost use Rattle.fuse_store_tables.specs.Refusing.{HasMetaTable, IsOfStore, IsNameTaken};
-ghost use Rattle.fuse_store_tables.specs.inner.Steps.{HasCounters, with_room};
+ghost use Rattle.fuse_store_tables.specs.inner.Steps.{HasCounters, with_volume};
 ghost use Rattle.fuse_store_tables.specs.Moves.{Takes, Makes, ServesAs, IsSafe, LeavesAlone, Begins};
 ghost use Rattle.fuse_store_tables.specs.Moves.{CommitsNothing};
 ghost use Rattle.fuse_store_tables.specs.inner.Performing.{TransactsAs, StaysWithin};
 
-use crate::counters::{CAPACITY, PROFILE, USED, insert_counter};
+use crate::counters::{CAPACITY, NUMBER, PROFILE, USED, insert_counter};
 use crate::nodes::write_node;
 use crate::profile::EVERYDAY;
 use crate::schema::is_empty;
 use crate::statements::{begin, commit, run, undo};
+use crate::third::make_third;
+use crate::version::{Layout, Volume};
 use fuse_keeper::StoreFault;
 use fuse_rows::{NodeRow, Origin};
 use sqlite::{Alter, Connection, Error};
@@ -34,10 +39,11 @@ const ENTRIES: &str = "CREATE TABLE entries (cookie INTEGER PRIMARY KEY, \
     dir INTEGER NOT NULL REFERENCES nodes (node), name BLOB NOT NULL, \
     child INTEGER NOT NULL UNIQUE REFERENCES nodes (node), UNIQUE (dir, name)) STRICT";
 
-const BLOCKS: &str = "CREATE TABLE blocks (node INTEGER NOT NULL REFERENCES nodes (node), \
+pub(crate) const BLOCKS: &str =
+    "CREATE TABLE blocks (node INTEGER NOT NULL REFERENCES nodes (node), \
     block INTEGER NOT NULL, bytes BLOB NOT NULL, PRIMARY KEY (node, block)) STRICT";
 
-const HANDLES: &str = "CREATE TABLE handles (fh INTEGER PRIMARY KEY, \
+pub(crate) const HANDLES: &str = "CREATE TABLE handles (fh INTEGER PRIMARY KEY, \
     node INTEGER NOT NULL REFERENCES nodes (node), access INTEGER NOT NULL) STRICT";
 
 const ANSWERS: &str = "CREATE TABLE answers (id INTEGER PRIMARY KEY, errno INTEGER NOT NULL, \
@@ -54,7 +60,7 @@ pub(crate) const ENTRIES_IN_ORDER: &str = "CREATE INDEX entries_in_order ON entr
 const FILL: &str = "INSERT INTO meta (k, v) VALUES (1, 2), (2, 2), (3, 1), (4, 3), (5, 1), (6, 0), \
     (7, 0), (8, 0), (9, 0), (10, 0), (11, 1)";
 
-fn make_meta<S: Alter>(conn: &mut Connection<S>) -> Result<(), Error>
+pub(crate) fn make_meta<S: Alter>(conn: &mut Connection<S>) -> Result<(), Error>
     ensures made { Takes (IsBare no_schema) (IsBare with_meta) (state S.Store conn.old)
         (state S.Store conn.new) result }
     ensures within { StaysWithin (state S.Store conn.old) (state S.Store conn.new) result }
@@ -137,18 +143,18 @@ fn make_entries_in_order<S: Alter>(conn: &mut Connection<S>) -> Result<(), Error
 }
 
 fn fill_meta<S: Alter>(conn: &mut Connection<S>) -> Result<(), Error>
-    ensures made { Takes (IsBare with_meta) HasCounters (state S.Store conn.old) (state S.Store conn.new)
-        result }
+    ensures made { Takes (IsBare with_meta) (HasCounters Second) (state S.Store conn.old)
+        (state S.Store conn.new) result }
     ensures within { StaysWithin (state S.Store conn.old) (state S.Store conn.new) result }
 {
     make_entries_in_order(conn)?;
     run(conn, FILL, &[])
 }
 
-// The tables and the counters.
+// The tables and the counters of version 2.
 fn make_tables<S: Alter>(conn: &mut Connection<S>) -> Result<(), Error>
-    ensures made { Takes (IsBare no_schema) HasCounters (state S.Store conn.old) (state S.Store conn.new)
-        result }
+    ensures made { Takes (IsBare no_schema) (HasCounters Second) (state S.Store conn.old)
+        (state S.Store conn.new) result }
     ensures within { StaysWithin (state S.Store conn.old) (state S.Store conn.new) result }
     ensures taken { HasCleanDisk (state S.Store conn.new)
         → HasMetaTable (state S.Store conn.old).now.schema → IsErrAnd result IsNameTaken }
@@ -166,7 +172,20 @@ fn make_plain<S: Alter>(conn: &mut Connection<S>, from: Origin) -> Result<(), Er
         → HasMetaTable (state S.Store conn.old).now.schema → IsErrAnd result IsNameTaken }
 {
     make_tables(conn)?;
-    let root = NodeRow {
+    let root = root_row(Layout::Second, from);
+    write_node(conn, &root)
+}
+
+// The root of a new store.
+fn root_row(layout: Layout, from: Origin) -> NodeRow
+    ensures value { result ≡ root layout from }
+    ensures fits { FitsNode result }
+{
+    let written = match layout {
+        Layout::Second => None,
+        Layout::Third => Some(0),
+    };
+    NodeRow {
         node: 1,
         mode: 0o040755,
         uid: from.owner.uid,
@@ -178,48 +197,67 @@ fn make_plain<S: Alter>(conn: &mut Connection<S>, from: Origin) -> Result<(), Er
         ctime: from.made,
         up: 0,
         subdirs: 0,
-    };
-    write_node(conn, &root)
+        written,
+    }
 }
 
-// Makes a plain store one of the everyday profile.
-fn add_room<S: Alter>(conn: &mut Connection<S>, capacity: u64) -> Result<(), Error>
-    requires { capacity < 2 ^ 63 }
-    ensures made { Makes (with_room capacity) (state S.Store conn.old) (state S.Store conn.new)
-        result }
-    ensures within { StaysWithin (state S.Store conn.old) (state S.Store conn.new) result }
-{
-    insert_counter(conn, PROFILE, EVERYDAY)?;
-    insert_counter(conn, CAPACITY, capacity)?;
-    insert_counter(conn, USED, 0)
-}
-
-// The tables and their first rows. A store with a capacity is of the everyday profile.
-fn make_all<S: Alter>(
-    conn: &mut Connection<S>,
-    room: Option<u64>,
-    from: Origin,
-) -> Result<(), Error>
-    requires { IfSome room (λ capacity. capacity < 2 ^ 51) }
-    ensures made { Takes (IsBare no_schema) (IsNew room from) (state S.Store conn.old)
+// The rows of `meta` that an everyday store has more.
+fn add_volume<S: Alter>(conn: &mut Connection<S>, volume: Volume) -> Result<(), Error>
+    requires capacity { volume.capacity < 2 ^ 63 }
+    requires number { volume.number < 2 ^ 63 }
+    ensures made { Makes (with_volume volume.capacity volume.number) (state S.Store conn.old)
         (state S.Store conn.new) result }
     ensures within { StaysWithin (state S.Store conn.old) (state S.Store conn.new) result }
 {
-    make_plain(conn, from)?;
-    match room {
-        None => Ok(()),
-        Some(capacity) => add_room(conn, capacity),
+    insert_counter(conn, PROFILE, EVERYDAY)?;
+    insert_counter(conn, CAPACITY, volume.capacity)?;
+    insert_counter(conn, USED, 0)?;
+    insert_counter(conn, NUMBER, volume.number)
+}
+
+// The tables and the first rows of an everyday store.
+fn make_everyday<S: Alter>(
+    conn: &mut Connection<S>,
+    volume: Volume,
+    from: Origin,
+) -> Result<(), Error>
+    requires capacity { volume.capacity < 2 ^ 51 }
+    requires number { volume.number < 2 ^ 63 }
+    ensures made { Takes (IsBare no_schema) (IsNew (Some volume) from) (state S.Store conn.old)
+        (state S.Store conn.new) result }
+    ensures within { StaysWithin (state S.Store conn.old) (state S.Store conn.new) result }
+{
+    make_third(conn)?;
+    let root = root_row(Layout::Third, from);
+    write_node(conn, &root)?;
+    add_volume(conn, volume)
+}
+
+// The tables and their first rows. A store with a volume is of the everyday profile.
+fn make_all<S: Alter>(
+    conn: &mut Connection<S>,
+    volume: Option<Volume>,
+    from: Origin,
+) -> Result<(), Error>
+    requires { IfSome volume IsVolume }
+    ensures made { Takes (IsBare no_schema) (IsNew volume from) (state S.Store conn.old)
+        (state S.Store conn.new) result }
+    ensures within { StaysWithin (state S.Store conn.old) (state S.Store conn.new) result }
+{
+    match volume {
+        None => make_plain(conn, from),
+        Some(volume) => make_everyday(conn, volume, from),
     }
 }
 
 // The transaction. A fault may leave it open.
 fn transact<S: Alter>(
     conn: &mut Connection<S>,
-    room: Option<u64>,
+    volume: Option<Volume>,
     from: Origin,
 ) -> Result<(), StoreFault>
-    requires { IfSome room (λ capacity. capacity < 2 ^ 51) }
-    ensures performs { TransactsAs (IsBare no_schema) (IsNew room from) (state S.Store conn.old)
+    requires { IfSome volume IsVolume }
+    ensures performs { TransactsAs (IsBare no_schema) (IsNew volume from) (state S.Store conn.old)
         (state S.Store conn.new) result }
     ensures fault { IsSafe (IsBare no_schema) (state S.Store conn.old) (state S.Store conn.new)
         result }
@@ -236,21 +274,21 @@ fn transact<S: Alter>(
     if !is_empty(conn.schema()) {
         return Err(StoreFault::Sql(Error::InvalidQuery));
     }
-    make_all(conn, room, from)?;
+    make_all(conn, volume, from)?;
     commit(conn)?;
     Ok(())
 }
 
-/// Makes a new store of this origin in a database without tables: an everyday store where it has a
-/// capacity, in blocks, and else a plain one. Any other database is left as it was. The commit is
+/// Makes a new store of this origin in a database without tables: an everyday store, of version 3,
+/// where there is a volume, and else a plain one, of version 2. Any other database is left as it was. The commit is
 /// its last call of the database.
 pub fn make_store<S: Alter>(
     conn: &mut Connection<S>,
-    room: Option<u64>,
+    volume: Option<Volume>,
     from: Origin,
 ) -> Result<(), StoreFault>
-    requires { IfSome room (λ capacity. capacity < 2 ^ 51) }
-    ensures serves { ServesAs (IsBare no_schema) (IsNew room from) (state S.Store conn.old)
+    requires { IfSome volume IsVolume }
+    ensures serves { ServesAs (IsBare no_schema) (IsNew volume from) (state S.Store conn.old)
         (state S.Store conn.new) result }
     ensures fault { IsSafe (IsBare no_schema) (state S.Store conn.old) (state S.Store conn.new)
         result }
@@ -265,7 +303,7 @@ pub fn make_store<S: Alter>(
     ensures ended { HasCleanDisk (state S.Store conn.new)
         → (state S.Store conn.new).in_transaction ≡ false }
 {
-    match transact(conn, room, from) {
+    match transact(conn, volume, from) {
         Ok(()) => Ok(()),
         Err(fault) => {
             undo(conn);

@@ -1,18 +1,22 @@
 // The table of entries.
 ghost use Rattle.std.specs.Prelude.{◌≡◌, ◌<◌, ◌^◌, [], ◌∷◌, pos, map, take, filter, IfOk, OnOk};
-ghost use Rattle.std.specs.Prelude.{None, OnErr};
+ghost use Rattle.std.specs.Prelude.{None, OnErr, ℕ};
 ghost use Rattle.sqlite.specs.declared.types.Value.TheVariants.{Int, Blob};
 ghost use Rattle.sqlite.specs.State.{HasCleanDisk};
 ghost use Rattle.sqlite.specs.Held.{state};
 ghost use Rattle.sqlite.specs.Values.{bound};
 ghost use Rattle.fuse_rows.specs.Columns.{FitsEntry};
-ghost use Rattle.fuse_store_tables.specs.Moves.{Inside, Makes, LookedInside, Stays};
-ghost use Rattle.fuse_store_tables.specs.Content.{Content, at_by, cookie_of, with_entry};
+ghost use Rattle.fuse_store_tables.specs.Moves.{Inside, InsideAs, Makes, LookedInside, Stays};
+ghost use Rattle.fuse_store_tables.specs.Moves.{Takes};
+ghost use Rattle.fuse_store_tables.specs.inner.Steps.{HoldsIn};
+ghost use Rattle.fuse_store_tables.specs.Content.{Content, Holds, at_by, cookie_of, with_entry};
 ghost use Rattle.fuse_store_tables.specs.Content.{with_entry_gone, has_name};
 ghost use Rattle.fuse_store_tables.specs.Content.{stands_after, shown_place, shown_entry, shown_child};
 
+use crate::schema::layout_of;
 use crate::statements::run;
 use crate::values::{number, triple};
+use crate::version::Layout;
 use fuse_rows::EntryRow;
 use sqlite::types::{ToSql, ValueRef};
 use sqlite::{Alter, Connection, Error, Row};
@@ -27,10 +31,15 @@ const SELECT_NAMED: &str =
 const SELECT_AFTER: &str = "SELECT cookie, name, child FROM entries \
     WHERE dir = ?1 AND cookie > ?2 ORDER BY cookie LIMIT ?3";
 
-const SELECT_CHILDREN: &str = "SELECT n.mode, n.uid, n.gid, n.rdev, n.size, n.atime, n.atimensec, \
+const CHILDREN: &str = "SELECT n.mode, n.uid, n.gid, n.rdev, n.size, n.atime, n.atimensec, \
     n.mtime, n.mtimensec, n.ctime, n.ctimensec, n.up, n.subdirs, e.cookie, e.name, e.child \
     FROM entries AS e LEFT JOIN nodes AS n ON n.node = e.child \
     WHERE e.dir = ?1 AND e.cookie > ?2 ORDER BY e.cookie LIMIT ?3";
+
+const CHILDREN_THIRD: &str = "SELECT n.mode, n.uid, n.gid, n.rdev, n.size, n.atime, n.atimensec, \
+    n.mtime, n.mtimensec, n.ctime, n.ctimensec, n.up, n.subdirs, n.links, n.written, \
+    n.attributes, e.cookie, e.name, e.child FROM entries AS e LEFT JOIN nodes AS n \
+    ON n.node = e.child WHERE e.dir = ?1 AND e.cookie > ?2 ORDER BY e.cookie LIMIT ?3";
 
 // The parameters of an entry.
 fn entry_values<'a>(row: &'a EntryRow) -> [ValueRef<'a>; 4]
@@ -114,6 +123,29 @@ pub fn select_after<S: Alter>(
     conn.query_all(SELECT_AFTER, &values)
 }
 
+// The same entries, each after the columns of the node that it leads to, in tables of this layout.
+fn children_in<S: Alter>(
+    conn: &mut Connection<S>,
+    layout: Layout,
+    values: &[ValueRef<'_>],
+) -> Result<Vec<Row>, Error>
+    ensures made { (dir cookie limit : ℕ)
+        → bound values.now ≡ Int (pos dir) ∷ Int (pos cookie) ∷ Int (pos limit) ∷ []
+        → Takes (HoldsIn layout) (HoldsIn layout) (state S.Store conn.old) (state S.Store conn.new)
+        result }
+    ensures found { (dir cookie limit : ℕ)
+        → bound values.now ≡ Int (pos dir) ∷ Int (pos cookie) ∷ Int (pos limit) ∷ []
+        → HasCleanDisk (state S.Store conn.new) → IfOk result (λ rows. (c : Content)
+        → InsideAs (HoldsIn layout c) (state S.Store conn.old)
+        → rows.items ≡ take limit (map (shown_child c) (filter (stands_after dir cookie)
+        c.entries))) }
+{
+    match layout {
+        Layout::Second => conn.query_all(CHILDREN, values),
+        Layout::Third => conn.query_all(CHILDREN_THIRD, values),
+    }
+}
+
 /// The same entries, each after the columns of the node that it leads to.
 pub fn select_children<S: Alter>(
     conn: &mut Connection<S>,
@@ -132,5 +164,6 @@ pub fn select_children<S: Alter>(
         c.entries))) }
 {
     let values = triple(dir, cookie, limit);
-    conn.query_all(SELECT_CHILDREN, &values)
+    let layout = layout_of(conn);
+    children_in(conn, layout, &values)
 }

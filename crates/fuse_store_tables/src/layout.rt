@@ -23,7 +23,7 @@ fn are_meta(cs: &[Column]) -> bool
     }
 }
 
-fn is_meta(t: &Table) -> bool
+pub(crate) fn is_meta(t: &Table) -> bool
     ensures { Decides result (t.now ≡ meta) }
 {
     is_keyed(t, b"meta", 0)
@@ -34,7 +34,7 @@ fn is_meta(t: &Table) -> bool
 }
 
 // The columns of the entries.
-fn are_entries(cs: &[Column]) -> bool
+pub(crate) fn are_entries(cs: &[Column]) -> bool
     ensures { Decides result (cs.now ≡ entries.columns) }
 {
     match cs {
@@ -78,7 +78,7 @@ fn is_entries(t: &Table) -> bool
         && are_references_of_entries(t.references.as_slice())
 }
 
-// The last columns of a node.
+// The last columns of a node in version 2.
 fn are_last_of_node(cs: &[Column]) -> bool
     ensures { Decides result
         (cs.now ≡ number_column (codes "up") ∷ number_column (codes "subdirs") ∷ []) }
@@ -91,7 +91,7 @@ fn are_last_of_node(cs: &[Column]) -> bool
 
 // The columns of a node from its times on.
 fn are_node_times(cs: &[Column]) -> bool
-    ensures { Decides result (cs.now ≡ node_times) }
+    ensures { Decides result (cs.now ≡ node_times []) }
 {
     match cs {
         [
@@ -185,7 +185,7 @@ pub(crate) fn are_indexes(all: &[Index]) -> bool
 }
 
 // A node has one block of a number.
-fn is_one_key(keys: &[Items<usize>]) -> bool
+pub(crate) fn is_one_key(keys: &[Items<usize>]) -> bool
     ensures { Decides result (keys.now ≡ blocks.uniques) }
 {
     match keys {
@@ -206,7 +206,7 @@ fn are_blocks(cs: &[Column]) -> bool
     }
 }
 
-fn is_blocks(t: &Table) -> bool
+pub(crate) fn is_blocks(t: &Table) -> bool
     ensures { Decides result (t.now ≡ blocks) }
 {
     t.name.as_slice() == b"blocks".as_slice()
@@ -224,7 +224,7 @@ fn is_blocks(t: &Table) -> bool
 }
 
 // The columns of the handles.
-fn are_handles(cs: &[Column]) -> bool
+pub(crate) fn are_handles(cs: &[Column]) -> bool
     ensures { Decides result (cs.now ≡ handles.columns) }
 {
     match cs {
@@ -277,7 +277,7 @@ fn are_lots(cs: &[Column]) -> bool
     }
 }
 
-fn is_lots(t: &Table) -> bool
+pub(crate) fn is_lots(t: &Table) -> bool
     ensures { Decides result (t.now ≡ lots) }
 {
     is_keyed(t, b"lots", 9)
@@ -312,7 +312,7 @@ fn is_to_lots(rs: &[Reference]) -> bool
     }
 }
 
-fn is_kept(t: &Table) -> bool
+pub(crate) fn is_kept(t: &Table) -> bool
     ensures { Decides result (t.now ≡ kept) }
 {
     is_keyed(t, b"kept", 10)

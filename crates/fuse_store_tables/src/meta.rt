@@ -1,4 +1,4 @@
-// The table `meta` of either version, as the opening of a store reads it.
+// The table `meta` of any version, as the opening of a store reads it.
 ghost use Rattle.std.specs.Prelude.{◌≡◌, ◌≤◌, ◌∷◌, [], ℕ, ⊤, List, map, pos, IfOk, IfErr, OnOk};
 ghost use Rattle.std.specs.Int.{w64, cast_signed};
 ghost use Rattle.std.specs.Option.{option_to_list};
@@ -13,7 +13,7 @@ ghost use Rattle.fuse_store_tables.specs.Content.{Content, Counter, shown_counte
 ghost use Rattle.fuse_store_tables.specs.Content.{value_at};
 ghost use Rattle.fuse_store_tables.specs.Faults.{IsOutside, IsPlain};
 ghost use Rattle.fuse_store_tables.specs.Saying.{ShowsVersion, HasFirst, IsOwn, ReportsVersion};
-ghost use Rattle.fuse_store_tables.specs.Saying.{Says};
+ghost use Rattle.fuse_store_tables.specs.Saying.{Says, Shows, meta_text};
 ghost use Rattle.fuse_store_tables.specs.Moves.{InsideAs, Takes};
 ghost use Rattle.fuse_store_tables.specs.inner.Performing.{IsSure, OnlyReads};
 ghost use Rattle.fuse_store_tables.specs.Opening.{IsStored, IsLaid, IsMetaFrom, IsMeta};
@@ -25,6 +25,7 @@ ghost use Rattle.fuse_store_tables.specs.inner.Performing.{StaysWithin};
 
 use crate::columns::{misread, number_at};
 use crate::profile::{check_profile, node_limit};
+use crate::schema::layout_of;
 use fuse_init::Profile;
 use fuse_keeper::StoreFault;
 use sqlite::{Alter, Connection, Error, Row};
@@ -57,6 +58,8 @@ fn select_meta<S: Alter>(conn: &mut Connection<S>) -> Result<Vec<Row>, Error>
     ensures laid { Takes IsLaid IsLaid (state S.Store conn.old) (state S.Store conn.new) result }
     ensures shows { HasCleanDisk (state S.Store conn.new) → IfOk result (λ rows. (c : Content)
         → InsideAs (IsLaid c) (state S.Store conn.old) → rows.items ≡ map shown_meta c.counters) }
+    ensures tells { HasCleanDisk (state S.Store conn.new)
+        → IfOk result (λ rows. Shows meta_text (state S.Store conn.old).now rows.items) }
     ensures reads { OnlyReads (state S.Store conn.old) (state S.Store conn.new) result }
     ensures within { StaysWithin (state S.Store conn.old) (state S.Store conn.new) result }
 {
@@ -132,8 +135,10 @@ fn most(profile: Profile, key: u64) -> u64
         9223372036854775807
     } else if key < 12 {
         1 << 62
-    } else {
+    } else if key < 15 {
         (1 << 51) - 1
+    } else {
+        9223372036854775807
     }
 }
 
@@ -190,14 +195,17 @@ pub(crate) fn check_first_meta<S: Alter>(conn: &mut Connection<S>) -> Result<Vec
     Ok(rows)
 }
 
-/// The same of version 2, of either profile.
+/// The same of version 2 or 3, of either profile.
 pub(crate) fn check_second_meta<S: Alter>(conn: &mut Connection<S>) -> Result<Vec<Row>, StoreFault>
     ensures checks { ChecksIf (λ _. ⊤) (λ c. MetaOf (profile_in c) c) (state S.Store conn.old)
         (state S.Store conn.new) result }
     ensures shows { HasCleanDisk (state S.Store conn.new) → IfOk result (λ rows. (c : Content)
         → InsideAs (IsLaid c) (state S.Store conn.old) → rows.items ≡ map shown_meta c.counters) }
+    ensures tells { HasCleanDisk (state S.Store conn.new)
+        → IfOk result (λ rows. Shows meta_text (state S.Store conn.old).now rows.items) }
 {
+    let layout = layout_of(conn);
     let rows = select_meta(conn)?;
-    check_profile(rows.as_slice())?;
+    check_profile(rows.as_slice(), layout)?;
     Ok(rows)
 }

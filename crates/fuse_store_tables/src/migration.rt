@@ -1,9 +1,12 @@
 // The migration of a store from version 1 to version 2, and the index of a store without it.
+ghost use Rattle.std.specs.Prelude.{ℕ, Option};
 ghost use Rattle.sqlite.specs.Held.{state};
 ghost use Rattle.fuse_store_tables.specs.Moves.{Takes, Makes};
 ghost use Rattle.fuse_store_tables.specs.Content.{Holds};
 ghost use Rattle.fuse_store_tables.specs.Opening.{IsFirst, IsOpened, HoldsUnindexed};
 ghost use Rattle.fuse_store_tables.specs.inner.Steps.{HasLots, HasKept, HasTables, moved_answers};
+ghost use Rattle.fuse_store_tables.specs.inner.Steps.{HoldsIn};
+ghost use Rattle.fuse_store_tables.specs.declared.version.Layout.TheVariants.{Second};
 ghost use Rattle.fuse_store_tables.specs.Opening.{as_version_2};
 ghost use Rattle.fuse_store_tables.specs.inner.Performing.{StaysWithin};
 
@@ -47,7 +50,8 @@ fn add_tables<S: Alter>(conn: &mut Connection<S>) -> Result<(), Error>
 
 // Puts the records under lot 0.
 fn move_records<S: Alter>(conn: &mut Connection<S>) -> Result<(), Error>
-    ensures made { Makes moved_answers (state S.Store conn.old) (state S.Store conn.new) result }
+    ensures made { Takes (HoldsIn Second) (λ c. HoldsIn Second (moved_answers c))
+        (state S.Store conn.old) (state S.Store conn.new) result }
     ensures within { StaysWithin (state S.Store conn.old) (state S.Store conn.new) result }
 {
     write_lot(conn, 0)?;
@@ -66,7 +70,8 @@ fn mark<S: Alter>(conn: &mut Connection<S>) -> Result<(), Error>
 
 /// The whole migration, within a transaction.
 pub(crate) fn migrate<S: Alter>(conn: &mut Connection<S>) -> Result<(), Error>
-    ensures made { Takes IsFirst IsOpened (state S.Store conn.old) (state S.Store conn.new) result }
+    ensures made { (number : Option ℕ) → Takes IsFirst (IsOpened number) (state S.Store conn.old)
+        (state S.Store conn.new) result }
     ensures within { StaysWithin (state S.Store conn.old) (state S.Store conn.new) result }
 {
     add_tables(conn)?;

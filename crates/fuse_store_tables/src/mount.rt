@@ -1,11 +1,12 @@
 // The begin of a mount: all state of the last mount is deleted, in one transaction.
-ghost use Rattle.std.specs.Prelude.{◌≡◌, map, false, List, ℕ, IfErr, OnOk, OnErr};
+ghost use Rattle.std.specs.Prelude.{◌≡◌, ◌<◌, ◌^◌, map, false, List, ℕ, IfErr, OnOk, OnErr};
 ghost use Rattle.sqlite.specs.State.{HasCleanDisk, KeepsCommit};
 ghost use Rattle.sqlite.specs.Held.{state};
 ghost use Rattle.fuse_store_tables.specs.Content.{Holds};
 ghost use Rattle.fuse_store_tables.specs.Faults.{IsOutside, IsPlain};
 ghost use Rattle.fuse_store_tables.specs.inner.Columns.{shown_number, number_of_row};
-ghost use Rattle.fuse_store_tables.specs.inner.Steps.{without_blocks_of, without_unnamed_blocks};
+ghost use Rattle.fuse_store_tables.specs.inner.Steps.{without_contents, without_contents_of};
+ghost use Rattle.fuse_store_tables.specs.inner.Steps.{without_unnamed_contents};
 ghost use Rattle.fuse_store_tables.specs.Clearing.{without_settings};
 ghost use Rattle.fuse_store_tables.specs.inner.Steps.{with_nodes_counted, without_records};
 ghost use Rattle.fuse_store_tables.specs.inner.Steps.{without_all_handles, without_unnamed_nodes};
@@ -22,15 +23,27 @@ use crate::columns::number_at;
 use crate::counters::{AGREED, FLAGS, HANDLES, MAX_READAHEAD, MINOR, NODES, write_counter};
 use crate::handles::delete_all_handles;
 use crate::nodes::{count_nodes, delete_unnamed, select_unnamed};
+use crate::pieces::remove_pieces;
 use crate::records::{delete_all_kept, delete_all_lots};
 use crate::statements::{begin, commit, undo};
 use crate::used::lower_used;
 use fuse_keeper::StoreFault;
 use sqlite::{Alter, Connection, Error, Row};
 
-// Deletes the blocks of these nodes.
-fn delete_blocks_of<S: Alter>(conn: &mut Connection<S>, nodes: &[Row]) -> Result<(), StoreFault>
-    ensures made { Makes (without_blocks_of (map number_of_row nodes.now)) (state S.Store conn.old)
+// Deletes the blocks and pieces of a node.
+fn remove_contents<S: Alter>(conn: &mut Connection<S>, node: u64) -> Result<(), Error>
+    requires { node < 2 ^ 63 }
+    ensures made { Makes (without_contents node) (state S.Store conn.old) (state S.Store conn.new)
+        result }
+    ensures within { StaysWithin (state S.Store conn.old) (state S.Store conn.new) result }
+{
+    remove_blocks_from(conn, node, 0)?;
+    remove_pieces(conn, node)
+}
+
+// Deletes the blocks and pieces of these nodes.
+fn delete_contents_of<S: Alter>(conn: &mut Connection<S>, nodes: &[Row]) -> Result<(), StoreFault>
+    ensures made { Makes (without_contents_of (map number_of_row nodes.now)) (state S.Store conn.old)
         (state S.Store conn.new) result }
     ensures fault { IfErr result (λ f. (ns : List ℕ) → nodes.now ≡ map shown_number ns
         → IsOutside f) }
@@ -40,7 +53,7 @@ fn delete_blocks_of<S: Alter>(conn: &mut Connection<S>, nodes: &[Row]) -> Result
     let mut at = 0;
     'nodes: while at < nodes.len() {
         match number_at(&nodes[at], 0) {
-            Ok(node) => match remove_blocks_from(conn, node, 0) {
+            Ok(node) => match remove_contents(conn, node) {
                 Ok(()) => {}
                 Err(error) => return Err(error.into()),
             },
@@ -51,16 +64,16 @@ fn delete_blocks_of<S: Alter>(conn: &mut Connection<S>, nodes: &[Row]) -> Result
     Ok(())
 }
 
-// Deletes the blocks of the nodes without a name.
-fn clear_blocks<S: Alter>(conn: &mut Connection<S>) -> Result<(), StoreFault>
-    ensures made { Makes without_unnamed_blocks (state S.Store conn.old) (state S.Store conn.new)
+// Deletes the blocks and pieces of the nodes without a name.
+fn clear_contents<S: Alter>(conn: &mut Connection<S>) -> Result<(), StoreFault>
+    ensures made { Makes without_unnamed_contents (state S.Store conn.old) (state S.Store conn.new)
         result }
     ensures fault { IsSure Holds (state S.Store conn.old) (state S.Store conn.new) result }
     ensures plain { IfErr result IsPlain }
     ensures within { StaysWithin (state S.Store conn.old) (state S.Store conn.new) result }
 {
     let nodes = select_unnamed(conn)?;
-    delete_blocks_of(conn, nodes.as_slice())
+    delete_contents_of(conn, nodes.as_slice())
 }
 
 // Counts the nodes anew.
@@ -112,7 +125,7 @@ fn clear_nodes<S: Alter>(conn: &mut Connection<S>) -> Result<(), StoreFault>
     ensures plain { IfErr result IsPlain }
     ensures within { StaysWithin (state S.Store conn.old) (state S.Store conn.new) result }
 {
-    clear_blocks(conn)?;
+    clear_contents(conn)?;
     delete_unnamed(conn)?;
     recount(conn)
 }
@@ -156,7 +169,7 @@ fn transact<S: Alter>(conn: &mut Connection<S>) -> Result<(), StoreFault>
 }
 
 /// Begins a mount: deletes records, lots, handles, settings, and nodes without a name with their
-/// blocks, which are in use no more. The commit is its last call of the database.
+/// blocks and pieces, which are in use no more. The commit is its last call of the database.
 pub fn begin_mount<S: Alter>(conn: &mut Connection<S>) -> Result<(), StoreFault>
     ensures serves { Serves cleared (state S.Store conn.old) (state S.Store conn.new) result }
     ensures fit { ServesAs IsSecond (λ c. IsSecond (cleared c)) (state S.Store conn.old)

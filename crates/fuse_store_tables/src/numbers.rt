@@ -8,6 +8,8 @@ ghost use Rattle.fuse_store_tables.specs.Faults.{IsOutside, IsPlain};
 ghost use Rattle.fuse_store_tables.specs.Opening.{AllBelow, AreAbove, LotsAreBelow};
 ghost use Rattle.fuse_store_tables.specs.Opening.{HasFirstMeta, HasSecondMeta, IsLaid, profile_in};
 ghost use Rattle.fuse_store_tables.specs.Moves.{InsideAs};
+ghost use Rattle.fuse_store_tables.specs.Saying.{ShowsMore};
+ghost use Rattle.fuse_init.specs.declared.profile.Profile.TheVariants.{Everyday};
 ghost use Rattle.fuse_store_tables.specs.inner.Checking.{ChecksIf, IsMetaIn};
 
 use crate::columns::number_at;
@@ -100,7 +102,7 @@ fn check_lots<S: Alter>(conn: &mut Connection<S>, meta: &[Row]) -> Result<(), St
     check_none(rows.as_slice())
 }
 
-// Tests the counters that both versions have.
+// Tests the counters that all versions have.
 fn check_numbers<S: Alter>(conn: &mut Connection<S>, meta: &[Row]) -> Result<(), StoreFault>
     ensures { ChecksIf (IsMetaIn meta.now 4) AreAbove (state S.Store conn.old)
         (state S.Store conn.new) result }
@@ -119,12 +121,14 @@ pub(crate) fn check_first<S: Alter>(conn: &mut Connection<S>) -> Result<(), Stor
     check_numbers(conn, meta.as_slice())
 }
 
-/// The same of version 2. The profile is the store's.
+/// The same of version 2 or 3. The profile is the store's.
 pub(crate) fn check_second<S: Alter>(conn: &mut Connection<S>) -> Result<Profile, StoreFault>
     ensures checks { ChecksIf (λ _. ⊤) HasSecondMeta (state S.Store conn.old)
         (state S.Store conn.new) result }
     ensures profile { HasCleanDisk (state S.Store conn.new) → IfOk result (λ p. (c : Content)
         → InsideAs (IsLaid c) (state S.Store conn.old) → p ≡ profile_in c) }
+    ensures more { HasCleanDisk (state S.Store conn.new)
+        → IfOk result (λ p. p ≡ Everyday → ShowsMore (state S.Store conn.old).now) }
 {
     let meta = check_second_meta(conn)?;
     check_numbers(conn, meta.as_slice())?;

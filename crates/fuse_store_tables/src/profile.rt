@@ -1,16 +1,18 @@
 // The profile of a store, as the rows of `meta` say it.
-ghost use Rattle.std.specs.Prelude.{◌≡◌, List, map, OnOk, IfErr};
+ghost use Rattle.std.specs.Prelude.{◌≡◌, ◌≤◌, List, map, OnOk, IfErr};
 ghost use Rattle.fuse_init.specs.Profile.{terms};
 ghost use Rattle.fuse_init.specs.declared.profile.Profile.TheVariants.{Everyday};
 ghost use Rattle.fuse_store_tables.specs.Content.{Content};
 ghost use Rattle.fuse_store_tables.specs.Faults.{IsOutside, IsPlain};
-ghost use Rattle.fuse_store_tables.specs.Opening.{HasRoomOf, MetaOf, profile_in};
+ghost use Rattle.fuse_store_tables.specs.Opening.{HasRoomOf, IsMeta, MetaOf, profile_in};
+ghost use Rattle.fuse_store_tables.specs.declared.version.Layout.TheVariants.{Second};
 ghost use Rattle.fuse_store_tables.specs.inner.Checking.{IsMetaIn, profile_by};
 ghost use Rattle.fuse_store_tables.specs.inner.Columns.{shown_meta};
 
 use crate::counters::{CAPACITY, PROFILE, USED};
 use crate::meta::check_rows;
 use crate::numbers::value_in;
+use crate::version::Layout;
 use fuse_init::Profile;
 use fuse_keeper::StoreFault;
 use sqlite::Row;
@@ -58,28 +60,43 @@ fn check_room(meta: &[Row]) -> Result<(), StoreFault>
     Ok(())
 }
 
-// Tests the rows of an everyday store.
-fn check_everyday(meta: &[Row]) -> Result<(), StoreFault>
+// Tests the rows of an everyday store, of which there are so many.
+fn check_everyday(meta: &[Row], count: usize) -> Result<(), StoreFault>
+    requires { 14 ≤ count }
     ensures whole { OnOk result ((c : Content) → meta.now ≡ map shown_meta c.counters
-        → MetaOf Everyday c) }
+        → IsMeta Everyday count c × HasRoomOf Everyday c) }
     ensures fault { IfErr result (λ f. (c : Content) → meta.now ≡ map shown_meta c.counters
-        → MetaOf Everyday c → IsOutside f) }
+        → IsMeta Everyday count c × HasRoomOf Everyday c → IsOutside f) }
     ensures plain { IfErr result IsPlain }
 {
-    check_rows(meta, Profile::Everyday, 14)?;
+    check_rows(meta, Profile::Everyday, count)?;
     check_room(meta)
 }
 
-/// Tests that the rows of `meta` are those of a profile.
-pub(crate) fn check_profile(meta: &[Row]) -> Result<(), StoreFault>
-    ensures whole { OnOk result ((c : Content) → meta.now ≡ map shown_meta c.counters
-        → MetaOf (profile_in c) c) }
-    ensures fault { IfErr result (λ f. (c : Content) → meta.now ≡ map shown_meta c.counters
-        → MetaOf (profile_in c) c → IsOutside f) }
+// The same of version 2, of either profile.
+fn check_second_profile(meta: &[Row]) -> Result<(), StoreFault>
+    ensures whole { OnOk result ((c : Content) → c.layout ≡ Second
+        → meta.now ≡ map shown_meta c.counters → MetaOf (profile_in c) c) }
+    ensures fault { IfErr result (λ f. (c : Content) → c.layout ≡ Second
+        → meta.now ≡ map shown_meta c.counters → MetaOf (profile_in c) c → IsOutside f) }
     ensures plain { IfErr result IsPlain }
 {
     match profile_by(meta.len()) {
         Profile::Plain => check_rows(meta, Profile::Plain, 11),
-        Profile::Everyday => check_everyday(meta),
+        Profile::Everyday => check_everyday(meta, 14),
+    }
+}
+
+/// Tests that the rows of `meta` are those of a profile and of this layout.
+pub(crate) fn check_profile(meta: &[Row], layout: Layout) -> Result<(), StoreFault>
+    ensures whole { OnOk result ((c : Content) → layout ≡ c.layout
+        → meta.now ≡ map shown_meta c.counters → MetaOf (profile_in c) c) }
+    ensures fault { IfErr result (λ f. (c : Content) → layout ≡ c.layout
+        → meta.now ≡ map shown_meta c.counters → MetaOf (profile_in c) c → IsOutside f) }
+    ensures plain { IfErr result IsPlain }
+{
+    match layout {
+        Layout::Second => check_second_profile(meta),
+        Layout::Third => check_everyday(meta, 15),
     }
 }

@@ -7,7 +7,9 @@ ghost use Rattle.sqlite.specs.State.{HasCleanDisk};
 ghost use Rattle.sqlite.specs.Held.{state};
 ghost use Rattle.sqlite.specs.Values.{bound};
 ghost use Rattle.fuse_store_tables.specs.Moves.{Inside, Rests, Makes, LookedInside, Stays, Serves};
-ghost use Rattle.fuse_store_tables.specs.Moves.{IsSafe};
+ghost use Rattle.fuse_store_tables.specs.Moves.{IsSafe, Takes};
+ghost use Rattle.fuse_store_tables.specs.inner.Steps.{HoldsIn};
+ghost use Rattle.fuse_store_tables.specs.declared.version.Layout.TheVariants.{Second};
 ghost use Rattle.fuse_store_tables.specs.Moves.{StaysOpen, OnlyReads};
 ghost use Rattle.fuse_store_tables.specs.Clearing.{counted_to};
 ghost use Rattle.fuse_store_tables.specs.inner.Columns.{shown_number};
@@ -245,7 +247,8 @@ pub fn count_lots<S: Alter>(conn: &mut Connection<S>) -> Result<u64, StoreFault>
 
 /// Copies the records of version 1 under lot 0.
 pub(crate) fn copy_answers<S: Alter>(conn: &mut Connection<S>) -> Result<(), Error>
-    ensures made { Makes with_copies (state S.Store conn.old) (state S.Store conn.new) result }
+    ensures made { Takes (HoldsIn Second) (λ c. HoldsIn Second (with_copies c))
+        (state S.Store conn.old) (state S.Store conn.new) result }
     ensures within { StaysWithin (state S.Store conn.old) (state S.Store conn.new) result }
 {
     run(conn, COPY_ANSWERS, &[])
@@ -253,7 +256,8 @@ pub(crate) fn copy_answers<S: Alter>(conn: &mut Connection<S>) -> Result<(), Err
 
 /// Deletes the records of version 1.
 pub(crate) fn delete_answers<S: Alter>(conn: &mut Connection<S>) -> Result<(), Error>
-    ensures made { Makes without_answers (state S.Store conn.old) (state S.Store conn.new) result }
+    ensures made { Takes (HoldsIn Second) (λ c. HoldsIn Second (without_answers c))
+        (state S.Store conn.old) (state S.Store conn.new) result }
     ensures within { StaysWithin (state S.Store conn.old) (state S.Store conn.new) result }
 {
     run(conn, DELETE_ANSWERS, &[])

@@ -11,31 +11,36 @@ ghost use Rattle.fuse_store_tables.specs.inner.Steps.{lowered_from, read_blocks}
 
 use crate::columns::{number_at, the_number};
 use crate::counters::{USED, select_counter, write_counter};
-use crate::nodes::select_unnamed_sizes;
+use crate::nodes::select_unnamed_extents;
+use crate::schema::layout_of;
+use crate::version::Layout;
 use fuse_keeper::StoreFault;
 use sqlite::{Alter, Connection, Row};
 
-// The blocks that a size takes, written or not.
-fn blocks_in(size: u64) -> u64
-    requires { size < 2 ^ 63 }
-    ensures { result ≡ blocks_in size }
+// The blocks of a node, by its column that says how many it uses.
+fn blocks_in(layout: Layout, extent: u64) -> u64
+    requires { extent < 2 ^ 63 }
+    ensures { result ≡ blocks_in layout extent }
 {
-    (size + 4095) / 4096
+    match layout {
+        Layout::Second => (extent + 4095) / 4096,
+        Layout::Third => extent,
+    }
 }
 
-// What is left of the blocks in use without files of these sizes.
-fn left_of(used: u64, sizes: &[Row]) -> Result<u64, StoreFault>
-    ensures value { IfOk result (λ n. n ≡ used - read_blocks sizes.now) }
+// What is left of the blocks in use without those of these nodes.
+fn left_of(used: u64, layout: Layout, extents: &[Row]) -> Result<u64, StoreFault>
+    ensures value { IfOk result (λ n. n ≡ used - read_blocks layout extents.now) }
     ensures small { IfOk result (λ n. n ≤ used) }
-    ensures fault { IfErr result (λ f. (ns : List ℕ) → sizes.now ≡ map shown_number ns
+    ensures fault { IfErr result (λ f. (ns : List ℕ) → extents.now ≡ map shown_number ns
         → IsOutside f) }
     ensures plain { IfErr result IsPlain }
 {
     let mut left = used;
     let mut at = 0;
-    'sizes: while at < sizes.len() {
-        match number_at(&sizes[at], 0) {
-            Ok(size) => left = left.saturating_sub(blocks_in(size)),
+    'extents: while at < extents.len() {
+        match number_at(&extents[at], 0) {
+            Ok(extent) => left = left.saturating_sub(blocks_in(layout, extent)),
             Err(fault) => return Err(fault),
         }
         at += 1;
@@ -52,8 +57,9 @@ fn lower_from<S: Alter>(conn: &mut Connection<S>, used: u64) -> Result<(), Store
     ensures plain { IfErr result IsPlain }
     ensures within { StaysWithin (state S.Store conn.old) (state S.Store conn.new) result }
 {
-    let sizes = select_unnamed_sizes(conn)?;
-    let left = left_of(used, sizes.as_slice())?;
+    let layout = layout_of(conn);
+    let extents = select_unnamed_extents(conn, layout)?;
+    let left = left_of(used, layout, extents.as_slice())?;
     Ok(write_counter(conn, USED, left)?)
 }
 

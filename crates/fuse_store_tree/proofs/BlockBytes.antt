@@ -2,18 +2,22 @@
 use Rattle.std.proofs.Common.{◌≡◌, ◌<◌, ◌≤◌, ◌+◌, ◌-◌, ◌*◌, ◌/◌, ◌%◌, ◌==◌, ◌&&◌, inl, inr, ℕ, zero, suc, List, [], ◌∷◌, ◌++◌, take, drop, length, filter, Option}
 use Rattle.std.proofs.Common.{find, fold, not, nat_lt, Bool, true, false, cond, Some, None, refl, sym, ap, subst, arith, ◌∙◌}
 use Rattle.std.specs.List.{AllByRecursion}
+use Rattle.std.specs.Prelude.{◌||◌, nat_le, unwrap_or, option_map}
 use Rattle.std.specs.Option.{is_some}
 use Rattle.std.proofs.lemmas.Bool.{cases_Bool}
 use Rattle.std.proofs.lemmas.Bool.Decides.{nat_tests}
 use Rattle.fuse_rows.specs.Bounds.{block_bytes}
 use Rattle.fuse_store_tables.specs.Blocks.{Block, block_at, is_at, new_block, next_slot, rewritten, set_at}
-use Rattle.fuse_store_tables.specs.Content.{put_by, put_at}
-use Rattle.fuse_store_tree.specs.Store.{byte_at, bytes_of_block, byte_in}
+use Rattle.fuse_store_tables.specs.Pieces.{Piece}
+use Rattle.fuse_store_tables.specs.Content.{Content, put_by, put_at, put_block}
+use Rattle.fuse_rows.specs.Blocks.{first_touched, touched_end}
+use Rattle.fuse_store_tree.specs.Pieces.{block_found, stored_block, is_written_in, piece_at, byte_at, byte_in}
 use Rattle.std.proofs.lemmas.List.{get_or-take, get_or-drop}
 use Rattle.std.proofs.Math.ListN.{get_or-append}
 use Rattle.std.proofs.Math.Seq.{get_or-append_right}
+use Rattle.fuse_store_tree.specs.Store.{IsWrittenAs}
 use Rattle.fuse_store_tree.specs.inner.Reading.{whole_of}
-use Rattle.fuse_store_tree.specs.inner.Writing.{overlay, spliced}
+use Rattle.fuse_store_tree.specs.inner.Writing.{overlay, spliced, wrote_between}
 use Rattle.fuse_store_tree.proofs.Ranges.{whole_byte}
 use Rattle.fuse_store_tree.proofs.Described.{Rises, put_last, same_test, grouped}
 use Rattle.fuse_store_tree.proofs.Orders.{all_put}
@@ -85,57 +89,68 @@ same_place node block n k b apart is =
     told : (a x e y m w : ℕ) → ((a == e) && (x == y)) ≡ false → ((m == e) && (w == y)) ≡ true → ((m == a) && (w == x)) ≡ false
     told a x e y m w apart is = grind (arith, nat_tests)
 
--- the block at its place, once its bytes are changed
-set_here : (node block : ℕ) (bytes : List ℕ) (bs : List Block) → is_some (block_at node block bs) ≡ true
-    → bytes_of_block (block_at node block (set_at node block bytes bs)) ≡ bytes
-set_here node block bytes [] there = absurd cc
-set_here node block bytes (b ∷ bs) there = elim (cases_Bool (is_at node block b)) [
-  | inl here ↦ rw here (rw here refl)
-  | inr not_here ↦ rw not_here (rw not_here (set_here node block bytes bs (rw not_here at there)))
-]
+-- over these pieces
+module _ (file : List ℕ) (j : ℕ) (piece : Option Piece) where
+  abbrev found : Option Block → Option (List ℕ)
+  found o = block_found file j o piece
 
-set_apart : (node block : ℕ) (bytes : List ℕ) (n k : ℕ) → ((node == n) && (block == k)) ≡ false → (bs : List Block)
-    → bytes_of_block (block_at n k (set_at node block bytes bs)) ≡ bytes_of_block (block_at n k bs)
-set_apart node block bytes n k apart [] = refl
-set_apart node block bytes n k apart (b ∷ bs) = elim (cases_Bool (is_at n k b)) [
-  | inl its ↦ rw (its, same_place node block n k b apart its) (rw its refl)
-  | inr other ↦ rw other (by (is_at node block b) other (set_apart node block bytes n k apart bs))
-]
-  where
-    by : (t : Bool) → is_at n k b ≡ false → bytes_of_block (block_at n k (set_at node block bytes bs)) ≡ bytes_of_block (block_at n k bs) → bytes_of_block (cond (is_at n k (cond t (rewritten bytes b) b)) (Some (cond t (rewritten bytes b) b)) (block_at n k
-        (set_at node block bytes bs))) ≡ bytes_of_block (block_at n k bs)
-    by true other more = rw other more
-    by false other more = rw other more
+  -- the block at its place, once its bytes are changed
+  set_here : (node block : ℕ) (bytes : List ℕ) (bs : List Block) → is_some (block_at node block bs) ≡ true
+      → found (block_at node block (set_at node block bytes bs)) ≡ Some bytes
+  set_here node block bytes [] there = absurd cc
+  set_here node block bytes (b ∷ bs) there = elim (cases_Bool (is_at node block b)) [
+    | inl here ↦ rw here (rw here refl)
+    | inr not_here ↦ rw not_here (rw not_here (set_here node block bytes bs (rw not_here at there)))
+  ]
 
--- the block at any place, once one is written
-pub block_put : (node block : ℕ) (bytes : List ℕ) (bs : List Block) → Rises slot bs → (n k : ℕ)
-    → bytes_of_block (block_at n k (put_at node block bytes bs)) ≡ cond ((node == n) && (block == k)) bytes (bytes_of_block (block_at n k bs))
-block_put node block bytes bs rises n k = elim (cases_Bool (is_some (block_at node block bs))) [
-  | inl there ↦ rw there (elim (cases_Bool ((node == n) && (block == k))) [
-    | inl here ↦
-        let at = same_both node block n k here in
-        rw here (subst (λ m. bytes_of_block (block_at m k (set_at node block bytes bs)) ≡ bytes) at.0
-        (subst (λ m. bytes_of_block (block_at node m (set_at node block bytes bs)) ≡ bytes) at.1 (set_here node block bytes bs there)))
-    | inr not_here ↦ rw not_here (set_apart node block bytes n k not_here bs)
-  ])
-  | inr missing ↦ rw missing (ap (λ l. bytes_of_block (block_at n k l)) (put_new node block bytes bs rises)
-      ∙ elim (cases_Bool ((node == n) && (block == k))) [
-        | inl here ↦
-            let at = same_both node block n k here in
-            let none = no_block (block_at node block bs) missing in
-            rw here (ap bytes_of_block (find_last (is_at n k) bs (new_block node block bytes bs) (subst (λ m. block_at m k bs ≡ None) at.0
-            (subst (λ m. block_at node m bs ≡ None) at.1 none)) (place_test node block n k bytes bs ∙ here)))
-        | inr not_here ↦
-            rw not_here (ap bytes_of_block (find_before (is_at n k) bs (new_block node block bytes bs) (place_test node block n k bytes bs ∙ not_here)))
-      ])
-]
-  where
-    same_both : (a x e y : ℕ) → ((a == e) && (x == y)) ≡ true → (a ≡ e) × (x ≡ y)
-    same_both a x e y h = (grind (arith, nat_tests), grind (arith, nat_tests))
+  set_apart : (node block : ℕ) (bytes : List ℕ) (n k : ℕ) → ((node == n) && (block == k)) ≡ false → (bs : List Block)
+      → found (block_at n k (set_at node block bytes bs)) ≡ found (block_at n k bs)
+  set_apart node block bytes n k apart [] = refl
+  set_apart node block bytes n k apart (b ∷ bs) = elim (cases_Bool (is_at n k b)) [
+    | inl its ↦ rw (its, same_place node block n k b apart its) (rw its refl)
+    | inr other ↦ rw other (by (is_at node block b) other (set_apart node block bytes n k apart bs))
+  ]
+    where
+      by : (t : Bool) → is_at n k b ≡ false → found (block_at n k (set_at node block bytes bs)) ≡ found (block_at n k bs)
+          → found (cond (is_at n k (cond t (rewritten bytes b) b)) (Some (cond t (rewritten bytes b) b)) (block_at n k (set_at node block bytes bs)))
+          ≡ found (block_at n k bs)
+      by true other more = rw other more
+      by false other more = rw other more
 
-    no_block : (o : Option Block) → is_some o ≡ false → o ≡ None
-    no_block None is = refl
-    no_block (Some b) is = absurd cc
+  -- the block at any place, once one is written
+  pub block_put : (node block : ℕ) (bytes : List ℕ) (bs : List Block) → Rises slot bs → (n k : ℕ)
+      → found (block_at n k (put_at node block bytes bs)) ≡ cond ((node == n) && (block == k)) (Some bytes) (found (block_at n k bs))
+  block_put node block bytes bs rises n k = elim (cases_Bool (is_some (block_at node block bs))) [
+    | inl there ↦ rw there (elim (cases_Bool ((node == n) && (block == k))) [
+      | inl here ↦
+          let at = same_both node block n k here in
+          rw here (subst (λ m. found (block_at m k (set_at node block bytes bs)) ≡ Some bytes) at.0
+          (subst (λ m. found (block_at node m (set_at node block bytes bs)) ≡ Some bytes) at.1 (set_here node block bytes bs there)))
+      | inr not_here ↦ rw not_here (set_apart node block bytes n k not_here bs)
+    ])
+    | inr missing ↦ rw missing (ap (λ l. found (block_at n k l)) (put_new node block bytes bs rises)
+        ∙ elim (cases_Bool ((node == n) && (block == k))) [
+          | inl here ↦
+              let at = same_both node block n k here in
+              let none = no_block (block_at node block bs) missing in
+              rw here (ap found (find_last (is_at n k) bs (new_block node block bytes bs) (subst (λ m. block_at m k bs ≡ None) at.0
+              (subst (λ m. block_at node m bs ≡ None) at.1 none)) (place_test node block n k bytes bs ∙ here)))
+          | inr not_here ↦
+              rw not_here (ap found (find_before (is_at n k) bs (new_block node block bytes bs) (place_test node block n k bytes bs ∙ not_here)))
+        ])
+  ]
+    where
+      same_both : (a x e y : ℕ) → ((a == e) && (x == y)) ≡ true → (a ≡ e) × (x ≡ y)
+      same_both a x e y h = (grind (arith, nat_tests), grind (arith, nat_tests))
+
+      no_block : (o : Option Block) → is_some o ≡ false → o ≡ None
+      no_block None is = refl
+      no_block (Some b) is = absurd cc
+
+-- over all pieces
+pub stored_put : (file : List ℕ) (c : Content) (node block : ℕ) (bytes : List ℕ) → Rises slot c.blocks → (n k : ℕ)
+    → stored_block file (put_block node block bytes c) n k ≡ cond ((node == n) && (block == k)) (Some bytes) (stored_block file c n k)
+stored_put file c node block bytes rises n k = block_put file k (piece_at n k c.pieces) node block bytes c.blocks rises n k
 
 -- what holds of every block, once one is written
 pub all_put_at : (P : Block → Type 0) (node block : ℕ) (bytes : List ℕ) (bs : List Block) → P (new_block node block bytes bs)
@@ -231,11 +246,12 @@ not_within here m i within apart = elim (cases_Bool (nat_lt i here)) [
 ]
 
 -- a part of one block written: over the bytes of the node
-pub part_put : (node here : ℕ) (part : List ℕ) (bs : List Block) (old : List ℕ) → Rises slot bs → old ≡ whole_of (block_at node (here / block_bytes) bs)
-    → length old ≡ block_bytes → here % block_bytes + length part ≤ block_bytes
-    → (n i : ℕ) → byte_in (put_at node (here / block_bytes) (spliced old (here % block_bytes) part) bs) n i ≡ overlay node here part (byte_in bs) n i
-part_put node here part bs old rises is whole within n i =
-    ap (λ l. byte_at l (i % block_bytes)) (block_put node (here / block_bytes) (spliced old (here % block_bytes) part) bs rises n (i / block_bytes))
+pub part_put : (file : List ℕ) (node here : ℕ) (part : List ℕ) (c : Content) (old : List ℕ) → Rises slot c.blocks
+    → old ≡ whole_of (stored_block file c node (here / block_bytes)) → length old ≡ block_bytes → here % block_bytes + length part ≤ block_bytes → (n i : ℕ)
+    → byte_in file (put_block node (here / block_bytes) (spliced old (here % block_bytes) part) c) n i ≡ overlay node here part (byte_in file c) n i
+part_put file node here part c old rises is whole within n i =
+    ap (λ o. byte_at (unwrap_or o []) (i % block_bytes))
+    (stored_put file c node (here / block_bytes) (spliced old (here % block_bytes) part) rises n (i / block_bytes))
     ∙ elim (cases_Bool (node == n)) [
       | inl here_node ↦ rw (sym (flipped node n), here_node) (elim (cases_Bool (here / block_bytes == i / block_bytes)) [
         | inl here_block ↦
@@ -249,10 +265,10 @@ part_put node here part bs old rises is whole within n i =
             ∙ ap (λ a. nat_lt a (here / block_bytes * block_bytes + here % block_bytes + length part)) place
             ∙ ap (λ a. nat_lt i (a + length part)) (whole_place here) in
             let gap : i % block_bytes - here % block_bytes ≡ i - here = omega (arith, place, whole_place here) in
-            let was : byte_at old (i % block_bytes) ≡ byte_in bs n i =
-            ap (λ l. byte_at l (i % block_bytes)) is ∙ whole_byte (block_at node (here / block_bytes) bs) (i % block_bytes)
-            ∙ ap (λ b. byte_at (bytes_of_block (block_at node b bs)) (i % block_bytes)) k
-            ∙ ap (λ m. byte_at (bytes_of_block (block_at m (i / block_bytes) bs)) (i % block_bytes)) (equal_to node n here_node) in
+            let was : byte_at old (i % block_bytes) ≡ byte_in file c n i =
+            ap (λ l. byte_at l (i % block_bytes)) is ∙ whole_byte (stored_block file c node (here / block_bytes)) (i % block_bytes)
+            ∙ ap (λ b. byte_at (unwrap_or (stored_block file c node b) []) (i % block_bytes)) k
+            ∙ ap (λ m. byte_at (unwrap_or (stored_block file c m (i / block_bytes)) []) (i % block_bytes)) (equal_to node n here_node) in
             rw here_block (byte_spliced old part (here % block_bytes) (i % block_bytes) (omega (arith, whole, within))
             ∙ ap (λ t. cond (not t && nat_lt (i % block_bytes) (here % block_bytes + length part)) (byte_at part (i % block_bytes - here % block_bytes))
             (byte_at old (i % block_bytes))) lows
@@ -263,3 +279,49 @@ part_put node here part bs old rises is whole within n i =
       ])
       | inr other_node ↦ rw (sym (flipped node n), other_node) refl
     ]
+
+-- and its block is written then
+pub part_written : (file : List ℕ) (node here : ℕ) (part bytes : List ℕ) (c : Content) (written : ℕ → Option (ℕ → Bool)) → Rises slot c.blocks
+    → 1 ≤ length part → here % block_bytes + length part ≤ block_bytes → (n k : ℕ) → IsWrittenAs (is_written_in file c n k) (written n) k
+    → IsWrittenAs (is_written_in file (put_block node (here / block_bytes) bytes c) n k)
+    (wrote_between node (first_touched here) (touched_end here (length part)) written n) k
+part_written file node here part bytes c written rises some within n k was =
+    subst (λ b. IsWrittenAs b (wrote_between node (first_touched here) (touched_end here (length part)) written n) k) (sym put)
+    (by (n == node) (written n) (length part) some within was)
+  where
+    some_if : (b : Bool) (o : Option (List ℕ)) → is_some (cond b (Some bytes) o) ≡ (b || is_some o)
+    some_if true o = refl
+    some_if false o = refl
+
+    swapped : (a m x : ℕ) → ((m == a) && (x == k)) ≡ ((a == m) && (x == k))
+    swapped a m x = grind (arith, nat_tests)
+
+    put : is_written_in file (put_block node (here / block_bytes) bytes c) n k ≡ (((n == node) && (here / block_bytes == k)) || is_written_in file c n k)
+    put =
+        ap is_some (stored_put file c node (here / block_bytes) bytes rises n k)
+        ∙ some_if ((node == n) && (here / block_bytes == k)) (stored_block file c n k)
+        ∙ ap (λ b. b || is_written_in file c n k) (swapped n node (here / block_bytes))
+
+    one_block : (x : ℕ) → (x == k) ≡ (nat_le x k && nat_lt k (x + 1))
+    one_block x = grind (arith, nat_tests)
+
+    only_one : (m : ℕ) → 1 ≤ m → here % block_bytes + m ≤ block_bytes
+        → (here / block_bytes == k) ≡ (nat_le (first_touched here) k && nat_lt k (touched_end here m))
+    only_one zero low high = absurd (omega (arith, low))
+    only_one (suc m) low high =
+        let e : here / block_bytes + 1 ≡ (here + m) / block_bytes + 1 = omega (arith, high) in
+        one_block (here / block_bytes) ∙ ap (λ z. nat_le (here / block_bytes) k && nat_lt k z) e
+
+    by : (b : Bool) (o : Option (ℕ → Bool)) (m : ℕ) → 1 ≤ m → here % block_bytes + m ≤ block_bytes → IsWrittenAs (is_written_in file c n k) o k
+        → IsWrittenAs ((b && (here / block_bytes == k)) || is_written_in file c n k)
+        (cond b (option_map (λ p block. (nat_le (first_touched here) block && nat_lt block (touched_end here m)) || p block) o) o) k
+    by b None m low high is = none b
+      where
+        none : (b : Bool) → IsWrittenAs ((b && (here / block_bytes == k)) || is_written_in file c n k)
+            (cond b (option_map (λ (p : ℕ → Bool) block. (nat_le (first_touched here) block && nat_lt block (touched_end here m)) || p block) None) None) k
+        none true = tt
+        none false = tt
+    by true (Some p) m low high is =
+        ap (λ t. t || is_written_in file c n k) (only_one m low high)
+        ∙ ap (λ t. (nat_le (first_touched here) k && nat_lt k (touched_end here m)) || t) is
+    by false (Some p) m low high is = is

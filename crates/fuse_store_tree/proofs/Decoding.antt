@@ -10,8 +10,13 @@ use Rattle.fuse_rows.specs.declared.rows.NodeRow.{NodeRow}
 use Rattle.fuse_rows.specs.declared.rows.EntryRow.{EntryRow}
 use Rattle.fuse_rows.specs.declared.rows.HandleRow.{HandleRow}
 use Rattle.fuse_store_tables.specs.Blocks.{Block, block_row}
-use Rattle.fuse_store_tables.specs.Content.{Counter, Kept, counter_row, node_row, entry_row, handle_row, lot_row, kept_row, access_code}
-use Rattle.fuse_store_tree.specs.Fits.{KeepsNode}
+use Rattle.fuse_store_tables.specs.Pieces.{Piece, piece_row}
+use Rattle.fuse_store_tables.specs.declared.version.Layout.{Layout}
+use Rattle.fuse_store_tables.specs.declared.version.Layout.TheVariants.{Second, Third}
+use Rattle.fuse_store_tables.specs.Content.{Counter, Kept, HasCount, counter_row, node_row, entry_row, handle_row, lot_row, kept_row, access_code}
+use Rattle.fuse_rows.specs.Blocks.{how_many}
+use Rattle.std.specs.Prelude.{Option, Some, None, IsSome}
+use Rattle.fuse_store_tree.specs.Fits.{KeepsNode, KeepsPiece}
 use Rattle.fuse_store_tree.specs.Lots.{int_in, number_in_row, bytes_in_row, lot_in, record_in_row}
 
 -- ---- columns
@@ -29,8 +34,12 @@ mode_of (suc (suc n)) = ReadWrite
 abbrev counter_in : Row → Counter
 counter_in r = record { key = number_in_row r 0; value = number_in_row r 2 }
 
-abbrev node_in : Row → NodeRow
-node_in r = record {
+abbrev written_in : Layout → Row → Option ℕ
+written_in Second r = None
+written_in Third r = Some (number_in_row r 16)
+
+abbrev node_in : Layout → Row → NodeRow
+node_in layout r = record {
   node = number_in_row r 0;
   mode = number_in_row r 2;
   uid = number_in_row r 3;
@@ -42,6 +51,7 @@ node_in r = record {
   ctime = record { secs = bits r 11; nanos = number_in_row r 12 };
   up = number_in_row r 13;
   subdirs = number_in_row r 14;
+  written = written_in layout r;
 }
 
 abbrev entry_in : Row → EntryRow
@@ -53,6 +63,16 @@ handle_in r = record { fh = number_in_row r 0; node = number_in_row r 2; access 
 abbrev block_in : Row → Block
 block_in r = record { slot = number_in_row r 0; node = number_in_row r 1; block = number_in_row r 2; bytes = bytes_in_row r 3 }
 
+abbrev piece_in : Row → Piece
+piece_in r = record {
+  slot = number_in_row r 0;
+  node = number_in_row r 1;
+  first = number_in_row r 2;
+  count = number_in_row r 3;
+  place = number_in_row r 4;
+  sum = bits r 5;
+}
+
 mode_back : (m : AccessMode) → mode_of (access_code m) ≡ m
 mode_back ReadOnly = refl
 mode_back WriteOnly = refl
@@ -61,14 +81,30 @@ mode_back ReadWrite = refl
 bits_back : (n : ℕ) → n < 2 ^ 64 → cast_unsigned w64 (cast_signed w64 n) ≡ n
 bits_back n low = of_z-to_z w64 n low
 
-node_back : (n : NodeRow) → KeepsNode n → node_in (node_row n) ≡ n
-node_back n keeps =
-    ap (λ s. record n {
+-- its written blocks are counted in version 3 alone
+count_back : (layout : Layout) (n : NodeRow) → HasCount layout n → written_in layout (node_row layout n) ≡ n.written
+count_back Second n none = sym none
+count_back Third n some = by n.written some
+  where
+    by : (o : Option ℕ) → IsSome o → Some (how_many o) ≡ o
+    by None some = absurd cc
+    by (Some count) some = refl
+
+node_back : (layout : Layout) (n : NodeRow) → KeepsNode layout n → node_in layout (node_row layout n) ≡ n
+node_back layout n keeps =
+    let row = node_row layout n in
+    ap (λ o. record n {
+      atime = record { secs = bits row 7; nanos = n.atime.nanos };
+      mtime = record { secs = bits row 9; nanos = n.mtime.nanos };
+      ctime = record { secs = bits row 11; nanos = n.ctime.nanos };
+      written = o;
+    }) (count_back layout n keeps.count)
+    ∙ ap (λ s. record n {
       atime = record { secs = s; nanos = n.atime.nanos };
-      mtime = record { secs = bits (node_row n) 9; nanos = n.mtime.nanos };
-      ctime = record { secs = bits (node_row n) 11; nanos = n.ctime.nanos };
+      mtime = record { secs = bits row 9; nanos = n.mtime.nanos };
+      ctime = record { secs = bits row 11; nanos = n.ctime.nanos };
     }) (bits_back n.atime.secs keeps.widths.atime.secs)
-    ∙ ap (λ s. record n { mtime = record { secs = s; nanos = n.mtime.nanos }; ctime = record { secs = bits (node_row n) 11; nanos = n.ctime.nanos } })
+    ∙ ap (λ s. record n { mtime = record { secs = s; nanos = n.mtime.nanos }; ctime = record { secs = bits row 11; nanos = n.ctime.nanos } })
     (bits_back n.mtime.secs keeps.widths.mtime.secs)
     ∙ ap (λ s. record n { ctime = record { secs = s; nanos = n.ctime.nanos } }) (bits_back n.ctime.secs keeps.widths.ctime.secs)
 
@@ -96,8 +132,9 @@ module _ {X : Type 0} (row : X → Row) (back : Row → X) (told : (x : X) → b
 pub same_counters : (xs ys : List Counter) → map counter_row xs ≡ map counter_row ys → xs ≡ ys
 same_counters = one_list counter_row counter_in (λ x. refl)
 
-pub same_nodes : (xs ys : List NodeRow) → AllByRecursion KeepsNode xs → AllByRecursion KeepsNode ys → map node_row xs ≡ map node_row ys → xs ≡ ys
-same_nodes = one_such node_row node_in KeepsNode node_back
+pub same_nodes : (layout : Layout) (xs ys : List NodeRow) → AllByRecursion (KeepsNode layout) xs → AllByRecursion (KeepsNode layout) ys
+    → map (node_row layout) xs ≡ map (node_row layout) ys → xs ≡ ys
+same_nodes layout = one_such (node_row layout) (node_in layout) (KeepsNode layout) (node_back layout)
 
 pub same_entries : (xs ys : List EntryRow) → map entry_row xs ≡ map entry_row ys → xs ≡ ys
 same_entries = one_list entry_row entry_in (λ x. refl)
@@ -107,6 +144,9 @@ same_handles = one_list handle_row handle_in (λ x. ap (λ m. record x { access 
 
 pub same_blocks : (xs ys : List Block) → map block_row xs ≡ map block_row ys → xs ≡ ys
 same_blocks = one_list block_row block_in (λ x. refl)
+
+pub same_pieces : (xs ys : List Piece) → AllByRecursion KeepsPiece xs → AllByRecursion KeepsPiece ys → map piece_row xs ≡ map piece_row ys → xs ≡ ys
+same_pieces = one_such piece_row piece_in KeepsPiece (λ p fits. ap (λ s. record p { sum = s }) (bits_back p.sum fits.sum))
 
 pub same_lots : (xs ys : List ℕ) → map lot_row xs ≡ map lot_row ys → xs ≡ ys
 same_lots = one_list lot_row lot_in (λ x. refl)

@@ -17,7 +17,7 @@ use Rattle.fuse_rows.specs.Rows.{is_entry, full_at, content_of, bytes_at, Rows, 
 use Rattle.fuse_tree.specs.State.{State, Node, IsNode, Apart, AreApart, terms_of, profile_of}
 use Rattle.std.proofs.Common.{◌≤◌, ◌+◌, ◌-◌, inl, inr, length, min, drop, IfSome}
 use Rattle.fuse_rows.specs.Bounds.{file_limit}
-use Rattle.fuse_store_tree.specs.Store.{byte_at, byte_in}
+use Rattle.fuse_store_tree.specs.Pieces.{byte_at, byte_in}
 use Rattle.fuse_store_tree.specs.inner.Reading.{range_of, bytes_told, Describes}
 use Rattle.fuse_store_tree.proofs.Ranges.{range_same, part_is, take_least, none_behind}
 use Rattle.fuse_tree.specs.Rowed.{IsRowed, rowed, full_of}
@@ -133,7 +133,7 @@ find_row number (f ∷ fs) = elim (cases_Bool (f.row.node == number)) [
 
 -- ---- the values
 
-module _ (x : Store) (c : Content) (rowed : IsRowed x.rows) (at : Describes x c) where
+module _ (x : Store) (file : List ℕ) (c : Content) (rowed : IsRowed x.rows) (at : Describes x file c) where
   pub row_told : (number : ℕ) → at_by node_key number c.nodes ≡ row_at x.rows number
   row_told number = ap (at_by node_key number) (at.nodes ∙ order_kept node_key _ (rows_rise x.rows rowed).0) ∙ find_row number x.rows.nodes
 
@@ -157,13 +157,13 @@ module _ (x : Store) (c : Content) (rowed : IsRowed x.rows) (at : Describes x c)
   handles_told node limit = ap (λ hs. take limit (filter (is_handle_of node) hs)) handles_are
       ∙ ap (take limit) (filter_same _ _ (λ h. same_test h.node node) x.rows.handles)
 
-pub inside_of : (x : Store) (s : Connected) (at : InsideAs (Held x) s) → Inside at.holds.0 s
-inside_of x s at = record { is_open = at.is_open; in_transaction = at.in_transaction; holds = at.holds.1 }
+pub inside_of : (file : List ℕ) (x : Store) (s : Connected) (at : InsideAs (Held file x) s) → Inside at.holds.0 s
+inside_of file x s at = record { is_open = at.is_open; in_transaction = at.in_transaction; holds = at.holds.1 }
 
 -- ---- bytes
 
 abbrev pub IsFull : Full → Type 0
-IsFull f = (f.row.size ≡ length f.content) × (f.row.size ≤ file_limit)
+IsFull f = (f.row.size ≡ length f.content.bytes) × (f.row.size ≤ file_limit)
 
 -- no profile has longer files
 within_limit : (p : Profile) → (terms p).file_limit ≤ file_limit
@@ -179,7 +179,7 @@ pub rows_full : (rows : Rows) → IsRowed rows → AllByRecursion IsFull rows.no
 unfolding IsRowed rowed
 rows_full rows (s, tree, is) = subst (λ (r : Rows). AllByRecursion IsFull r.nodes) (sym is) (all_full s (terms_of s) s.next_node s.nodes (within_limit (profile_of s)) tree.shape.nodes)
 
-full_found : (p : Full → Bool) (fs : List Full) → AllByRecursion IsFull fs → IfSome (find p fs) IsFull
+pub full_found : (p : Full → Bool) (fs : List Full) → AllByRecursion IsFull fs → IfSome (find p fs) IsFull
 full_found p [] all = tt
 full_found p (f ∷ fs) all = elim (cases_Bool (p f)) [
   | inl here ↦ rw here (all.0)
@@ -189,16 +189,17 @@ full_found p (f ∷ fs) all = elim (cases_Bool (p f)) [
 nothing_told : (n m : ℕ) → ◌≡◌ {A = List ℕ} [] (take n (drop m []))
 nothing_told n m = sym (none_behind [] m n (omega arith))
 
-bytes_of_full : (c : Content) (node offset len : ℕ) (o : Option Full) → IfSome o IsFull → ((i : ℕ) → byte_in c.blocks node i ≡ byte_at (content_of o) i)
-    → bytes_told (option_map (λ f. f.row) o) c.blocks node offset len ≡ take len (drop offset (content_of o))
-bytes_of_full c node offset len None full bytes = nothing_told len offset
-bytes_of_full c node offset len (Some f) full bytes = elim (cases_Bool (nat_lt offset f.row.size)) [
+bytes_of_full : (file : List ℕ) (c : Content) (node offset len : ℕ) (o : Option Full) → IfSome o IsFull
+    → ((i : ℕ) → byte_in file c node i ≡ byte_at (content_of o) i)
+    → bytes_told file (option_map (λ f. f.row) o) c node offset len ≡ take len (drop offset (content_of o))
+bytes_of_full file c node offset len None full bytes = nothing_told len offset
+bytes_of_full file c node offset len (Some f) full bytes = elim (cases_Bool (nat_lt offset f.row.size)) [
   | inl low ↦
-      rw low (ap (λ k. range_of (byte_in c.blocks node) offset (min len (k - offset))) full.0
-      ∙ range_same (byte_in c.blocks node) (byte_at f.content) offset offset (min len (length f.content - offset)) (λ j h. bytes (offset + j))
-      ∙ sym (part_is f.content offset (min len (length f.content - offset)) (within offset len f.row.size (length f.content) full.0 low))
-      ∙ take_least f.content offset len)
-  | inr high ↦ rw high (sym (none_behind f.content offset len (behind offset f.row.size (length f.content) full.0 high)))
+      rw low (ap (λ k. range_of (byte_in file c node) offset (min len (k - offset))) full.0
+      ∙ range_same (byte_in file c node) (byte_at f.content.bytes) offset offset (min len (length f.content.bytes - offset)) (λ j h. bytes (offset + j))
+      ∙ sym (part_is f.content.bytes offset (min len (length f.content.bytes - offset)) (within offset len f.row.size (length f.content.bytes) full.0 low))
+      ∙ take_least f.content.bytes offset len)
+  | inr high ↦ rw high (sym (none_behind f.content.bytes offset len (behind offset f.row.size (length f.content.bytes) full.0 high)))
 ]
   where
     within : (a n k l : ℕ) → k ≡ l → nat_lt a k ≡ true → a + min n (l - a) ≤ l
@@ -207,8 +208,8 @@ bytes_of_full c node offset len (Some f) full bytes = elim (cases_Bool (nat_lt o
     behind : (a k l : ℕ) → k ≡ l → nat_lt a k ≡ false → l ≤ a
     behind a k l same high = let h : k ≤ a = grind (arith, nat_tests) in omega (arith, h, same)
 
-pub bytes_are : (x : Store) (c : Content) → IsRowed x.rows → Describes x c → (node offset len : ℕ) → bytes_told (at_by node_key node c.nodes) c.blocks node offset
-    len ≡ bytes_at x.rows node offset len
-bytes_are x c is_rowed at node offset len =
-    ap (λ o. bytes_told o c.blocks node offset len) (row_told x c is_rowed at node)
-    ∙ bytes_of_full c node offset len (full_at x.rows node) (full_found _ x.rows.nodes (rows_full x.rows is_rowed)) (at.bytes node)
+pub bytes_are : (x : Store) (file : List ℕ) (c : Content) → IsRowed x.rows → Describes x file c → (node offset len : ℕ)
+    → bytes_told file (at_by node_key node c.nodes) c node offset len ≡ bytes_at x.rows node offset len
+bytes_are x file c is_rowed at node offset len =
+    ap (λ o. bytes_told file o c node offset len) (row_told x file c is_rowed at node)
+    ∙ bytes_of_full file c node offset len (full_at x.rows node) (full_found _ x.rows.nodes (rows_full x.rows is_rowed)) (at.bytes node)

@@ -62,9 +62,9 @@ tree_rowed : (s : State) → Tree s → IsRowed (rowed s)
 unfolding IsRowed
 tree_rowed s tree = (s, tree, refl)
 
-module _ (y : Holding) (d : Database) (at : HeldFor y d) where
+module _ (file : List ℕ) (y : Holding) (d : Database) (at : HeldFor file y d) where
   pub few_entries : length at.held.0.entries < 2 ^ 62
-  few_entries = subst (λ es. length es < 2 ^ 62) (sym (entries_told (store_of y) at.held.0 (tree_rowed y.tree at.tree) at.held.2)) (tree_few y.tree at.tree)
+  few_entries = subst (λ es. length es < 2 ^ 62) (sym (entries_told (store_of y) file at.held.0 (tree_rowed y.tree at.tree) at.held.2)) (tree_few y.tree at.tree)
 
   pub eleven : 11 ≤ length at.held.0.counters
   eleven = subst (λ (cs : List Counter). 11 ≤ length cs) (sym at.held.2.counters) (omega arith)
@@ -76,15 +76,15 @@ module _ (y : Holding) (d : Database) (at : HeldFor y d) where
   readahead_fits = subst (λ cs. value_of cs 8 < 2 ^ 32) (sym at.held.2.counters) at.held.2.settings.readahead
 
   pub few_handles : length at.held.0.handles < 2 ^ 62
-  few_handles = subst (λ hs. length hs < 2 ^ 62) (sym (handles_are (store_of y) at.held.0 (tree_rowed y.tree at.tree) at.held.2)) (handles_few y.tree at.tree)
+  few_handles = subst (λ hs. length hs < 2 ^ 62) (sym (handles_are (store_of y) file at.held.0 (tree_rowed y.tree at.tree) at.held.2)) (handles_few y.tree at.tree)
 
   pub sizes_fit : (number : ℕ) → IfSome (at_by node_key number at.held.0.nodes) (λ n. n.size ≤ file_limit)
   sizes_fit number =
       let is = tree_rowed y.tree at.tree in
-      subst (λ o. IfSome o (λ n. n.size ≤ file_limit)) (sym (row_told (store_of y) at.held.0 is at.held.2 number))
+      subst (λ o. IfSome o (λ n. n.size ≤ file_limit)) (sym (row_told (store_of y) file at.held.0 is at.held.2 number))
       (found _ (store_of y).rows.nodes (rows_full (store_of y).rows is))
     where
-      found : (p : Full → Bool) (fs : List Full) → AllByRecursion (λ f. (f.row.size ≡ length f.content) × (f.row.size ≤ file_limit)) fs
+      found : (p : Full → Bool) (fs : List Full) → AllByRecursion (λ f. (f.row.size ≡ length f.content.bytes) × (f.row.size ≤ file_limit)) fs
           → IfSome (option_map (λ f. f.row) (find p fs)) (λ n. n.size ≤ file_limit)
       found p [] all = tt
       found p (f ∷ fs) all = elim (cases_Bool (p f)) [

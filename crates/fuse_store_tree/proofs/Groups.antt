@@ -1,5 +1,6 @@
 -- A group, one request after another.
 use Rattle.std.proofs.Common.{◌≡◌, ◌<◌, ◌^◌, ◌+◌, ℕ, Bool, true, false, List, [], ◌∷◌, ◌++◌, length, take, get_or, Option, Some, None, refl, sym, ap, subst, ◌∙◌}
+use Rattle.std.specs.Prelude.{IsTrue}
 use Rattle.std.proofs.lemmas.List.{take_more, map-append}
 use Rattle.sqlite.specs.State.{State, HasCleanDisk}
 use Rattle.fuse_wire.specs.declared.moment.Moment.{Moment}
@@ -9,6 +10,7 @@ use Rattle.fuse_keeper.specs.History.{Entry, unless_seen, is_seen, kept_of}
 use Rattle.fuse_keeper.specs.Group.{entry_of, entries_of}
 use Rattle.fuse_keeper.specs.declared.keeper.Done.{Done}
 use Rattle.fuse_store_tables.specs.inner.Following.{earlier}
+use Rattle.fuse_store_tree.specs.Pieces.{File}
 use Rattle.fuse_store_tree.specs.Holding.{Holding}
 use Rattle.fuse_store_tree.specs.declared.meta.Meta.{Meta}
 use Rattle.fuse_store_tree.specs.inner.Changing.{InsideFor, Turned}
@@ -19,52 +21,52 @@ use Rattle.fuse_store_tables.specs.Moves.{Stays}
 
 -- ---- one more request
 
-group_last : (V : Service) (lot : ℕ) (es : List Entry) (e : Entry) (y : Holding)
+pub group_last : (V : Service) (lot : ℕ) (es : List Entry) (e : Entry) (y : Holding)
     → with_group V lot (es ++ e ∷ []) y ≡ (taken V lot e (with_group V lot es y)).holding
 group_last V lot [] e y = refl
 group_last V lot (x ∷ es) e y = group_last V lot es e (taken V lot x y).holding
 
-dones_last : (V : Service) (lot : ℕ) (es : List Entry) (e : Entry) (y : Holding)
+pub dones_last : (V : Service) (lot : ℕ) (es : List Entry) (e : Entry) (y : Holding)
     → dones_of V lot (es ++ e ∷ []) y ≡ dones_of V lot es y ++ (taken V lot e (with_group V lot es y)).done ∷ []
 dones_last V lot [] e y = refl
 dones_last V lot (x ∷ es) e y = ap (λ l. (taken V lot x y).done ∷ l) (dones_last V lot es e (taken V lot x y).holding)
 
 -- the entries up to a place
-one_more : (group : List (Request × Moment)) (i : ℕ) (x : Request × Moment) → i < length group
+pub one_more : (group : List (Request × Moment)) (i : ℕ) (x : Request × Moment) → i < length group
     → entries_of (take (i + 1) group) ≡ entries_of (take i group) ++ entry_of (get_or group i x) ∷ []
 one_more group i x low = ap entries_of (take_more group i x low) ∙ map-append entry_of (take i group) (get_or group i x ∷ [])
 
-pub took_more : (V : Service) (m n o : Option Meta) (lot : ℕ) (group : List (Request × Moment)) (i : ℕ) (x : Request × Moment) (a b d : State) → i < length group
-    → TurnedKnown m n (with_group V lot (entries_of (take i group))) a b
-    → TurnedKnown n o (λ y. (taken V lot (entry_of (get_or group i x)) y).holding) b d
-    → TurnedKnown m o (with_group V lot (entries_of (take (i + 1) group))) a d
-took_more V m n o lot group i x a b d low p q =
+pub took_more : (file : File) (V : Service) (m n o : Option Meta) (lot : ℕ) (group : List (Request × Moment)) (i : ℕ) (x : Request × Moment) (a b d : State) → i < length group
+    → TurnedKnown file m n (with_group V lot (entries_of (take i group))) a b
+    → TurnedKnown file n o (λ y. (taken V lot (entry_of (get_or group i x)) y).holding) b d
+    → TurnedKnown file m o (with_group V lot (entries_of (take (i + 1) group))) a d
+took_more file V m n o lot group i x a b d low p q =
     let es = entries_of (take i group) in
     let e = entry_of (get_or group i x) in
-    subst (λ l. TurnedKnown m o (with_group V lot l) a d) (sym (one_more group i x low))
-    (turned_known_same m o (λ y. (taken V lot e (with_group V lot es y)).holding) (with_group V lot (es ++ e ∷ [])) a d
-    (λ clean y at. sym (group_last V lot es e y))
-    (turned_known_then m n o (with_group V lot es) (λ y. (taken V lot e y).holding) a b d p q))
+    subst (λ l. TurnedKnown file m o (with_group V lot l) a d) (sym (one_more group i x low))
+    (turned_known_same file m o (λ y. (taken V lot e (with_group V lot es y)).holding) (with_group V lot (es ++ e ∷ [])) a d
+    (λ clean read y at. sym (group_last V lot es e y))
+    (turned_known_then file m n o (with_group V lot es) (λ y. (taken V lot e y).holding) a b d p q))
 
 -- the answers so far are these
-abbrev pub AreDones : Service → Option Meta → ℕ → List Entry → State → State → List Done → Type 0
-AreDones V m lot es a b dones = HasCleanDisk b → (y : Holding) → InsideKnown m y a → dones ≡ dones_of V lot es y
+abbrev pub AreDones : File → Service → Option Meta → ℕ → List Entry → State → State → List Done → Type 0
+AreDones file V m lot es a b dones = HasCleanDisk b → IsTrue file.is_clean → (y : Holding) → InsideKnown file.bytes m y a → dones ≡ dones_of V lot es y
 
-pub dones_more : (V : Service) (m n o : Option Meta) (lot : ℕ) (group : List (Request × Moment)) (i : ℕ) (x : Request × Moment) (a b d : State) (so_far all : List Done)
-    (done : Done) → i < length group → TurnedKnown m n (with_group V lot (entries_of (take i group))) a b
-    → AreDones V m lot (entries_of (take i group)) a b so_far → TurnedKnown n o (λ y. (taken V lot (entry_of (get_or group i x)) y).holding) b d
-    → (HasCleanDisk d → (y : Holding) → InsideKnown n y b → done ≡ (taken V lot (entry_of (get_or group i x)) y).done) → all ≡ so_far ++ done ∷ []
-    → AreDones V m lot (entries_of (take (i + 1) group)) a d all
-dones_more V m n o lot group i x a b d so_far all done low p are q told is clean y at =
+pub dones_more : (file : File) (V : Service) (m n o : Option Meta) (lot : ℕ) (group : List (Request × Moment)) (i : ℕ) (x : Request × Moment) (a b d : State) (so_far all : List Done)
+    (done : Done) → i < length group → TurnedKnown file m n (with_group V lot (entries_of (take i group))) a b
+    → AreDones file V m lot (entries_of (take i group)) a b so_far → TurnedKnown file n o (λ y. (taken V lot (entry_of (get_or group i x)) y).holding) b d
+    → (HasCleanDisk d → IsTrue file.is_clean → (y : Holding) → InsideKnown file.bytes n y b → done ≡ (taken V lot (entry_of (get_or group i x)) y).done) → all ≡ so_far ++ done ∷ []
+    → AreDones file V m lot (entries_of (take (i + 1) group)) a d all
+dones_more file V m n o lot group i x a b d so_far all done low p are q told is clean read y at =
     let es = entries_of (take i group) in
     let e = entry_of (get_or group i x) in
     let mid = earlier b d _ q.stays.survives clean in
-    is ∙ ap (λ l. l ++ done ∷ []) (are mid y at) ∙ ap (λ k. dones_of V lot es y ++ k ∷ []) (told clean (with_group V lot es y) (p.turns mid y at))
+    is ∙ ap (λ l. l ++ done ∷ []) (are mid read y at) ∙ ap (λ k. dones_of V lot es y ++ k ∷ []) (told clean read (with_group V lot es y) (p.turns read mid y at))
     ∙ sym (dones_last V lot es e y) ∙ ap (λ l. dones_of V lot l y) (sym (one_more group i x low))
 
 -- ---- a group of seen requests alone
 
-seen_one : (b : Bool) (e : Entry) (rest : List Entry) → unless_seen b e ++ rest ≡ [] → (b ≡ true) × (rest ≡ [])
+pub seen_one : (b : Bool) (e : Entry) (rest : List Entry) → unless_seen b e ++ rest ≡ [] → (b ≡ true) × (rest ≡ [])
 seen_one true e rest none = (refl, none)
 seen_one false e rest none = absurd (cc none)
 
@@ -111,22 +113,23 @@ pub prepared_tree : (lot : Option ℕ) (ids : List ℕ) (y : Holding) → (prepa
 prepared_tree lot ids y = tree_with_lot lot (without_settled ids y) ∙ tree_settled ids y
 
 -- the tree stays
-pub prepared_known : (m : Option Meta) (lot : Option ℕ) (ids : List ℕ) (a b : State) → Turned (prepared lot ids) a b → TurnedKnown m m (prepared lot ids) a b
-prepared_known m lot ids a b p = turned_so m (prepared lot ids) a b (prepared_tree lot ids) p
+pub prepared_known : (file : File) (m : Option Meta) (lot : Option ℕ) (ids : List ℕ) (a b : State) → Turned file.bytes (prepared lot ids) a b
+    → TurnedKnown file m m (prepared lot ids) a b
+prepared_known file m lot ids a b p = turned_so file m (prepared lot ids) a b (prepared_tree lot ids) p
 
 -- a group after it, under the lot that was allocated
-pub grouped : (V : Service) (m o : Option Meta) (lot : Option ℕ) (n : ℕ) (ids : List ℕ) (es : List Entry) (a b d : State) → Turned (prepared lot ids) a b
-    → (HasCleanDisk b → (y : Holding) → InsideFor y a → n ≡ lot_for lot y) → TurnedKnown m o (with_group V n es) b d
-    → TurnedKnown m o (transacted V lot ids es) a d
-grouped V m o lot n ids es a b d p value q =
-    turned_known_same m o (λ y. with_group V n es (prepared lot ids y)) (transacted V lot ids es) a d
-    (λ clean y at. ap (λ k. with_group V k es (prepared lot ids y)) (value (earlier b d _ q.stays.survives clean) y (held_for m y a at)))
-    (turned_known_then m m o (prepared lot ids) (with_group V n es) a b d (prepared_known m lot ids a b p) q)
+pub grouped : (file : File) (V : Service) (m o : Option Meta) (lot : Option ℕ) (n : ℕ) (ids : List ℕ) (es : List Entry) (a b d : State) → Turned file.bytes (prepared lot ids) a b
+    → (HasCleanDisk b → (y : Holding) → InsideFor file.bytes y a → n ≡ lot_for lot y) → TurnedKnown file m o (with_group V n es) b d
+    → TurnedKnown file m o (transacted V lot ids es) a d
+grouped file V m o lot n ids es a b d p value q =
+    turned_known_same file m o (λ y. with_group V n es (prepared lot ids y)) (transacted V lot ids es) a d
+    (λ clean read y at. ap (λ k. with_group V k es (prepared lot ids y)) (value (earlier b d _ q.stays.survives clean) y (held_for file.bytes m y a at)))
+    (turned_known_then file m m o (prepared lot ids) (with_group V n es) a b d (prepared_known file m lot ids a b p) q)
 
-pub dones_are : (V : Service) (m : Option Meta) (lot : Option ℕ) (n : ℕ) (ids : List ℕ) (es : List Entry) (a b d : State) (dones : List Done) → Turned (prepared lot ids) a b
-    → (HasCleanDisk b → (y : Holding) → InsideFor y a → n ≡ lot_for lot y) → Stays b d → AreDones V m n es b d dones
-    → HasCleanDisk d → (y : Holding) → InsideKnown m y a → dones ≡ all_dones V lot ids es y
-dones_are V m lot n ids es a b d dones p value keeps are clean y at =
+pub dones_are : (file : File) (V : Service) (m : Option Meta) (lot : Option ℕ) (n : ℕ) (ids : List ℕ) (es : List Entry) (a b d : State) (dones : List Done) → Turned file.bytes (prepared lot ids) a b
+    → (HasCleanDisk b → (y : Holding) → InsideFor file.bytes y a → n ≡ lot_for lot y) → Stays b d → AreDones file V m n es b d dones
+    → HasCleanDisk d → IsTrue file.is_clean → (y : Holding) → InsideKnown file.bytes m y a → dones ≡ all_dones V lot ids es y
+dones_are file V m lot n ids es a b d dones p value keeps are clean read y at =
     let mid = earlier b d _ keeps.survives clean in
-    are clean (prepared lot ids y) ((prepared_known m lot ids a b p).turns mid y at)
-    ∙ ap (λ k. dones_of V k es (prepared lot ids y)) (value mid y (held_for m y a at))
+    are clean read (prepared lot ids y) ((prepared_known file m lot ids a b p).turns read mid y at)
+    ∙ ap (λ k. dones_of V k es (prepared lot ids y)) (value mid y (held_for file.bytes m y a at))

@@ -1,17 +1,18 @@
 -- The entries after a cookie and the handles of a node, as rows were read.
 use Rattle.std.proofs.Common.{◌≡◌, ◌≤◌, ◌<◌, ◌^◌, ◌+◌, ◌&&◌, inl, inr, ℕ, zero, suc, List, [], ◌∷◌, ◌++◌, map, filter, take, length, not, nat_lt, Bool, true}
-use Rattle.std.proofs.Common.{false, slice_index_or, refl, ap, arith, ◌∙◌}
+use Rattle.std.proofs.Common.{false, slice_index_or, refl, sym, ap, subst, pos, arith, ◌∙◌}
 use Rattle.std.specs.List.{AllByRecursion}
 use Rattle.std.specs.Ordering.{is_eq, is_gt, nat_cmp}
 use Rattle.std.proofs.lemmas.Bool.{cases_Bool}
 use Rattle.std.proofs.lemmas.Bool.Decides.{nat_tests}
 use Rattle.std.proofs.lemmas.List.{take_more}
 use Rattle.std.proofs.Math.ListN.{get_or-map}
-use Rattle.sqlite.specs.Order.{Row}
+use Rattle.sqlite.specs.Order.{Row, column}
+use Rattle.sqlite.specs.declared.types.Value.TheVariants.{Int, Blob}
 use Rattle.fuse_wire.specs.declared.access_mode.AccessMode.TheVariants.{ReadOnly}
 use Rattle.fuse_rows.specs.declared.rows.EntryRow.{EntryRow}
 use Rattle.fuse_rows.specs.declared.rows.HandleRow.{HandleRow}
-use Rattle.fuse_store_tables.specs.Content.{stands_after, is_handle_of}
+use Rattle.fuse_store_tables.specs.Content.{stands_after, is_handle_of, shown_entry}
 use Rattle.fuse_rows.specs.Columns.{FitsEntry, FitsHandle}
 use Rattle.fuse_store_tree.proofs.Looks.{key_is, key_differs, both_are}
 
@@ -102,6 +103,21 @@ not_cut most limit count xs within short is = elim (cases_Bool (nat_lt most limi
 
 abbrev pub entry_none : EntryRow
 entry_none = record { dir = 0; name = []; child = 0; cookie = 0 }
+
+-- the columns of an entry
+pub record ShowsEntry (e : EntryRow) (row : Row) : Type 0 where
+  pub cookie : column row 0 ≡ Int (pos e.cookie)
+  pub name : column row 1 ≡ Blob e.name
+  pub child : column row 2 ≡ Int (pos e.child)
+  pub long : 2 < length row
+
+pub entry_shown : (e : EntryRow) (row : Row) → row ≡ shown_entry e → ShowsEntry e row
+entry_shown e row is = record {
+  cookie = ap (λ r. column r 0) is;
+  name = ap (λ r. column r 1) is;
+  child = ap (λ r. column r 2) is;
+  long = subst (λ (r : Row). 2 < length r) (sym is) (omega arith);
+}
 
 abbrev pub handle_none : HandleRow
 handle_none = record { fh = 0; node = 0; access = ReadOnly }

@@ -8,7 +8,7 @@ use Rattle.sqlite.proofs.InsideLemmas.{keeps_then}
 use Rattle.fuse_store_tables.specs.Moves.{OnlyReads, CommitsNothing}
 use Rattle.fuse_store_tables.specs.inner.Following.{earlier}
 
-no_step : (a : State) (P : Trees → Type 0) → Survives a a P
+pub no_step : (a : State) (P : Trees → Type 0) → Survives a a P
 no_step a P = record {
   clean = omega arith;
   shield = λ is. is;

@@ -8,7 +8,7 @@ use Rattle.std.proofs.Math.ListN.{get_or-append}
 use Rattle.std.proofs.Math.Seq.{get_or-append_right}
 use Rattle.std.proofs.lemmas.List.{length-take-le, length-replicate}
 use Rattle.fuse_rows.specs.Rows.{sized, written}
-use Rattle.fuse_store_tree.specs.Store.{byte_at}
+use Rattle.fuse_store_tree.specs.Pieces.{byte_at}
 use Rattle.fuse_store_tree.specs.inner.Writing.{overlay}
 use Rattle.fuse_store_tree.proofs.BlockBytes.{lower, upper}
 use Rattle.fuse_store_tree.proofs.Ranges.{drop_length}

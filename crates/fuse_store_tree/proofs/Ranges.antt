@@ -2,12 +2,11 @@
 use Rattle.std.proofs.Common.{◌≡◌, ◌<◌, ◌≤◌, ◌+◌, ◌-◌, ◌/◌, ◌%◌, inl, inr, ℕ, zero, suc, List, [], ◌∷◌, ◌++◌, take, drop, length, replicate}
 use Rattle.std.proofs.Common.{Some, None, Option, refl, sym, ap, arith, ◌∙◌}
 use Rattle.fuse_rows.specs.Bounds.{block_bytes}
-use Rattle.std.specs.Option.{option_to_list}
-use Rattle.std.proofs.Common.{map, min}
+use Rattle.std.specs.Prelude.{unwrap_or}
+use Rattle.std.proofs.Common.{min}
 use Rattle.std.proofs.lemmas.Bool.Decides.{leb_tells}
-use Rattle.sqlite.specs.Order.{Row}
-use Rattle.fuse_store_tables.specs.Blocks.{Block, block_at, shown_block}
-use Rattle.fuse_store_tree.specs.Store.{byte_at, bytes_of_block, byte_in}
+use Rattle.fuse_store_tables.specs.Content.{Content}
+use Rattle.fuse_store_tree.specs.Pieces.{byte_at, byte_in, stored_block}
 use Rattle.fuse_store_tree.specs.inner.Reading.{range_of, whole_of}
 
 pub range_same : (f g : ℕ → ℕ) (a b n : ℕ) → ((j : ℕ) → j < n → f (a + j) ≡ g (b + j)) → range_of f a n ≡ range_of g b n
@@ -45,9 +44,9 @@ no_byte zero j = refl
 no_byte (suc n) zero = refl
 no_byte (suc n) (suc j) = no_byte n j
 
-pub whole_byte : (o : Option Block) (j : ℕ) → byte_at (whole_of o) j ≡ byte_at (bytes_of_block o) j
+pub whole_byte : (o : Option (List ℕ)) (j : ℕ) → byte_at (whole_of o) j ≡ byte_at (unwrap_or o []) j
 whole_byte None j = no_byte block_bytes j
-whole_byte (Some b) j = refl
+whole_byte (Some bytes) j = refl
 
 -- the place of a byte in a block
 same_block : (here j : ℕ) → here % block_bytes + j < block_bytes → (here + j) / block_bytes ≡ here / block_bytes
@@ -57,20 +56,15 @@ same_start : (here j : ℕ) → here % block_bytes + j < block_bytes → (here +
 same_start here j low = omega (arith, low)
 
 -- the part of a block
-pub piece_is : (blocks : List Block) (node here n : ℕ) (bytes : List ℕ) → bytes ≡ whole_of (block_at node (here / block_bytes) blocks)
+pub piece_is : (file : List ℕ) (c : Content) (node here n : ℕ) (bytes : List ℕ) → bytes ≡ whole_of (stored_block file c node (here / block_bytes))
     → length bytes ≡ block_bytes → here % block_bytes + n ≤ block_bytes
-    → take n (drop (here % block_bytes) bytes) ≡ range_of (byte_in blocks node) here n
-piece_is blocks node here n bytes is whole within =
+    → take n (drop (here % block_bytes) bytes) ≡ range_of (byte_in file c node) here n
+piece_is file c node here n bytes is whole within =
     part_is bytes (here % block_bytes) n (omega (arith, whole, within))
-    ∙ range_same (byte_at bytes) (byte_in blocks node) (here % block_bytes) here n (λ j low.
-    ap (λ l. byte_at l (here % block_bytes + j)) is ∙ whole_byte (block_at node (here / block_bytes) blocks) (here % block_bytes + j)
-    ∙ ap (λ k. byte_at (bytes_of_block (block_at node k blocks)) (here % block_bytes + j)) (sym (same_block here j (omega (arith, low, within))))
-    ∙ ap (byte_at (bytes_of_block (block_at node ((here + j) / block_bytes) blocks))) (sym (same_start here j (omega (arith, low, within)))))
-
--- nothing was found
-pub none_block : (rows : List Row) (o : Option Block) → length rows ≤ 0 → rows ≡ map shown_block (option_to_list o) → replicate block_bytes 0 ≡ whole_of o
-none_block rows None low is = refl
-none_block rows (Some b) low is = absurd (let e : length rows ≡ 1 = ap length is in omega (arith, low, e))
+    ∙ range_same (byte_at bytes) (byte_in file c node) (here % block_bytes) here n (λ j low.
+    ap (λ l. byte_at l (here % block_bytes + j)) is ∙ whole_byte (stored_block file c node (here / block_bytes)) (here % block_bytes + j)
+    ∙ ap (λ k. byte_at (unwrap_or (stored_block file c node k) []) (here % block_bytes + j)) (sym (same_block here j (omega (arith, low, within))))
+    ∙ ap (byte_at (unwrap_or (stored_block file c node ((here + j) / block_bytes)) [])) (sym (same_start here j (omega (arith, low, within)))))
 
 nothing_taken : (k : ℕ) (rest : List ℕ) → ◌++◌ {A = ℕ} (take k []) rest ≡ rest
 nothing_taken zero rest = refl

@@ -1,5 +1,5 @@
 -- Blocks that begin before the end of their node.
-use Rattle.std.proofs.Common.{◌≡◌, ◌≤◌, ◌<◌, ◌*◌, ◌==◌, ◌&&◌, inl, inr, ℕ, List, [], ◌∷◌, filter, not, Bool, true, false, cond, min, max, subst, arith}
+use Rattle.std.proofs.Common.{None, refl, ap, ◌∙◌, ◌-◌, ◌≡◌, ◌≤◌, ◌<◌, ◌*◌, ◌==◌, ◌&&◌, inl, inr, ℕ, List, [], ◌∷◌, filter, not, Bool, true, false, cond, min, max, subst, arith}
 use Rattle.std.specs.List.{AllByRecursion}
 use Rattle.std.specs.Option.{is_some}
 use Rattle.std.specs.Ordering.{is_eq, is_ge, nat_cmp}
@@ -7,7 +7,10 @@ use Rattle.std.proofs.lemmas.Bool.{cases_Bool}
 use Rattle.std.proofs.lemmas.Bool.Decides.{nat_tests}
 use Rattle.fuse_rows.specs.Bounds.{block_bytes}
 use Rattle.fuse_store_tables.specs.Blocks.{Block, block_at, is_at, is_from}
-use Rattle.fuse_store_tree.specs.Store.{AreWithin}
+use Rattle.fuse_store_tables.specs.Pieces.{Piece}
+use Rattle.fuse_store_tables.specs.Content.{Content}
+use Rattle.fuse_store_tree.specs.Pieces.{end_of, has_block, piece_at, block_found, stored_block}
+use Rattle.fuse_store_tree.specs.Store.{AreWithin, ArePiecesWithin}
 use Rattle.fuse_store_tree.specs.inner.Writing.{ends_grown, shortened}
 use Rattle.fuse_store_tree.proofs.Looks.{key_is, both_are}
 
@@ -22,6 +25,45 @@ within_known P e f more (b ∷ bs) are all = (more b are.0 all.0, within_known P
 pub within_more : (e f : ℕ → ℕ) → ((n k : ℕ) → k * block_bytes < e n → k * block_bytes < f n) → (bs : List Block) → AreWithin e bs → AreWithin f bs
 within_more e f more [] all = tt
 within_more e f more (b ∷ bs) all = (more b.node b.block all.0, within_more e f more bs all.1)
+
+pub pieces_more : (e f : ℕ → ℕ) → ((n k : ℕ) → k * block_bytes < e n → k * block_bytes < f n) → (ps : List Piece) → ArePiecesWithin e ps → ArePiecesWithin f ps
+pieces_more e f more [] all = tt
+pieces_more e f more (p ∷ ps) all = (more p.node (end_of p - 1) all.0, pieces_more e f more ps all.1)
+
+pub pieces_known : (P : Piece → Type 0) (e f : ℕ → ℕ) → ((p : Piece) → P p → (end_of p - 1) * block_bytes < e p.node → (end_of p - 1) * block_bytes < f p.node)
+    → (ps : List Piece) → AllByRecursion P ps → ArePiecesWithin e ps → ArePiecesWithin f ps
+pieces_known P e f more [] are all = tt
+pieces_known P e f more (p ∷ ps) are all = (more p are.0 all.0, pieces_known P e f more ps are.1 all.1)
+
+-- a node without bytes has nothing stored
+no_block : (e : ℕ → ℕ) (node k : ℕ) (bs : List Block) → AreWithin e bs → e node ≡ 0 → block_at node k bs ≡ None
+no_block e node k [] all none = refl
+no_block e node k (b ∷ bs) all none = elim (cases_Bool (is_at node k b)) [
+  | inl here ↦
+      absurd (let low = subst (λ m. b.block * block_bytes < e m) (key_is b.node node (both_are _ _ here).0) all.0 in omega (arith, low, none))
+  | inr other ↦ rw other (no_block e node k bs all.1 none)
+]
+
+no_piece : (e : ℕ → ℕ) (node k : ℕ) (ps : List Piece) → ArePiecesWithin e ps → e node ≡ 0 → piece_at node k ps ≡ None
+no_piece e node k [] all none = refl
+no_piece e node k (p ∷ ps) all none = elim (cases_Bool (has_block node k p)) [
+  | inl here ↦
+      absurd (let low = subst (λ m. (end_of p - 1) * block_bytes < e m) (number_is p.node node (first_true _ _ here)) all.0 in omega (arith, low, none))
+  | inr other ↦ rw other (no_piece e node k ps all.1 none)
+]
+  where
+    first_true : (a b : Bool) → (a && b) ≡ true → a ≡ true
+    first_true true b is = refl
+    first_true false b is = absurd cc
+
+    number_is : (a b : ℕ) → (a == b) ≡ true → a ≡ b
+    number_is a b is = grind (arith, nat_tests)
+
+pub unstored : (file : List ℕ) (c : Content) (e : ℕ → ℕ) (node : ℕ) → AreWithin e c.blocks → ArePiecesWithin e c.pieces → e node ≡ 0 → (k : ℕ)
+    → stored_block file c node k ≡ None
+unstored file c e node within pieces_within none k =
+    ap (λ b. block_found file k b (piece_at node k c.pieces)) (no_block e node k c.blocks within none)
+    ∙ ap (block_found file k None) (no_piece e node k c.pieces pieces_within none)
 
 -- the blocks that a test leaves
 pub within_left : (q : Block → Bool) (e f : ℕ → ℕ)

@@ -34,16 +34,16 @@ pub record AreInOrder (rows : Rows) : Type 0 where
 abbrev pub TreesAreInOrder : Type 0
 TreesAreInOrder = (s : TreeState) → Tree s → AreInOrder (rowed s)
 
--- a database of the tables that holds this
-pub record HeldFor (y : Holding) (d : Database) : Type 0 where
+-- a database of the tables that holds this over this data file
+pub record HeldFor (file : List ℕ) (y : Holding) (d : Database) : Type 0 where
   pub tree : Tree y.tree
   pub below : AreBelow y.next_lot y.lots
   pub next : y.next_lot ≤ 2 ^ 62
-  pub held : Held (store_of y) d
+  pub held : Held file (store_of y) d
 
 -- of the holding before a whole transaction, if the disk returned what was written
-abbrev pub ReportsAfter : State → State → (Holding → Type 0) → Type 0
-ReportsAfter old new P = HasCleanDisk new → (y : Holding) → RestsAs (HeldFor y) old → P y
+abbrev pub ReportsAfter : List ℕ → State → State → (Holding → Type 0) → Type 0
+ReportsAfter file old new P = HasCleanDisk new → (y : Holding) → RestsAs (HeldFor file y) old → P y
 
 -- these lots and the one of this opening, and the lot of each of these records
 abbrev pub lots_as : Option ℕ → List ℕ → List Kept → Lots

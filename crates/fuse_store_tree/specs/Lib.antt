@@ -1,9 +1,16 @@
 pub mod Fits
+pub mod Pieces
+pub mod Viewing
+pub mod Widening
+pub mod DataFaults
 pub mod Store
 pub mod Looking
 pub mod Holding
 pub mod Group
 pub mod Knowing
 pub mod Lots
+pub mod Leaving
+pub mod Listings
+pub mod StoreState
 pub mod Performing
 pub mod inner

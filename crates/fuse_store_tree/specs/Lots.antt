@@ -52,8 +52,8 @@ lots_in current d = lots_as current (lots_read d) (kept_read d)
 
 -- the lots read from a database are those that it holds
 abbrev pub LotsAreRead : Type 0
-LotsAreRead = (current : Option ℕ) (y : Holding) (d : Database) → HeldFor y d → lots_in current d ≡ lots_of current y
+LotsAreRead = (current : Option ℕ) (file : List ℕ) (y : Holding) (d : Database) → HeldFor file y d → lots_in current d ≡ lots_of current y
 
 -- the same, in the words of a keeper
 abbrev pub LotsAreSame : Type 0
-LotsAreSame = (current : Option ℕ) (y : Holding) (d : Database) → HeldFor y d → SameLots (lots_of current y) (lots_in current d)
+LotsAreSame = (current : Option ℕ) (file : List ℕ) (y : Holding) (d : Database) → HeldFor file y d → SameLots (lots_of current y) (lots_in current d)

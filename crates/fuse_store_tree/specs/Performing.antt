@@ -15,9 +15,9 @@ use Rattle.fuse_store_tree.specs.Store.{records_of}
 use Rattle.fuse_store_tree.specs.Holding.{Holding, HeldFor, AreBelow, lots_of}
 use Rattle.fuse_store_tree.specs.Group.{lot_after, performed, all_dones}
 
--- a database holds only one thing
+-- a database and a data file hold only one thing
 abbrev pub OneHolding : Type 0
-OneHolding = (x y : Holding) (d : Database) → HeldFor x d → HeldFor y d → x ≡ y
+OneHolding = (file : List ℕ) (x y : Holding) (d : Database) → HeldFor file x d → HeldFor file y d → x ≡ y
 
 -- its rows and records, as those of a profile
 abbrev pub keeper_content_of : (p : Profile) → Holding → KeeperContent (tree_of p)

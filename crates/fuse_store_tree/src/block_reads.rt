@@ -1,30 +1,34 @@
-// Reads of the bytes of files, block by block.
-ghost use Rattle.std.specs.Prelude.{◌≡◌, Some, ◌<◌, ◌≤◌, ◌^◌, ◌+◌, ◌%◌, ◌++◌, map};
-ghost use Rattle.std.specs.Prelude.{length, take, drop, replicate, Option, IfSome, IfOk, IfErr};
+// Reads of single blocks of files.
+ghost use Rattle.std.specs.Prelude.{◌≡◌, ◌<◌, ◌≤◌, ◌^◌, ◌+◌, ◌%◌, ℕ, List, length, replicate};
+ghost use Rattle.std.specs.Prelude.{IsTrue};
+ghost use Rattle.std.specs.Prelude.{true, false, map, Option, option_map, IfSome, IfOk, IfErr};
 ghost use Rattle.std.specs.Prelude.{OnOk, OnErr};
 ghost use Rattle.std.specs.Option.{is_some, option_to_list};
 ghost use Rattle.sqlite.specs.State.{HasCleanDisk};
 ghost use Rattle.sqlite.specs.Held.{state};
-ghost use Rattle.fuse_rows.specs.Bounds.{block_bytes, file_limit};
+ghost use Rattle.fuse_rows.specs.Bounds.{block_bytes};
 ghost use Rattle.fuse_store_tables.specs.Blocks.{Block, block_at, shown_block};
-ghost use Rattle.fuse_store_tables.specs.Content.{Content, node_key, at_by};
-ghost use Rattle.fuse_store_tree.specs.Fits.{Fits, IsWhole};
+ghost use Rattle.fuse_store_tables.specs.Content.{Content};
+ghost use Rattle.fuse_store_tables.specs.Pieces.{Piece as APiece};
+ghost use Rattle.fuse_store_tables.specs.Ranges.{row_of};
 ghost use Rattle.fuse_store_tables.specs.Faults.{IsOutside, IsPlain};
 ghost use Rattle.fuse_store_tables.specs.Moves.{Inside, LookedInside, Stays};
-ghost use Rattle.fuse_store_tree.specs.Store.{byte_in};
-ghost use Rattle.fuse_store_tree.specs.inner.Reading.{range_of, whole_of, bytes_told, bytes_within};
+ghost use Rattle.fuse_store_tree.specs.Fits.{IsWhole};
+ghost use Rattle.fuse_store_tree.specs.Pieces.{ReadsFile, block_in_piece, piece_at, stored_block};
+ghost use Rattle.fuse_store_tree.specs.Pieces.{is_written_in};
+ghost use Rattle.fuse_store_tree.specs.inner.Reading.{whole_of, IsInFile, IsSound};
+ghost use Rattle.fuse_store_tree.specs.inner.Relisting.{piece_block};
 
-use crate::bounds::END;
-use crate::rows::find_node;
+use crate::contents::Contents;
+use crate::piece_reads::{find_piece, read_block_of};
 use fuse_keeper::StoreFault;
-use fuse_rows::{BLOCK_SIZE, MAX_FILE};
-use fuse_store_tables::{bytes_at, select_block};
-use fuse_wire::ByteList;
+use fuse_rows::BLOCK_SIZE;
+use fuse_store_tables::{PieceRow, bytes_at, select_block};
 use sqlite::{Alter, Connection, Row};
 use std::alloc::Global;
 
-// A block of zeros.
-fn zeros(alloc: Global) -> Result<Vec<u8>, StoreFault>
+/// A block of zeros.
+pub(crate) fn zeros(alloc: Global) -> Result<Vec<u8>, StoreFault>
     ensures value { IfOk result (λ v. v.items ≡ replicate block_bytes 0) }
     ensures whole { IfOk result (λ v. length v.items ≡ block_bytes) }
     ensures fault { IfErr result (λ f. IsOutside f) }
@@ -35,37 +39,103 @@ fn zeros(alloc: Global) -> Result<Vec<u8>, StoreFault>
     Ok(zeros)
 }
 
-/// The bytes of a block, zeros where none is stored.
+/// The bytes of a block, zeros where it isn't written.
 #[derive(Drop)]
 pub(crate) struct FoundBlock {
     pub(crate) bytes: Vec<u8>,
+    /// A row of `blocks` has it.
     pub(crate) stored: bool,
+    /// A row or a piece has it.
+    pub(crate) written: bool,
 }
 
-// The bytes of the block in the row that was found.
-fn read_block(alloc: Global, rows: &[Row]) -> Result<Vec<u8>, StoreFault>
-    ensures value { IfOk result (λ v. (o : Option Block) → IfSome o IsWhole
-        → rows.now ≡ map shown_block (option_to_list o) → v.items ≡ whole_of o) }
+// The bytes of a block in its row.
+fn read_row(row: &Row) -> Result<Vec<u8>, StoreFault>
+    ensures value { IfOk result (λ v. (b : Block) → IsWhole b → row.now ≡ shown_block b
+        → v.items ≡ b.bytes) }
     ensures whole { IfOk result (λ v. length v.items ≡ block_bytes) }
+    ensures fault { IfErr result (λ f. (b : Block) → IsWhole b → row.now ≡ shown_block b
+        → IsOutside f) }
+    ensures plain { IfErr result IsPlain }
+{
+    let bytes = bytes_at(row, 0)?;
+    if bytes.len() != BLOCK_SIZE as usize {
+        return Err(StoreFault::Damaged);
+    }
+    Ok(bytes)
+}
+
+// The bytes of a block in the row that was found.
+fn read_found(rows: &[Row]) -> Result<Option<Vec<u8>>, StoreFault>
+    ensures value { IfOk result (λ r. (o : Option Block) → IfSome o IsWhole
+        → rows.now ≡ map shown_block (option_to_list o)
+        → option_map (λ v. v.items) r ≡ option_map (λ b. b.bytes) o) }
+    ensures found { IfOk result (λ r. (o : Option Block)
+        → rows.now ≡ map shown_block (option_to_list o) → is_some r ≡ is_some o) }
+    ensures whole { IfOk result (λ r. IfSome r (λ v. length v.items ≡ block_bytes)) }
     ensures fault { IfErr result (λ f. (o : Option Block) → IfSome o IsWhole
         → rows.now ≡ map shown_block (option_to_list o) → IsOutside f) }
     ensures plain { IfErr result IsPlain }
 {
     match rows.first() {
-        None => { zeros(alloc) }
-        Some(row) => {
-            let bytes = bytes_at(row, 0)?;
-            if bytes.len() != BLOCK_SIZE as usize {
-                return Err(StoreFault::Damaged);
-            }
-            Ok(bytes)
-        }
+        None => Ok(None),
+        Some(row) => match read_row(row) {
+            Ok(bytes) => Ok(Some(bytes)),
+            Err(fault) => Err(fault),
+        },
     }
 }
 
-/// A block, and whether it is stored.
-pub(crate) fn find_block<S: Alter>(
+// A block that isn't written.
+fn unwritten(alloc: Global) -> Result<FoundBlock, StoreFault>
+    ensures value { IfOk result (λ f. f.bytes.items ≡ replicate block_bytes 0) }
+    ensures stored { IfOk result (λ f. f.stored ≡ false) }
+    ensures written { IfOk result (λ f. f.written ≡ false) }
+    ensures whole { IfOk result (λ f. length f.bytes.items ≡ block_bytes) }
+    ensures fault { IfErr result (λ f. IsOutside f) }
+    ensures plain { IfErr result IsPlain }
+{
+    let bytes = zeros(alloc)?;
+    Ok(FoundBlock {
+        bytes,
+        stored: false,
+        written: false,
+    })
+}
+
+// A block that this piece has.
+fn find_in<C: Contents>(
+    contents: &mut C,
+    alloc: Global,
+    piece: PieceRow,
+    block: u64,
+) -> Result<FoundBlock, StoreFault>
+    requires from { piece.first ≤ block }
+    requires to { block < piece.first + piece.count }
+    ensures reads { ReadsFile (C.Contents.file contents.old) (C.Contents.file contents.new) }
+    ensures value { IsTrue (C.Contents.file contents.new).is_clean → IfOk result (λ f.
+        (p : APiece) → row_of p ≡ piece
+        → f.bytes.items ≡ block_in_piece (C.Contents.file contents.new).bytes block p) }
+    ensures stored { IfOk result (λ f. f.stored ≡ false) }
+    ensures written { IfOk result (λ f. f.written ≡ true) }
+    ensures whole { IfOk result (λ f. length f.bytes.items ≡ block_bytes) }
+    ensures fault { IsTrue (C.Contents.file contents.new).is_clean → IfErr result (λ f.
+        (p : APiece) → row_of p ≡ piece → IsInFile (C.Contents.file contents.new).bytes p
+        → IsOutside f) }
+    ensures plain { IfErr result IsPlain }
+{
+    let bytes = read_block_of(contents, alloc, piece, block)?;
+    Ok(FoundBlock {
+        bytes,
+        stored: false,
+        written: true,
+    })
+}
+
+// A block that has no row.
+fn find_in_piece<S: Alter, C: Contents>(
     conn: &mut Connection<S>,
+    contents: &mut C,
     alloc: Global,
     node: u64,
     block: u64,
@@ -74,66 +144,70 @@ pub(crate) fn find_block<S: Alter>(
     requires block { block < 2 ^ 63 }
     ensures looks { OnOk result (LookedInside (state S.Store conn.old) (state S.Store conn.new)) }
     ensures fails { OnErr result (Stays (state S.Store conn.old) (state S.Store conn.new)) }
-    ensures value { HasCleanDisk (state S.Store conn.new) → IfOk result (λ f. (c : Content)
-        → Inside c (state S.Store conn.old) → Fits c
-        → f.bytes.items ≡ whole_of (block_at node block c.blocks)) }
-    ensures stored { HasCleanDisk (state S.Store conn.new) → IfOk result (λ f. (c : Content)
-        → Inside c (state S.Store conn.old) → f.stored ≡ is_some (block_at node block c.blocks)) }
+    ensures reads { ReadsFile (C.Contents.file contents.old) (C.Contents.file contents.new) }
+    ensures value { HasCleanDisk (state S.Store conn.new)
+        → IsTrue (C.Contents.file contents.new).is_clean → IfOk result (λ f. (c : Content)
+        → Inside c (state S.Store conn.old) → IsSound (C.Contents.file contents.new).bytes c
+        → f.bytes.items ≡ whole_of (piece_block (C.Contents.file contents.new).bytes c.pieces node
+        block)) }
+    ensures stored { IfOk result (λ f. f.stored ≡ false) }
+    ensures written { HasCleanDisk (state S.Store conn.new) → IfOk result (λ f. (file : List ℕ)
+        (c : Content) → Inside c (state S.Store conn.old) → IsSound file c
+        → f.written ≡ is_some (piece_at node block c.pieces)) }
     ensures whole { IfOk result (λ f. length f.bytes.items ≡ block_bytes) }
-    ensures fault { HasCleanDisk (state S.Store conn.new) → IfErr result (λ f. (c : Content)
-        → Inside c (state S.Store conn.old) → Fits c → IsOutside f) }
+    ensures fault { HasCleanDisk (state S.Store conn.new)
+        → IsTrue (C.Contents.file contents.new).is_clean → IfErr result (λ f. (c : Content)
+        → Inside c (state S.Store conn.old) → IsSound (C.Contents.file contents.new).bytes c
+        → IsOutside f) }
     ensures plain { IfErr result IsPlain }
 {
-    let rows = select_block(conn, node, block)?;
-    let stored = !rows.as_slice().is_empty();
-    match read_block(alloc, rows.as_slice()) {
-        Ok(bytes) => Ok(FoundBlock { bytes, stored }),
+    match find_piece(conn, node, block) {
+        Ok(None) => unwritten(alloc),
+        Ok(Some(piece)) => find_in(contents, alloc, piece, block),
         Err(fault) => Err(fault),
     }
 }
 
-// Appends a part of the bytes.
-fn append_part(
-    out: &mut Vec<u8>,
-    bytes: &[u8],
-    start: usize,
-    count: usize,
-) -> Result<(), StoreFault>
-    requires { start + count ≤ length bytes.now }
-    ensures appended { OnOk result (out.new.items ≡ out.old.items
-        ++ take count (drop start bytes.now)) }
-    ensures fault { IfErr result (λ f. IsOutside f) }
-    ensures plain { IfErr result IsPlain }
-{
-    let end = start + count;
-    out.extend_from_slice(&bytes[start..end])?;
-    Ok(())
-}
-
-// Appends bytes of one block.
-fn append_piece<S: Alter>(
+/// A block, and whether it is written. A row counts over a piece.
+pub(crate) fn find_block<S: Alter, C: Contents>(
     conn: &mut Connection<S>,
+    contents: &mut C,
     alloc: Global,
     node: u64,
-    here: u64,
-    count: u64,
-    out: &mut Vec<u8>,
-) -> Result<(), StoreFault>
+    block: u64,
+) -> Result<FoundBlock, StoreFault>
     requires node { node < 2 ^ 63 }
-    requires here { here < 2 ^ 63 }
-    requires within { here % block_bytes + count ≤ block_bytes }
+    requires block { block < 2 ^ 63 }
     ensures looks { OnOk result (LookedInside (state S.Store conn.old) (state S.Store conn.new)) }
     ensures fails { OnErr result (Stays (state S.Store conn.old) (state S.Store conn.new)) }
-    ensures value { HasCleanDisk (state S.Store conn.new) → OnOk result ((c : Content)
-        → Inside c (state S.Store conn.old) → Fits c → out.new.items ≡ out.old.items
-        ++ range_of (byte_in c.blocks node) here count) }
-    ensures fault { HasCleanDisk (state S.Store conn.new) → IfErr result (λ f. (c : Content)
-        → Inside c (state S.Store conn.old) → Fits c → IsOutside f) }
+    ensures reads { ReadsFile (C.Contents.file contents.old) (C.Contents.file contents.new) }
+    ensures value { HasCleanDisk (state S.Store conn.new)
+        → IsTrue (C.Contents.file contents.new).is_clean → IfOk result (λ f. (c : Content)
+        → Inside c (state S.Store conn.old) → IsSound (C.Contents.file contents.new).bytes c
+        → f.bytes.items ≡ whole_of (stored_block (C.Contents.file contents.new).bytes c node
+        block)) }
+    ensures stored { HasCleanDisk (state S.Store conn.new) → IfOk result (λ f. (c : Content)
+        → Inside c (state S.Store conn.old) → f.stored ≡ is_some (block_at node block c.blocks)) }
+    ensures written { HasCleanDisk (state S.Store conn.new) → IfOk result (λ f. (file : List ℕ)
+        (c : Content) → Inside c (state S.Store conn.old) → IsSound file c
+        → f.written ≡ is_written_in file c node block) }
+    ensures whole { IfOk result (λ f. length f.bytes.items ≡ block_bytes) }
+    ensures fault { HasCleanDisk (state S.Store conn.new)
+        → IsTrue (C.Contents.file contents.new).is_clean → IfErr result (λ f. (c : Content)
+        → Inside c (state S.Store conn.old) → IsSound (C.Contents.file contents.new).bytes c
+        → IsOutside f) }
     ensures plain { IfErr result IsPlain }
 {
-    let block = find_block(conn, alloc, node, here / u64::from(BLOCK_SIZE))?;
-    let start = (here % u64::from(BLOCK_SIZE)) as usize;
-    append_part(out, block.bytes.as_slice(), start, count as usize)
+    let rows = select_block(conn, node, block)?;
+    match read_found(rows.as_slice()) {
+        Ok(Some(bytes)) => Ok(FoundBlock {
+            bytes,
+            stored: true,
+            written: true,
+        }),
+        Ok(None) => find_in_piece(conn, contents, alloc, node, block),
+        Err(fault) => Err(fault),
+    }
 }
 
 // The number of these bytes in the first block.
@@ -144,95 +218,4 @@ pub(crate) fn first_count(here: u64, left: u64) -> u64
     ensures most { result ≤ left }
 {
     left.min(u64::from(BLOCK_SIZE) - here % u64::from(BLOCK_SIZE))
-}
-
-/// `len` bytes of a node's blocks, from a place on.
-pub(crate) fn find_range<S: Alter>(
-    conn: &mut Connection<S>,
-    alloc: Global,
-    node: u64,
-    at: u64,
-    len: u64,
-) -> Result<Vec<u8>, StoreFault>
-    requires node { node < 2 ^ 63 }
-    requires end { at + len < 2 ^ 63 }
-    ensures looks { OnOk result (LookedInside (state S.Store conn.old) (state S.Store conn.new)) }
-    ensures fails { OnErr result (Stays (state S.Store conn.old) (state S.Store conn.new)) }
-    ensures value { HasCleanDisk (state S.Store conn.new) → IfOk result (λ v. (c : Content)
-        → Inside c (state S.Store conn.old) → Fits c → v.items ≡ range_of (byte_in c.blocks node) at
-        len) }
-    ensures fault { HasCleanDisk (state S.Store conn.new) → IfErr result (λ f. (c : Content)
-        → Inside c (state S.Store conn.old) → Fits c → IsOutside f) }
-    ensures plain { IfErr result IsPlain }
-{
-    let mut out = Vec::new(alloc);
-    let mut done = 0;
-    'pieces: while done < len {
-        let count = first_count(at + done, len - done);
-        match append_piece(conn, alloc, node, at + done, count, &mut out) {
-            Ok(()) => {}
-            Err(fault) => return Err(fault),
-        }
-        done += count;
-    }
-    Ok(out)
-}
-
-/// At most `len` bytes of the content of a node of this size, from `offset` on.
-pub(crate) fn find_sized<S: Alter>(
-    conn: &mut Connection<S>,
-    alloc: Global,
-    node: u64,
-    size: u64,
-    offset: u64,
-    len: u32,
-) -> Result<ByteList, StoreFault>
-    requires node { node < 2 ^ 63 }
-    requires size { size ≤ file_limit }
-    ensures looks { OnOk result (LookedInside (state S.Store conn.old) (state S.Store conn.new)) }
-    ensures fails { OnErr result (Stays (state S.Store conn.old) (state S.Store conn.new)) }
-    ensures value { HasCleanDisk (state S.Store conn.new) → IfOk result (λ r. (c : Content)
-        → Inside c (state S.Store conn.old) → Fits c → r ≡ bytes_within size c.blocks node offset
-        len) }
-    ensures fault { HasCleanDisk (state S.Store conn.new) → IfErr result (λ f. (c : Content)
-        → Inside c (state S.Store conn.old) → Fits c → IsOutside f) }
-    ensures plain { IfErr result IsPlain }
-{
-    if offset >= size {
-        return Ok(ByteList::from_vec(Vec::new(alloc)));
-    }
-    let count = u64::from(len).min(size - offset);
-    let bytes = find_range(conn, alloc, node, offset, count)?;
-    Ok(ByteList::from_vec(bytes))
-}
-
-/// At most `len` bytes of a node's content, from `offset` on.
-pub(crate) fn find_bytes<S: Alter>(
-    conn: &mut Connection<S>,
-    alloc: Global,
-    node: u64,
-    offset: u64,
-    len: u32,
-) -> Result<ByteList, StoreFault>
-    ensures looks { OnOk result (LookedInside (state S.Store conn.old) (state S.Store conn.new)) }
-    ensures fails { OnErr result (Stays (state S.Store conn.old) (state S.Store conn.new)) }
-    ensures value { HasCleanDisk (state S.Store conn.new) → IfOk result (λ r. (c : Content)
-        → Inside c (state S.Store conn.old) → Fits c → r ≡ bytes_told (at_by node_key node c.nodes)
-        c.blocks node offset len) }
-    ensures fault { HasCleanDisk (state S.Store conn.new) → IfErr result (λ f. (c : Content)
-        → Inside c (state S.Store conn.old) → Fits c
-        → IfSome (at_by node_key node c.nodes) (λ n. n.size ≤ file_limit) → IsOutside f) }
-    ensures plain { IfErr result IsPlain }
-{
-    if node >= END {
-        return Ok(ByteList::from_vec(Vec::new(alloc)));
-    }
-    let Some(row) = find_node(conn, node)? else {
-        return Ok(ByteList::from_vec(Vec::new(alloc)));
-    };
-    if row.size > MAX_FILE {
-        return Err(StoreFault::Damaged);
-    }
-    let bytes = find_sized(conn, alloc, node, row.size, offset, len)?;
-    Ok(bytes)
 }

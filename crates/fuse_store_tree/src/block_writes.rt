@@ -1,21 +1,24 @@
 // Writes of the bytes of files, block by block.
 ghost use Rattle.std.specs.Prelude.{◌≡◌, ◌<◌, ◌≤◌, ◌^◌, ◌+◌, ◌/◌, ◌%◌, ℕ, length};
-ghost use Rattle.std.specs.Prelude.{IfOk, IfErr, OnOk, OnErr};
+ghost use Rattle.std.specs.Prelude.{IfOk, IfErr, OnOk, OnErr, IsTrue};
 ghost use Rattle.sqlite.specs.State.{HasCleanDisk};
 ghost use Rattle.sqlite.specs.Held.{state};
 ghost use Rattle.fuse_rows.specs.Bounds.{block_bytes};
-ghost use Rattle.fuse_store_tables.specs.Faults.{IsOutside, IsPlain};
-ghost use Rattle.fuse_store_tree.specs.inner.Changing.{Changed};
-ghost use Rattle.fuse_store_tree.specs.inner.Changing.{Overlaid, Zeroed};
 ghost use Rattle.fuse_rows.specs.declared.rows.Change.TheVariants as changes;
-ghost use Rattle.fuse_store_tables.specs.Content.{Content};
-ghost use Rattle.fuse_store_tree.specs.Fits.{Fits};
+ghost use Rattle.fuse_store_tables.specs.Content.{Content, put_block};
+ghost use Rattle.fuse_store_tables.specs.Faults.{IsOutside, IsPlain};
 ghost use Rattle.fuse_store_tables.specs.Moves.{Inside, Makes, Stays};
 ghost use Rattle.fuse_store_tables.specs.inner.Performing.{IsSure};
-ghost use Rattle.fuse_store_tree.specs.Store.{Held, HeldAs, byte_at};
+ghost use Rattle.fuse_store_tree.specs.Pieces.{ReadsFile, byte_at};
+ghost use Rattle.fuse_store_tree.specs.Store.{Held, HeldAs};
+ghost use Rattle.fuse_store_tree.specs.inner.Changing.{Changed, Overlaid, Zeroed};
+ghost use Rattle.fuse_store_tree.specs.declared.piece_cuts.Gone.{Gone};
+ghost use Rattle.fuse_store_tree.specs.inner.Reading.{IsSound};
+ghost use Rattle.fuse_store_tree.specs.inner.Relisting.{GivenUp, IsAny, Relists};
 ghost use Rattle.fuse_store_tree.specs.inner.Writing.{spliced, put_found, with_change};
 
 use crate::block_reads::{FoundBlock, find_block, first_count};
+use crate::contents::Contents;
 use fuse_keeper::StoreFault;
 use fuse_rows::BLOCK_SIZE;
 use fuse_store_tables::{insert_block, update_block, write_block};
@@ -97,9 +100,10 @@ fn write_over<S: Alter>(
     )
 }
 
-// Writes bytes within one block, over those that it has.
-fn write_part<S: Alter>(
+// Writes bytes within one block, over those that it has in its row or in a piece.
+fn write_part<S: Alter, C: Contents>(
     conn: &mut Connection<S>,
+    contents: &mut C,
     alloc: Global,
     node: u64,
     here: u64,
@@ -109,14 +113,17 @@ fn write_part<S: Alter>(
     requires here { here < 2 ^ 63 }
     requires some { 1 ≤ length part.now }
     requires within { here % block_bytes + length part.now ≤ block_bytes }
-    ensures overlaid { OnOk result (Overlaid node here part.now (state S.Store conn.old)
-        (state S.Store conn.new)) }
+    ensures reads { ReadsFile (C.Contents.file contents.old) (C.Contents.file contents.new) }
+    ensures overlaid { OnOk result (Overlaid (C.Contents.file contents.new) node here part.now
+        (state S.Store conn.old) (state S.Store conn.new)) }
     ensures fails { OnErr result (Stays (state S.Store conn.old) (state S.Store conn.new)) }
-    ensures fault { HasCleanDisk (state S.Store conn.new) → IfErr result (λ f. (c : Content)
-        → Inside c (state S.Store conn.old) → Fits c → IsOutside f) }
+    ensures fault { HasCleanDisk (state S.Store conn.new)
+        → IsTrue (C.Contents.file contents.new).is_clean → IfErr result (λ f. (c : Content)
+        → Inside c (state S.Store conn.old) → IsSound (C.Contents.file contents.new).bytes c
+        → IsOutside f) }
     ensures plain { IfErr result IsPlain }
 {
-    let found = match find_block(conn, alloc, node, here / u64::from(BLOCK_SIZE)) {
+    let found = match find_block(conn, contents, alloc, node, here / u64::from(BLOCK_SIZE)) {
         Ok(found) => found,
         Err(fault) => return Err(fault),
     };
@@ -132,11 +139,8 @@ fn write_whole<S: Alter>(
 ) -> Result<(), StoreFault>
     requires node { node < 2 ^ 63 }
     requires here { here < 2 ^ 63 }
-    requires whole { length bytes.now ≡ block_bytes }
-    requires within { here % block_bytes + length bytes.now ≤ block_bytes }
-    ensures overlaid { OnOk result (Overlaid node here bytes.now (state S.Store conn.old)
-        (state S.Store conn.new)) }
-    ensures fails { OnErr result (Stays (state S.Store conn.old) (state S.Store conn.new)) }
+    ensures made { Makes (put_block node (here / block_bytes) bytes.now)
+        (state S.Store conn.old) (state S.Store conn.new) result }
     ensures fault { IfErr result IsOutside }
     ensures plain { IfErr result IsPlain }
 {
@@ -147,8 +151,9 @@ fn write_whole<S: Alter>(
 }
 
 /// Writes bytes within one block.
-pub(crate) fn write_piece<S: Alter>(
+pub(crate) fn write_piece<S: Alter, C: Contents>(
     conn: &mut Connection<S>,
+    contents: &mut C,
     alloc: Global,
     node: u64,
     here: u64,
@@ -158,23 +163,27 @@ pub(crate) fn write_piece<S: Alter>(
     requires here { here < 2 ^ 63 }
     requires some { 1 ≤ length part.now }
     requires within { here % block_bytes + length part.now ≤ block_bytes }
-    ensures overlaid { OnOk result (Overlaid node here part.now (state S.Store conn.old)
-        (state S.Store conn.new)) }
+    ensures reads { ReadsFile (C.Contents.file contents.old) (C.Contents.file contents.new) }
+    ensures overlaid { OnOk result (Overlaid (C.Contents.file contents.new) node here part.now
+        (state S.Store conn.old) (state S.Store conn.new)) }
     ensures fails { OnErr result (Stays (state S.Store conn.old) (state S.Store conn.new)) }
-    ensures fault { HasCleanDisk (state S.Store conn.new) → IfErr result (λ f. (c : Content)
-        → Inside c (state S.Store conn.old) → Fits c → IsOutside f) }
+    ensures fault { HasCleanDisk (state S.Store conn.new)
+        → IsTrue (C.Contents.file contents.new).is_clean → IfErr result (λ f. (c : Content)
+        → Inside c (state S.Store conn.old) → IsSound (C.Contents.file contents.new).bytes c
+        → IsOutside f) }
     ensures plain { IfErr result IsPlain }
 {
     if part.len() == BLOCK_SIZE as usize {
         write_whole(conn, node, here, part)
     } else {
-        write_part(conn, alloc, node, here, part)
+        write_part(conn, contents, alloc, node, here, part)
     }
 }
 
-/// Writes zeros within one block. No block is made: without one the bytes are zeros.
-pub(crate) fn write_zeros<S: Alter>(
+/// Writes zeros within one block. No block is made: where none is written the bytes are zeros.
+pub(crate) fn write_zeros<S: Alter, C: Contents>(
     conn: &mut Connection<S>,
+    contents: &mut C,
     alloc: Global,
     node: u64,
     here: u64,
@@ -185,18 +194,25 @@ pub(crate) fn write_zeros<S: Alter>(
     requires some { 1 ≤ length zeros.now }
     requires within { here % block_bytes + length zeros.now ≤ block_bytes }
     requires zeros { (i : ℕ) → byte_at zeros.now i ≡ 0 }
-    ensures zeroed { OnOk result (Zeroed node here zeros.now (state S.Store conn.old)
+    ensures reads { ReadsFile (C.Contents.file contents.old) (C.Contents.file contents.new) }
+    ensures zeroed { OnOk result (Zeroed (C.Contents.file contents.new) node here zeros.now
+        (state S.Store conn.old) (state S.Store conn.new)) }
+    ensures keeps { OnOk result ((gone : Gone) → Relists
+        (C.Contents.file contents.new).is_clean (C.Contents.file contents.new).bytes IsAny
+        (GivenUp (C.Contents.file contents.new).bytes gone gone) (state S.Store conn.old)
         (state S.Store conn.new)) }
     ensures fails { OnErr result (Stays (state S.Store conn.old) (state S.Store conn.new)) }
-    ensures fault { HasCleanDisk (state S.Store conn.new) → IfErr result (λ f. (c : Content)
-        → Inside c (state S.Store conn.old) → Fits c → IsOutside f) }
+    ensures fault { HasCleanDisk (state S.Store conn.new)
+        → IsTrue (C.Contents.file contents.new).is_clean → IfErr result (λ f. (c : Content)
+        → Inside c (state S.Store conn.old) → IsSound (C.Contents.file contents.new).bytes c
+        → IsOutside f) }
     ensures plain { IfErr result IsPlain }
 {
-    let found = match find_block(conn, alloc, node, here / u64::from(BLOCK_SIZE)) {
+    let found = match find_block(conn, contents, alloc, node, here / u64::from(BLOCK_SIZE)) {
         Ok(found) => found,
         Err(fault) => return Err(fault),
     };
-    if found.stored {
+    if found.written {
         write_over(conn, alloc, node, here, zeros, &found)
     } else {
         Ok(())
@@ -204,8 +220,9 @@ pub(crate) fn write_zeros<S: Alter>(
 }
 
 /// Writes bytes of a node, from a place on.
-pub(crate) fn write_range<S: Alter>(
+pub(crate) fn write_range<S: Alter, C: Contents>(
     conn: &mut Connection<S>,
+    contents: &mut C,
     alloc: Global,
     node: u64,
     at: u64,
@@ -213,17 +230,27 @@ pub(crate) fn write_range<S: Alter>(
 ) -> Result<(), StoreFault>
     requires node { node < 2 ^ 63 }
     requires end { at + length bytes.now < 2 ^ 63 }
-    ensures overlaid { OnOk result (Overlaid node at bytes.now (state S.Store conn.old)
-        (state S.Store conn.new)) }
+    ensures reads { ReadsFile (C.Contents.file contents.old) (C.Contents.file contents.new) }
+    ensures overlaid { OnOk result (Overlaid (C.Contents.file contents.new) node at bytes.now
+        (state S.Store conn.old) (state S.Store conn.new)) }
     ensures fails { OnErr result (Stays (state S.Store conn.old) (state S.Store conn.new)) }
-    ensures fault { IsSure HeldAs (state S.Store conn.old) (state S.Store conn.new) result }
+    ensures fault { IsTrue (C.Contents.file contents.new).is_clean
+        → IsSure (HeldAs (C.Contents.file contents.new).bytes) (state S.Store conn.old)
+        (state S.Store conn.new) result }
     ensures plain { IfErr result IsPlain }
 {
     let mut done: usize = 0;
     'pieces: while done < bytes.len() {
         let here = at + done as u64;
         let count = first_count(here, (bytes.len() - done) as u64) as usize;
-        match write_piece(conn, alloc, node, here, &bytes[done..done + count]) {
+        match write_piece(
+            conn,
+            contents,
+            alloc,
+            node,
+            here,
+            &bytes[done..done + count],
+        ) {
             Ok(()) => {}
             Err(fault) => return Err(fault),
         }
@@ -233,8 +260,9 @@ pub(crate) fn write_range<S: Alter>(
 }
 
 /// Writes bytes of a node. Where its content was shorter, the gap reads as zeros.
-pub(crate) fn write_content<S: Alter>(
+pub(crate) fn write_content<S: Alter, C: Contents>(
     conn: &mut Connection<S>,
+    contents: &mut C,
     alloc: Global,
     node: u64,
     at: u64,
@@ -242,11 +270,15 @@ pub(crate) fn write_content<S: Alter>(
 ) -> Result<(), StoreFault>
     requires node { node < 2 ^ 63 }
     requires end { at + length bytes.now < 2 ^ 63 }
-    ensures changed { OnOk result (Changed (with_change (changes.Written node at bytes.now))
-        (state S.Store conn.old) (state S.Store conn.new)) }
+    ensures reads { ReadsFile (C.Contents.file contents.old) (C.Contents.file contents.new) }
+    ensures changed { OnOk result (Changed (C.Contents.file contents.new)
+        (with_change (changes.Written node at bytes.now)) (state S.Store conn.old)
+        (state S.Store conn.new)) }
     ensures fails { OnErr result (Stays (state S.Store conn.old) (state S.Store conn.new)) }
-    ensures fault { IsSure Held (state S.Store conn.old) (state S.Store conn.new) result }
+    ensures fault { IsTrue (C.Contents.file contents.new).is_clean
+        → IsSure (Held (C.Contents.file contents.new).bytes) (state S.Store conn.old)
+        (state S.Store conn.new) result }
     ensures plain { IfErr result IsPlain }
 {
-    write_range(conn, alloc, node, at, bytes)
+    write_range(conn, contents, alloc, node, at, bytes)
 }

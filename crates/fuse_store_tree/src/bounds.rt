@@ -1,5 +1,6 @@
 // The bounds of the numbers that the tables store.
-ghost use Rattle.std.specs.Prelude.{◌↔◌, ◌+◌, ◌≤◌, IsTrue, IfSome};
+ghost use Rattle.std.specs.Prelude.{◌↔◌, ◌+◌, ◌<◌, ◌≤◌, ◌^◌, IsTrue, IfSome};
+ghost use Rattle.fuse_rows.specs.Blocks.{how_many};
 ghost use Rattle.fuse_rows.specs.Bounds.{file_limit};
 ghost use Rattle.fuse_rows.specs.Columns.{FitsNode, FitsEntry, FitsHandle, FitsCounters};
 ghost use Rattle.fuse_rows.specs.Columns.{FitsChange, FitsRoom};
@@ -10,10 +11,20 @@ use fuse_rows::{CAPACITY_END, Change, Counters, EntryRow, HandleRow, MAX_FILE, N
 // has 63 bits and a sign.
 pub(crate) const END: u64 = 1 << 63;
 
+// Whether a number of written blocks fits, where they are counted.
+fn count_fits(written: Option<u64>) -> bool
+    ensures { IsTrue result ↔ (how_many written < 2 ^ 63) }
+{
+    match written {
+        None => true,
+        Some(count) => count < END,
+    }
+}
+
 fn node_fits(row: &NodeRow) -> bool
     ensures { IsTrue result ↔ FitsNode row.now }
 {
-    row.node < END && row.up < END && row.size <= MAX_FILE
+    row.node < END && row.up < END && row.size <= MAX_FILE && count_fits(row.written)
 }
 
 fn entry_fits(row: &EntryRow) -> bool

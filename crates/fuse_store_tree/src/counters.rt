@@ -48,7 +48,7 @@ fn word_at(rows: &[Row], at: usize) -> Result<u32, StoreFault>
 }
 
 // The number of counters where there is a room.
-const WITH_ROOM: usize = 14;
+const WITH_ROOM: usize = 15;
 
 // The room, where there is one.
 pub(crate) fn read_room(rows: &[Row]) -> Result<Option<Room>, StoreFault>

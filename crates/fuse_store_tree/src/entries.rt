@@ -1,21 +1,27 @@
 // Reads of the entries of a directory, in order.
-ghost use Rattle.std.specs.Prelude.{◌≡◌, ◌<◌, ◌≤◌, ◌^◌, ◌⊎◌, ◌&&◌, not, nat_lt, List, map};
-ghost use Rattle.std.specs.Prelude.{take, filter, length, IfSome, IfOk, IfErr, OnOk, OnErr};
+ghost use Rattle.std.specs.Prelude.{◌≡◌, ◌<◌, ◌≤◌, ◌^◌, ◌+◌, ◌⊎◌, ◌&&◌, not, nat_lt, pos, List};
+ghost use Rattle.std.specs.Prelude.{map};
+ghost use Rattle.sqlite.specs.Order.{column};
+ghost use Rattle.sqlite.specs.declared.types.Value.TheVariants.{Int, Blob};
+ghost use Rattle.std.specs.Prelude.{take, filter, length, IfOk, IfErr, OnOk, OnErr};
 ghost use Rattle.std.specs.List.{AllByRecursion};
 ghost use Rattle.sqlite.specs.State.{HasCleanDisk};
 ghost use Rattle.sqlite.specs.Held.{state};
 ghost use Rattle.fuse_rows.specs.declared.rows.EntryRow.{EntryRow as Entry};
 ghost use Rattle.fuse_store_tables.specs.Content.{Content, shown_entry, stands_after};
 ghost use Rattle.fuse_rows.specs.declared.rows.Child.{Child as Beside};
-ghost use Rattle.fuse_store_tree.specs.Fits.{Fits, KeepsNode};
+ghost use Rattle.fuse_store_tree.specs.Fits.{Fits};
 ghost use Rattle.fuse_store_tree.specs.inner.Reading.{child_in, shown_beside, IsReadBack};
+ghost use Rattle.fuse_store_tree.specs.inner.Reading.{node_width};
 ghost use Rattle.fuse_store_tables.specs.Faults.{IsOutside, IsPlain};
 ghost use Rattle.fuse_store_tables.specs.Moves.{Inside, LookedInside, Stays};
 
 use crate::bounds::END;
 use fuse_keeper::StoreFault;
 use fuse_rows::{Child, EntryRow};
-use fuse_store_tables::{bytes_at, node_if_any, number_at, select_after, select_children};
+use fuse_store_tables::{
+    Layout, bytes_at, layout_of, node_if_any, number_at, select_after, select_children,
+};
 use fuse_wire::ByteList;
 use sqlite::{Alter, Connection, Row};
 use std::alloc::Global;
@@ -23,14 +29,20 @@ use std::alloc::Global;
 // More rows than a table of entries or handles has.
 pub(crate) const MOST: u64 = 0x4000_0000_0000_0000;
 
-fn entry_at(row: &Row, dir: u64) -> Result<EntryRow, StoreFault>
-    ensures value { IfOk result (λ r. (e : Entry) → e.dir ≡ dir → row.now ≡ shown_entry e → r ≡ e) }
-    ensures fault { IfErr result (λ f. (e : Entry) → row.now ≡ shown_entry e → IsOutside f) }
+// The entry in three columns of a row, from this one on.
+fn entry_at(row: &Row, dir: u64, at: usize) -> Result<EntryRow, StoreFault>
+    requires { at ≤ 16 }
+    ensures value { IfOk result (λ r. (e : Entry) → e.dir ≡ dir
+        → column row.now at ≡ Int (pos e.cookie) → column row.now (at + 1) ≡ Blob e.name
+        → column row.now (at + 2) ≡ Int (pos e.child) → r ≡ e) }
+    ensures fault { IfErr result (λ f. (e : Entry) → at + 2 < length row.now
+        → column row.now at ≡ Int (pos e.cookie) → column row.now (at + 1) ≡ Blob e.name
+        → column row.now (at + 2) ≡ Int (pos e.child) → IsOutside f) }
     ensures plain { IfErr result IsPlain }
 {
-    let cookie = number_at(row, 0)?;
-    let name = ByteList::from_vec(bytes_at(row, 1)?);
-    let child = number_at(row, 2)?;
+    let cookie = number_at(row, at)?;
+    let name = ByteList::from_vec(bytes_at(row, at + 1)?);
+    let child = number_at(row, at + 2)?;
     Ok(EntryRow {
         dir,
         name,
@@ -48,7 +60,7 @@ fn read_entries(alloc: Global, rows: &[Row], dir: u64) -> Result<Vec<EntryRow>, 
 {
     let mut entries = Vec::new(alloc);
     for row in rows {
-        let entry = match entry_at(row, dir) {
+        let entry = match entry_at(row, dir, 0) {
             Ok(entry) => entry,
             Err(fault) => return Err(fault),
         };
@@ -104,39 +116,52 @@ pub(crate) fn find_after<S: Alter>(
     read_entries(alloc, rows.as_slice(), dir)
 }
 
-// The entry and its node, from the row of both.
-fn child_at(row: &Row, dir: u64) -> Result<Child, StoreFault>
-    ensures value { IfOk result (λ r. (x : Beside) → x.entry.dir ≡ dir → IfSome x.row (λ n.
-        KeepsNode n × (n.node ≡ x.entry.child)) → row.now ≡ shown_beside x → r ≡ x) }
-    ensures fault { IfErr result (λ f. (x : Beside) → x.entry.dir ≡ dir → IfSome x.row (λ n.
-        KeepsNode n × (n.node ≡ x.entry.child)) → row.now ≡ shown_beside x → IsOutside f) }
-    ensures plain { IfErr result IsPlain }
+// How many columns a node has, before those of an entry.
+fn width_of(layout: Layout) -> usize
+    ensures value { result ≡ node_width layout }
+    ensures small { result ≤ 16 }
 {
-    let cookie = number_at(row, 13)?;
-    let name = ByteList::from_vec(bytes_at(row, 14)?);
-    let child = number_at(row, 15)?;
-    let node = node_if_any(row, child)?;
-    Ok(Child {
-        entry: EntryRow {
-            dir,
-            name,
-            child,
-            cookie,
-        },
-        row: node,
-    })
+    match layout {
+        Layout::Second => 13,
+        Layout::Third => 16,
+    }
 }
 
-fn read_children(alloc: Global, rows: &[Row], dir: u64) -> Result<Vec<Child>, StoreFault>
-    ensures value { IfOk result (λ v. (xs : List Beside) → AllByRecursion (IsReadBack dir) xs
-        → rows.now ≡ map shown_beside xs → v.items ≡ xs) }
-    ensures fault { IfErr result (λ f. (xs : List Beside) → AllByRecursion (IsReadBack dir) xs
-        → rows.now ≡ map shown_beside xs → IsOutside f) }
+// The entry and its node, from the row of both in tables of this layout.
+fn child_at(row: &Row, dir: u64, layout: Layout) -> Result<Child, StoreFault>
+    ensures value { IfOk result (λ r. (x : Beside) → IsReadBack layout dir x
+        → row.now ≡ shown_beside layout x → r ≡ x) }
+    ensures fault { IfErr result (λ f. (x : Beside) → IsReadBack layout dir x
+        → row.now ≡ shown_beside layout x → IsOutside f) }
+    ensures plain { IfErr result IsPlain }
+{
+    let entry = match entry_at(row, dir, width_of(layout)) {
+        Ok(entry) => entry,
+        Err(fault) => return Err(fault),
+    };
+    match node_if_any(row, entry.child, layout) {
+        Ok(node) => Ok(Child { entry, row: node }),
+        Err(fault) => Err(fault),
+    }
+}
+
+fn read_children(
+    alloc: Global,
+    rows: &[Row],
+    dir: u64,
+    layout: Layout,
+) -> Result<Vec<Child>, StoreFault>
+    ensures value { IfOk result (λ v. (xs : List Beside)
+        → AllByRecursion (IsReadBack layout dir) xs → rows.now ≡ map (shown_beside layout) xs
+        → v.items ≡ xs) }
+    ensures fault { IfErr result (λ f. (xs : List Beside)
+        → AllByRecursion (IsReadBack layout dir) xs → rows.now ≡ map (shown_beside layout) xs
+        → IsOutside f) }
     ensures plain { IfErr result IsPlain }
 {
     let mut children = Vec::new(alloc);
     for row in rows {
-        let child = match child_at(row, dir) {
+        let child = match child_at(row, dir, layout) {
             Ok(child) => child,
             Err(fault) => return Err(fault),
         };
@@ -169,9 +194,10 @@ pub(crate) fn find_children<S: Alter>(
         return Ok(Vec::new(alloc));
     }
     let most = most_of(limit);
+    let layout = layout_of(conn);
     let rows = select_children(conn, dir, cookie, most)?;
     if is_too_long(limit, most, rows.len()) {
         return Err(StoreFault::Damaged);
     }
-    read_children(alloc, rows.as_slice(), dir)
+    read_children(alloc, rows.as_slice(), dir, layout)
 }

@@ -1,23 +1,27 @@
 // The place between the end of a file and what extends it.
-ghost use Rattle.std.specs.Prelude.{◌≡◌, ◌<◌, ◌≤◌, ◌^◌, true, IfErr, IfSome, OnOk, OnErr};
+ghost use Rattle.std.specs.Prelude.{◌≡◌, ◌<◌, ◌≤◌, ◌^◌, true, IsTrue, IfErr, IfSome, OnOk, OnErr};
 ghost use Rattle.sqlite.specs.Held.{state};
 ghost use Rattle.fuse_store_tables.specs.Faults.{IsPlain};
 ghost use Rattle.fuse_store_tables.specs.inner.Performing.{IsSure};
 ghost use Rattle.fuse_store_tree.specs.inner.Changing.{LeavesTrees};
+ghost use Rattle.fuse_store_tree.specs.Pieces.{ReadsFile};
 ghost use Rattle.fuse_store_tree.specs.Store.{Held};
 ghost use Rattle.fuse_store_tables.specs.Moves.{Stays};
 
 use crate::bounds::END;
+use crate::contents::Contents;
 use crate::look::LastNode;
+use crate::piece_cuts::Gone;
 use crate::rows::find_node;
 use crate::truncation::set_size;
 use fuse_keeper::StoreFault;
+use fuse_plan::rows_of_trees;
 use fuse_rows::{Change, MAX_FILE};
 use sqlite::{Alter, Connection};
 use std::alloc::Global;
 
-// The node whose content the changes write or cut, and the place up to which that may extend it with
-// zeros.
+// The node whose content the changes write or cut, and the place up to which that may extend it
+// with zeros.
 fn extended(changes: &[Change]) -> Option<(u64, u64)>
     ensures { IfSome result (λ p. p.0 < 2 ^ 63) }
 {
@@ -48,22 +52,29 @@ fn reaches(last: Option<LastNode>, node: u64, end: u64) -> bool
 }
 
 // Sets the bytes after the size of a node to 0, if it is smaller than this.
-fn clear_from_size<S: Alter>(
+fn clear_from_size<S: Alter, C: Contents>(
     conn: &mut Connection<S>,
+    contents: &mut C,
+    gone: &mut Gone,
     alloc: Global,
     node: u64,
     end: u64,
 ) -> Result<(), StoreFault>
     requires node { node < 2 ^ 63 }
-    ensures same { OnOk result (LeavesTrees (state S.Store conn.old) (state S.Store conn.new)) }
+    ensures same { OnOk result (LeavesTrees (C.Contents.file contents.new)
+        (state S.Store conn.old) (state S.Store conn.new)) }
     ensures fails { OnErr result (Stays (state S.Store conn.old) (state S.Store conn.new)) }
-    ensures fault { IsSure Held (state S.Store conn.old) (state S.Store conn.new) result }
+    ensures reads { ReadsFile (C.Contents.file contents.old) (C.Contents.file contents.new) }
+    ensures fault { IsTrue (C.Contents.file contents.new).is_clean
+        → IsSure (Held (C.Contents.file contents.new).bytes) (state S.Store conn.old)
+        (state S.Store conn.new) result }
     ensures plain { IfErr result IsPlain }
 {
+    rows_of_trees();
     match find_node(conn, node) {
         Ok(Some(row)) => {
             if row.size < end && row.size <= MAX_FILE {
-                set_size(conn, alloc, node, row.size)
+                set_size(conn, contents, gone, alloc, node, row.size)
             } else {
                 Ok(())
             }
@@ -76,15 +87,21 @@ fn clear_from_size<S: Alter>(
 /// Sets the bytes after the size of a file to 0 before changes extend it. A store of this program
 /// has none there but zeros. The node is looked up where the last look doesn't show that there is
 /// no such place.
-pub(crate) fn clear_gap<S: Alter>(
+pub(crate) fn clear_gap<S: Alter, C: Contents>(
     conn: &mut Connection<S>,
+    contents: &mut C,
+    gone: &mut Gone,
     last: Option<LastNode>,
     alloc: Global,
     changes: &[Change],
 ) -> Result<(), StoreFault>
-    ensures same { OnOk result (LeavesTrees (state S.Store conn.old) (state S.Store conn.new)) }
+    ensures same { OnOk result (LeavesTrees (C.Contents.file contents.new)
+        (state S.Store conn.old) (state S.Store conn.new)) }
     ensures fails { OnErr result (Stays (state S.Store conn.old) (state S.Store conn.new)) }
-    ensures fault { IsSure Held (state S.Store conn.old) (state S.Store conn.new) result }
+    ensures reads { ReadsFile (C.Contents.file contents.old) (C.Contents.file contents.new) }
+    ensures fault { IsTrue (C.Contents.file contents.new).is_clean
+        → IsSure (Held (C.Contents.file contents.new).bytes) (state S.Store conn.old)
+        (state S.Store conn.new) result }
     ensures plain { IfErr result IsPlain }
 {
     match extended(changes) {
@@ -92,7 +109,7 @@ pub(crate) fn clear_gap<S: Alter>(
             if reaches(last, node, end) {
                 Ok(())
             } else {
-                clear_from_size(conn, alloc, node, end)
+                clear_from_size(conn, contents, gone, alloc, node, end)
             }
         }
         None => Ok(()),

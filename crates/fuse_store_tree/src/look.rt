@@ -1,5 +1,6 @@
 // The reads of `plan`, from the tables.
-ghost use Rattle.std.specs.Prelude.{◌≡◌, ◌<◌, ◌≤◌, ◌^◌, None, Some, Option, IfSome, IfOk, IfErr};
+ghost use Rattle.std.specs.Prelude.{ℕ, List, IsTrue, ◌≡◌, ◌<◌, ◌≤◌, ◌^◌, None, Some, Option};
+ghost use Rattle.std.specs.Prelude.{IfSome, IfOk, IfErr};
 ghost use Rattle.std.specs.Prelude.{OnOk, OnErr};
 ghost use Rattle.sqlite.specs.State.{HasCleanDisk};
 ghost use Rattle.sqlite.specs.Held.{state};
@@ -11,16 +12,21 @@ ghost use Rattle.fuse_tree.specs.Rowed.{IsRowed};
 ghost use Rattle.fuse_store_tree.specs.Holding.{Holding};
 ghost use Rattle.fuse_store_tree.specs.Knowing.{Knows, Recalls, knowing, meta_of};
 ghost use Rattle.fuse_store_tree.specs.Looking.{as_look_fault, told_as, sees_in, WentWell};
+ghost use Rattle.fuse_store_tree.specs.Pieces.{ReadsFile};
 ghost use Rattle.fuse_store_tree.specs.inner.Changing.{InsideFor};
 
-use crate::block_reads::{find_bytes, find_sized};
+use crate::block_counts::count_between;
 use crate::bounds::END;
+use crate::contents::Contents;
 use crate::counters::find_meta;
 use crate::entries::{find_after, find_children};
 use crate::handles::find_handles_of;
 use crate::meta::{Meta, agreement_of};
+use crate::piece_cuts::Gone;
+use crate::range_reads::{find_bytes, find_sized};
 use crate::rows::{find_entry, find_handle, find_node};
 use fuse_keeper::StoreFault;
+use fuse_plan::rows_of_trees;
 use fuse_rows::{Child, Counters, EntryRow, HandleRow, MAX_FILE, NodeRow};
 use fuse_tree::{Agreement, Look, LookFault};
 use fuse_wire::ByteList;
@@ -36,10 +42,14 @@ pub struct LastNode {
 
 /// The tables within a transaction, as `plan` reads them.
 #[derive(Drop)]
-pub struct TableLook<S: Alter> {
+pub struct TableLook<S: Alter, C: Contents> {
     /// The allocator of the values that are read.
     pub alloc: Global,
     pub conn: Connection<S>,
+    /// The contents of files that aren't in the tables.
+    pub contents: C,
+    /// What the open transaction takes off the list of pieces.
+    pub gone: Gone,
     /// The fault of the first read that failed.
     pub fault: Option<StoreFault>,
     /// What is known of the table `meta`, which is read where nothing is.
@@ -61,10 +71,11 @@ fn told_fault(fault: &StoreFault) -> LookFault
     }
 }
 
-impl<S: Alter> TableLook<S> {
+impl<S: Alter, C: Contents> TableLook<S, C> {
     /// Allocates nothing.
-    pub fn new(alloc: Global, conn: Connection<S>) -> TableLook<S>
+    pub fn new(alloc: Global, conn: Connection<S>, contents: C) -> TableLook<S, C>
         ensures conn { result.conn ≡ conn }
+        ensures contents { result.contents ≡ contents }
         ensures fault { as_look_fault result.fault ≡ None }
         ensures known { result.known ≡ None }
         ensures last { result.last ≡ None }
@@ -72,6 +83,8 @@ impl<S: Alter> TableLook<S> {
         TableLook {
             alloc,
             conn,
+            contents,
+            gone: Gone::new(alloc),
             fault: None,
             known: None,
             last: None,
@@ -83,6 +96,7 @@ impl<S: Alter> TableLook<S> {
         ensures was { result ≡ self.old.fault }
         ensures fault { as_look_fault self.new.fault ≡ None }
         ensures conn { self.new.conn ≡ self.old.conn }
+        ensures contents { self.new.contents ≡ self.old.contents }
     {
         self.fault.take()
     }
@@ -90,25 +104,34 @@ impl<S: Alter> TableLook<S> {
     // The counters and the settings, as they are known or read.
     fn find_meta(&mut self) -> Result<Meta, StoreFault>
         ensures looks { OnOk result (WentWell
-            (knowing self.old.known (state S.Store self.old.conn))
-            (knowing self.new.known (state S.Store self.new.conn))
+            (knowing self.old.known (state S.Store self.old.conn)
+            (C.Contents.file self.old.contents))
+            (knowing self.new.known (state S.Store self.new.conn)
+            (C.Contents.file self.new.contents))
             self.old.fault self.new.fault self.old.last self.new.last) }
         ensures fails { OnErr result (Stays (state S.Store self.old.conn)
             (state S.Store self.new.conn)) }
         ensures value { HasCleanDisk (state S.Store self.new.conn) → IfOk result (λ meta.
-            (rows : Rows) → sees_in (state S.Store self.old.conn) rows
+            (file : List ℕ) (rows : Rows) → sees_in file (state S.Store self.old.conn) rows
             → Knows self.old.known rows → meta ≡ meta_of rows) }
         ensures fault { HasCleanDisk (state S.Store self.new.conn) → IfErr result (λ f.
-            (y : Holding) → InsideFor y (state S.Store self.old.conn) → IsOutside f) }
+            (file : List ℕ) (y : Holding) → InsideFor file y (state S.Store self.old.conn)
+            → IsOutside f) }
         ensures plain { IfErr result IsPlain }
         ensures same { self.new.fault ≡ self.old.fault }
+        ensures reads { ReadsFile (C.Contents.file self.old.contents)
+            (C.Contents.file self.new.contents) }
     {
         if let Some(meta) = self.known {
             return Ok(meta);
         }
-        let meta = find_meta(&mut self.conn)?;
-        self.known = Some(meta);
-        Ok(meta)
+        match find_meta(&mut self.conn) {
+            Ok(meta) => {
+                self.known = Some(meta);
+                Ok(meta)
+            }
+            Err(fault) => Err(fault),
+        }
     }
 
     // The row of this node, if it was looked up last.
@@ -132,22 +155,45 @@ impl<S: Alter> TableLook<S> {
     // At most `len` bytes of a node's content, whose size is known or read.
     fn find_bytes(&mut self, node: u64, offset: u64, len: u32) -> Result<ByteList, StoreFault>
         ensures looks { OnOk result (WentWell
-            (knowing self.old.known (state S.Store self.old.conn))
-            (knowing self.new.known (state S.Store self.new.conn))
+            (knowing self.old.known (state S.Store self.old.conn)
+            (C.Contents.file self.old.contents))
+            (knowing self.new.known (state S.Store self.new.conn)
+            (C.Contents.file self.new.contents))
             self.old.fault self.new.fault self.old.last self.new.last) }
         ensures fails { OnErr result (Stays (state S.Store self.old.conn)
             (state S.Store self.new.conn)) }
-        ensures value { HasCleanDisk (state S.Store self.new.conn) → IfOk result (λ bytes.
-            (rows : Rows) → IsRowed rows → sees_in (state S.Store self.old.conn) rows
+        ensures value { HasCleanDisk (state S.Store self.new.conn)
+            → IsTrue (C.Contents.file self.new.contents).is_clean → IfOk result (λ bytes.
+            (rows : Rows) → IsRowed rows
+            → sees_in (C.Contents.file self.new.contents).bytes (state S.Store self.old.conn) rows
             → Recalls self.old.last rows → bytes ≡ bytes_at rows node offset len) }
-        ensures fault { HasCleanDisk (state S.Store self.new.conn) → IfErr result (λ f.
-            (y : Holding) → InsideFor y (state S.Store self.old.conn) → IsOutside f) }
+        ensures fault { HasCleanDisk (state S.Store self.new.conn)
+            → IsTrue (C.Contents.file self.new.contents).is_clean → IfErr result (λ f.
+            (y : Holding) → InsideFor (C.Contents.file self.new.contents).bytes y
+            (state S.Store self.old.conn) → IsOutside f) }
         ensures plain { IfErr result IsPlain }
         ensures same { self.new.fault ≡ self.old.fault }
+        ensures reads { ReadsFile (C.Contents.file self.old.contents)
+            (C.Contents.file self.new.contents) }
     {
         match self.last_row(node) {
-            Some(row) => find_sized(&mut self.conn, self.alloc, node, row.size, offset, len),
-            None => find_bytes(&mut self.conn, self.alloc, node, offset, len),
+            Some(row) => find_sized(
+                &mut self.conn,
+                &mut self.contents,
+                self.alloc,
+                node,
+                row.size,
+                offset,
+                len,
+            ),
+            None => find_bytes(
+                &mut self.conn,
+                &mut self.contents,
+                self.alloc,
+                node,
+                offset,
+                len,
+            ),
         }
     }
 
@@ -156,6 +202,7 @@ impl<S: Alter> TableLook<S> {
         ensures kept { self.new.fault ≡ Some fault }
         ensures fault { as_look_fault self.new.fault ≡ Some result }
         ensures conn { self.new.conn ≡ self.old.conn }
+        ensures contents { self.new.contents ≡ self.old.contents }
     {
         let known = told_fault(&fault);
         self.fault = Some(fault);
@@ -163,22 +210,30 @@ impl<S: Alter> TableLook<S> {
     }
 }
 
-impl<S: Alter> Look for TableLook<S> {
+impl<S: Alter, C: Contents> Look for TableLook<S, C> {
+    ghost use Rattle.std.specs.Prelude.{IsTrue};
     ghost use Rattle.fuse_store_tree.specs.Knowing.{knowing};
     ghost use Rattle.fuse_store_tree.specs.Looking.{sees_with, WentWell, MayFail};
     ghost use Rattle.fuse_store_tree.specs.inner.Laws.{well_still, well_then, well_fails};
-    ghost use Rattle.fuse_store_tree.specs.inner.Laws.{well_less, looked_clean, well_kept};
+    ghost use Rattle.fuse_store_tree.specs.inner.Laws.{well_less, well_clean, well_kept};
 
-    ghost sees = { λ k rows. sees_with k.known k.last (state S.Store k.conn) rows };
+    ghost sees = { λ k rows. sees_with (C.Contents.file k.contents).bytes k.known k.last
+        (state S.Store k.conn) rows };
 
     ghost fault = { λ k. as_look_fault k.fault };
 
-    ghost is_clean = { λ k. HasCleanDisk (state S.Store k.conn) };
+    ghost is_clean = { λ k. HasCleanDisk (state S.Store k.conn)
+        × IsTrue (C.Contents.file k.contents).is_clean };
 
-    ghost looks = { λ a b. WentWell (knowing a.known (state S.Store a.conn))
-        (knowing b.known (state S.Store b.conn)) a.fault b.fault a.last b.last };
+    ghost looks = { λ a b. WentWell
+        (knowing a.known (state S.Store a.conn) (C.Contents.file a.contents))
+        (knowing b.known (state S.Store b.conn) (C.Contents.file b.contents))
+        a.fault b.fault a.last b.last };
 
-    ghost fails = { λ a b. MayFail (state S.Store a.conn) (state S.Store b.conn) a.fault b.fault };
+    ghost fails = { λ a b. MayFail
+        (knowing a.known (state S.Store a.conn) (C.Contents.file a.contents))
+        (knowing b.known (state S.Store b.conn) (C.Contents.file b.contents))
+        a.fault b.fault };
 
     fn node(&mut self, number: u64) -> Result<Option<NodeRow>, LookFault> {
         match find_node(&mut self.conn, number) {
@@ -242,6 +297,14 @@ impl<S: Alter> Look for TableLook<S> {
         }
     }
 
+    fn blocks_between(&mut self, node: u64, from: u64, to: u64) -> Result<u64, LookFault> {
+        rows_of_trees();
+        match count_between(&mut self.conn, node, from, to) {
+            Ok(count) => Ok(count),
+            Err(fault) => Err(self.fail(fault)),
+        }
+    }
+
     fn counters(&mut self) -> Result<Counters, LookFault> {
         match self.find_meta() {
             Ok(meta) => Ok(meta.counters),
@@ -271,7 +334,7 @@ impl<S: Alter> Look for TableLook<S> {
 
     ghost or_less = { λ a b p. well_less _ _ _ _ _ _ p };
 
-    ghost was_clean = { λ a b p clean. looked_clean _ _ p.looked clean };
+    ghost was_clean = { λ a b p clean. well_clean _ _ _ _ _ _ p clean };
 
     ghost kept = { λ a b p clean rows sees. well_kept _ _ _ _ _ _ p clean rows sees };
 }

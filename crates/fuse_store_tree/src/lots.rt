@@ -1,5 +1,5 @@
 // The lot number of an opening.
-ghost use Rattle.std.specs.Prelude.{◌≡◌, ◌+◌, ◌<◌, ◌≤◌, ◌^◌, List, length, map, IfOk, IfErr};
+ghost use Rattle.std.specs.Prelude.{◌≡◌, ◌+◌, ◌<◌, ◌≤◌, ◌^◌, ℕ, List, length, map, IfOk, IfErr};
 ghost use Rattle.std.specs.Prelude.{OnOk, OnErr, IfSome, None};
 ghost use Rattle.sqlite.specs.State.{HasCleanDisk};
 ghost use Rattle.sqlite.specs.Held.{state};
@@ -44,14 +44,14 @@ fn add_lot<S: Alter>(conn: &mut Connection<S>, lot: u64) -> Result<(), Error>
 
 // Allocates the next lot number.
 fn take_next<S: Alter>(conn: &mut Connection<S>) -> Result<u64, StoreFault>
-    ensures turned { OnOk result (Turned with_new_lot (state S.Store conn.old)
+    ensures turned { OnOk result ((file : List ℕ) → Turned file with_new_lot (state S.Store conn.old)
         (state S.Store conn.new)) }
     ensures fails { OnErr result (Stays (state S.Store conn.old) (state S.Store conn.new)) }
-    ensures value { HasCleanDisk (state S.Store conn.new) → IfOk result (λ lot. (y : Holding)
-        → InsideFor y (state S.Store conn.old) → lot ≡ y.next_lot) }
+    ensures value { HasCleanDisk (state S.Store conn.new) → IfOk result (λ lot. (file : List ℕ)
+        (y : Holding) → InsideFor file y (state S.Store conn.old) → lot ≡ y.next_lot) }
     ensures low { IfOk result (λ lot. lot < 2 ^ 62) }
     // Of a store that was sound, the fault is `Damaged` only where no lot number is left.
-    ensures fault { IsSureFor None (state S.Store conn.old) (state S.Store conn.new) result }
+    ensures fault { (file : List ℕ) → IsSureFor file None (state S.Store conn.old) (state S.Store conn.new) result }
     ensures plain { IfErr result IsPlain }
 {
     let rows = match select_counters(conn) {
@@ -77,13 +77,13 @@ pub(crate) fn take_lot<S: Alter>(
     lot: Option<u64>,
 ) -> Result<u64, StoreFault>
     requires { IfSome lot (λ n. n < 2 ^ 62) }
-    ensures turned { OnOk result (Turned (with_lot_for lot) (state S.Store conn.old)
+    ensures turned { OnOk result ((file : List ℕ) → Turned file (with_lot_for lot) (state S.Store conn.old)
         (state S.Store conn.new)) }
     ensures fails { OnErr result (Stays (state S.Store conn.old) (state S.Store conn.new)) }
-    ensures value { HasCleanDisk (state S.Store conn.new) → IfOk result (λ n. (y : Holding)
-        → InsideFor y (state S.Store conn.old) → n ≡ lot_for lot y) }
+    ensures value { HasCleanDisk (state S.Store conn.new) → IfOk result (λ n. (file : List ℕ)
+        (y : Holding) → InsideFor file y (state S.Store conn.old) → n ≡ lot_for lot y) }
     ensures low { IfOk result (λ n. n < 2 ^ 62) }
-    ensures fault { IsSureFor lot (state S.Store conn.old) (state S.Store conn.new) result }
+    ensures fault { (file : List ℕ) → IsSureFor file lot (state S.Store conn.old) (state S.Store conn.new) result }
     ensures plain { IfErr result IsPlain }
 {
     match lot {

@@ -1,5 +1,5 @@
 // Reads outside a transaction. They change nothing.
-ghost use Rattle.std.specs.Prelude.{◌≡◌, length, IfOk, IfErr};
+ghost use Rattle.std.specs.Prelude.{◌≡◌, ℕ, List, length, IfOk, IfErr};
 ghost use Rattle.std.specs.List.{sum_by};
 ghost use Rattle.sqlite.specs.Held.{state};
 ghost use Rattle.fuse_tree.specs.Rowed.{rowed};
@@ -25,14 +25,16 @@ pub fn answer_at_rest<S: Alter>(
     conn: &mut Connection<S>,
     id: u64,
 ) -> Result<Option<Answer>, StoreFault>
-    ensures serves { ServesAs HeldFor HeldFor (state S.Store conn.old) (state S.Store conn.new)
-        result }
+    ensures serves { (file : List ℕ) → ServesAs (HeldFor file) (HeldFor file)
+        (state S.Store conn.old) (state S.Store conn.new) result }
     ensures open { StaysOpen (state S.Store conn.old) (state S.Store conn.new) result }
     // Whatever the database is, nothing is changed.
     ensures reads { OnlyReads (state S.Store conn.old) (state S.Store conn.new) result }
-    ensures value { IfOk result (λ r. ReportsAfter (state S.Store conn.old)
-        (state S.Store conn.new) (λ y. r ≡ records_of y.kept id)) }
-    ensures fault { IsSafe HeldFor (state S.Store conn.old) (state S.Store conn.new) result }
+    ensures value { IfOk result (λ r. (file : List ℕ)
+        → ReportsAfter file (state S.Store conn.old) (state S.Store conn.new)
+        (λ y. r ≡ records_of y.kept id)) }
+    ensures fault { (file : List ℕ) → IsSafe (HeldFor file) (state S.Store conn.old)
+        (state S.Store conn.new) result }
     // The fault is never `NotAStore` or `Version`.
     ensures plain { IfErr result IsPlain }
 {
@@ -45,14 +47,16 @@ pub fn answer_at_rest<S: Alter>(
 
 /// The settings, if any were agreed on.
 pub fn settings_at_rest<S: Alter>(conn: &mut Connection<S>) -> Result<Option<Settings>, StoreFault>
-    ensures serves { ServesAs HeldFor HeldFor (state S.Store conn.old) (state S.Store conn.new)
-        result }
+    ensures serves { (file : List ℕ) → ServesAs (HeldFor file) (HeldFor file)
+        (state S.Store conn.old) (state S.Store conn.new) result }
     ensures open { StaysOpen (state S.Store conn.old) (state S.Store conn.new) result }
     // Whatever the database is, nothing is changed.
     ensures reads { OnlyReads (state S.Store conn.old) (state S.Store conn.new) result }
-    ensures value { IfOk result (λ r. ReportsAfter (state S.Store conn.old)
-        (state S.Store conn.new) (λ y. r ≡ (rowed y.tree).settings)) }
-    ensures fault { IsSafe HeldFor (state S.Store conn.old) (state S.Store conn.new) result }
+    ensures value { IfOk result (λ r. (file : List ℕ)
+        → ReportsAfter file (state S.Store conn.old) (state S.Store conn.new)
+        (λ y. r ≡ (rowed y.tree).settings)) }
+    ensures fault { (file : List ℕ) → IsSafe (HeldFor file) (state S.Store conn.old)
+        (state S.Store conn.new) result }
     ensures plain { IfErr result IsPlain }
 {
     let rows = select_counters(conn)?;
@@ -61,13 +65,15 @@ pub fn settings_at_rest<S: Alter>(conn: &mut Connection<S>) -> Result<Option<Set
 
 // The counters of the tree.
 fn counters_at_rest<S: Alter>(conn: &mut Connection<S>) -> Result<Counters, StoreFault>
-    ensures serves { ServesAs HeldFor HeldFor (state S.Store conn.old) (state S.Store conn.new)
-        result }
+    ensures serves { (file : List ℕ) → ServesAs (HeldFor file) (HeldFor file)
+        (state S.Store conn.old) (state S.Store conn.new) result }
     ensures open { StaysOpen (state S.Store conn.old) (state S.Store conn.new) result }
     ensures reads { OnlyReads (state S.Store conn.old) (state S.Store conn.new) result }
-    ensures value { IfOk result (λ r. ReportsAfter (state S.Store conn.old)
-        (state S.Store conn.new) (λ y. r ≡ (rowed y.tree).counters)) }
-    ensures fault { IsSafe HeldFor (state S.Store conn.old) (state S.Store conn.new) result }
+    ensures value { IfOk result (λ r. (file : List ℕ)
+        → ReportsAfter file (state S.Store conn.old) (state S.Store conn.new)
+        (λ y. r ≡ (rowed y.tree).counters)) }
+    ensures fault { (file : List ℕ) → IsSafe (HeldFor file) (state S.Store conn.old)
+        (state S.Store conn.new) result }
     ensures plain { IfErr result IsPlain }
 {
     let rows = select_counters(conn)?;
@@ -76,14 +82,16 @@ fn counters_at_rest<S: Alter>(conn: &mut Connection<S>) -> Result<Counters, Stor
 
 /// The room of an everyday store, none of a plain one.
 pub fn room_at_rest<S: Alter>(conn: &mut Connection<S>) -> Result<Option<Room>, StoreFault>
-    ensures serves { ServesAs HeldFor HeldFor (state S.Store conn.old) (state S.Store conn.new)
-        result }
+    ensures serves { (file : List ℕ) → ServesAs (HeldFor file) (HeldFor file)
+        (state S.Store conn.old) (state S.Store conn.new) result }
     ensures open { StaysOpen (state S.Store conn.old) (state S.Store conn.new) result }
     // Whatever the database is, nothing is changed.
     ensures reads { OnlyReads (state S.Store conn.old) (state S.Store conn.new) result }
-    ensures value { IfOk result (λ r. ReportsAfter (state S.Store conn.old)
-        (state S.Store conn.new) (λ y. r ≡ room_of y.tree)) }
-    ensures fault { IsSafe HeldFor (state S.Store conn.old) (state S.Store conn.new) result }
+    ensures value { IfOk result (λ r. (file : List ℕ)
+        → ReportsAfter file (state S.Store conn.old) (state S.Store conn.new)
+        (λ y. r ≡ room_of y.tree)) }
+    ensures fault { (file : List ℕ) → IsSafe (HeldFor file) (state S.Store conn.old)
+        (state S.Store conn.new) result }
     ensures plain { IfErr result IsPlain }
 {
     let rows = select_counters(conn)?;
@@ -92,13 +100,15 @@ pub fn room_at_rest<S: Alter>(conn: &mut Connection<S>) -> Result<Option<Room>, 
 
 // The number of records.
 fn records_at_rest<S: Alter>(conn: &mut Connection<S>) -> Result<u64, StoreFault>
-    ensures serves { ServesAs HeldFor HeldFor (state S.Store conn.old) (state S.Store conn.new)
-        result }
+    ensures serves { (file : List ℕ) → ServesAs (HeldFor file) (HeldFor file)
+        (state S.Store conn.old) (state S.Store conn.new) result }
     ensures open { StaysOpen (state S.Store conn.old) (state S.Store conn.new) result }
     ensures reads { OnlyReads (state S.Store conn.old) (state S.Store conn.new) result }
-    ensures value { IfOk result (λ n. ReportsAfter (state S.Store conn.old)
-        (state S.Store conn.new) (λ y. n ≡ length y.kept)) }
-    ensures fault { IsSafe HeldFor (state S.Store conn.old) (state S.Store conn.new) result }
+    ensures value { IfOk result (λ n. (file : List ℕ)
+        → ReportsAfter file (state S.Store conn.old) (state S.Store conn.new)
+        (λ y. n ≡ length y.kept)) }
+    ensures fault { (file : List ℕ) → IsSafe (HeldFor file) (state S.Store conn.old)
+        (state S.Store conn.new) result }
     ensures plain { IfErr result IsPlain }
 {
     count_kept(conn)
@@ -106,13 +116,15 @@ fn records_at_rest<S: Alter>(conn: &mut Connection<S>) -> Result<u64, StoreFault
 
 // The number of lots.
 fn lots_at_rest<S: Alter>(conn: &mut Connection<S>) -> Result<u64, StoreFault>
-    ensures serves { ServesAs HeldFor HeldFor (state S.Store conn.old) (state S.Store conn.new)
-        result }
+    ensures serves { (file : List ℕ) → ServesAs (HeldFor file) (HeldFor file)
+        (state S.Store conn.old) (state S.Store conn.new) result }
     ensures open { StaysOpen (state S.Store conn.old) (state S.Store conn.new) result }
     ensures reads { OnlyReads (state S.Store conn.old) (state S.Store conn.new) result }
-    ensures value { IfOk result (λ n. ReportsAfter (state S.Store conn.old)
-        (state S.Store conn.new) (λ y. n ≡ length y.lots)) }
-    ensures fault { IsSafe HeldFor (state S.Store conn.old) (state S.Store conn.new) result }
+    ensures value { IfOk result (λ n. (file : List ℕ)
+        → ReportsAfter file (state S.Store conn.old) (state S.Store conn.new)
+        (λ y. n ≡ length y.lots)) }
+    ensures fault { (file : List ℕ) → IsSafe (HeldFor file) (state S.Store conn.old)
+        (state S.Store conn.new) result }
     ensures plain { IfErr result IsPlain }
 {
     count_lots(conn)
@@ -120,20 +132,25 @@ fn lots_at_rest<S: Alter>(conn: &mut Connection<S>) -> Result<u64, StoreFault>
 
 /// The numbers of nodes, handles, records and lots.
 pub fn counts_at_rest<S: Alter>(conn: &mut Connection<S>) -> Result<StoreCounts, StoreFault>
-    ensures serves { ServesAs HeldFor HeldFor (state S.Store conn.old) (state S.Store conn.new)
-        result }
+    ensures serves { (file : List ℕ) → ServesAs (HeldFor file) (HeldFor file)
+        (state S.Store conn.old) (state S.Store conn.new) result }
     ensures open { StaysOpen (state S.Store conn.old) (state S.Store conn.new) result }
     // Whatever the database is, nothing is changed.
     ensures reads { OnlyReads (state S.Store conn.old) (state S.Store conn.new) result }
-    ensures nodes { IfOk result (λ counts. ReportsAfter (state S.Store conn.old)
-        (state S.Store conn.new) (λ y. counts.nodes ≡ (rowed y.tree).counters.nodes)) }
-    ensures handles { IfOk result (λ counts. ReportsAfter (state S.Store conn.old)
-        (state S.Store conn.new) (λ y. counts.handles ≡ (rowed y.tree).counters.handles)) }
-    ensures records { IfOk result (λ counts. ReportsAfter (state S.Store conn.old)
-        (state S.Store conn.new) (λ y. counts.records ≡ length y.kept)) }
-    ensures lots { IfOk result (λ counts. ReportsAfter (state S.Store conn.old)
-        (state S.Store conn.new) (λ y. counts.lots ≡ length y.lots)) }
-    ensures fault { IsSafe HeldFor (state S.Store conn.old) (state S.Store conn.new) result }
+    ensures nodes { IfOk result (λ counts. (file : List ℕ)
+        → ReportsAfter file (state S.Store conn.old) (state S.Store conn.new)
+        (λ y. counts.nodes ≡ (rowed y.tree).counters.nodes)) }
+    ensures handles { IfOk result (λ counts. (file : List ℕ)
+        → ReportsAfter file (state S.Store conn.old) (state S.Store conn.new)
+        (λ y. counts.handles ≡ (rowed y.tree).counters.handles)) }
+    ensures records { IfOk result (λ counts. (file : List ℕ)
+        → ReportsAfter file (state S.Store conn.old) (state S.Store conn.new)
+        (λ y. counts.records ≡ length y.kept)) }
+    ensures lots { IfOk result (λ counts. (file : List ℕ)
+        → ReportsAfter file (state S.Store conn.old) (state S.Store conn.new)
+        (λ y. counts.lots ≡ length y.lots)) }
+    ensures fault { (file : List ℕ) → IsSafe (HeldFor file) (state S.Store conn.old)
+        (state S.Store conn.new) result }
     ensures plain { IfErr result IsPlain }
 {
     let counters = counters_at_rest(conn)?;
@@ -149,14 +166,16 @@ pub fn counts_at_rest<S: Alter>(conn: &mut Connection<S>) -> Result<StoreCounts,
 
 /// The size of all contents.
 pub fn size_at_rest<S: Alter>(conn: &mut Connection<S>) -> Result<u64, StoreFault>
-    ensures serves { ServesAs HeldFor HeldFor (state S.Store conn.old) (state S.Store conn.new)
-        result }
+    ensures serves { (file : List ℕ) → ServesAs (HeldFor file) (HeldFor file)
+        (state S.Store conn.old) (state S.Store conn.new) result }
     ensures open { StaysOpen (state S.Store conn.old) (state S.Store conn.new) result }
     // Whatever the database is, nothing is changed.
     ensures reads { OnlyReads (state S.Store conn.old) (state S.Store conn.new) result }
-    ensures value { IfOk result (λ n. ReportsAfter (state S.Store conn.old)
-        (state S.Store conn.new) (λ y. n ≡ sum_by (λ f. f.row.size) (rowed y.tree).nodes)) }
-    ensures fault { IsSafe HeldFor (state S.Store conn.old) (state S.Store conn.new) result }
+    ensures value { IfOk result (λ n. (file : List ℕ)
+        → ReportsAfter file (state S.Store conn.old) (state S.Store conn.new)
+        (λ y. n ≡ sum_by (λ f. f.row.size) (rowed y.tree).nodes)) }
+    ensures fault { (file : List ℕ) → IsSafe (HeldFor file) (state S.Store conn.old)
+        (state S.Store conn.new) result }
     ensures plain { IfErr result IsPlain }
 {
     rows_in_order();

@@ -1,5 +1,6 @@
 // One request of a group, within the open transaction.
-ghost use Rattle.std.specs.Prelude.{◌≡◌, ◌<◌, ◌^◌, false, None, IfOk, IfErr, OnOk, OnErr};
+ghost use Rattle.std.specs.Prelude.{◌≡◌, ◌<◌, ◌^◌, ℕ, List, true, false, None, IsTrue};
+ghost use Rattle.std.specs.Prelude.{IfOk, IfErr, OnOk, OnErr};
 ghost use Rattle.sqlite.specs.State.{HasCleanDisk};
 ghost use Rattle.sqlite.specs.Held.{state};
 ghost use Rattle.fuse_answer.specs.Said.{FitsAnswer};
@@ -8,17 +9,23 @@ ghost use Rattle.fuse_keeper.specs.History.{is_seen};
 ghost use Rattle.fuse_store_tables.specs.Faults.{IsOutside, IsPlain};
 ghost use Rattle.fuse_store_tables.specs.inner.Performing.{IsSure};
 ghost use Rattle.fuse_store_tree.specs.Looking.{as_look_fault};
+ghost use Rattle.fuse_store_tree.specs.Pieces.{ReadsFile};
+ghost use Rattle.fuse_store_tree.specs.Widening.{Widens};
+ghost use Rattle.fuse_store_tree.specs.inner.Over.{TurnedOver};
+ghost use Rattle.fuse_store_tree.specs.inner.Preparing.{AreMadeOf};
 ghost use Rattle.fuse_store_tree.specs.Holding.{Holding};
 ghost use Rattle.fuse_store_tree.specs.Knowing.{HeldForKnown};
 ghost use Rattle.fuse_store_tree.specs.inner.Changing.{Turned};
-ghost use Rattle.fuse_store_tree.specs.inner.Knowing.{InsideKnown, TurnedKnown};
+ghost use Rattle.fuse_store_tree.specs.inner.Knowing.{InsideKnown};
 ghost use Rattle.fuse_store_tree.specs.Group.{acted_on, done_newly, taken, with_record};
 ghost use Rattle.fuse_store_tree.specs.Group.{said_of};
 ghost use Rattle.fuse_tree.specs.TheTree.{tree_of};
 ghost use Rattle.fuse_store_tables.specs.Moves.{Stays};
 
 use crate::action::{act, fault_of_plan};
+use crate::contents::Contents;
 use crate::look::TableLook;
+use crate::made::Made;
 use crate::rows::find_answer;
 use crate::updates::narrow;
 use fuse_answer::Answer;
@@ -49,7 +56,7 @@ fn record<S: Alter>(
     requires id { id < 2 ^ 63 }
     requires lot { lot < 2 ^ 63 }
     requires fits { FitsAnswer answer.now }
-    ensures turned { OnOk result (Turned (with_record id lot answer.now) (state S.Store conn.old)
+    ensures turned { OnOk result ((file : List ℕ) → Turned file (with_record id lot answer.now) (state S.Store conn.old)
         (state S.Store conn.new)) }
     ensures fails { OnErr result (Stays (state S.Store conn.old) (state S.Store conn.new)) }
     ensures fault { IfErr result IsOutside }
@@ -63,29 +70,37 @@ fn record<S: Alter>(
 }
 
 // Executes a request and records its answer.
-fn act_and_record<S: Alter>(
+fn act_and_record<S: Alter, C: Contents>(
     alloc: Global,
-    look: &mut TableLook<S>,
+    look: &mut TableLook<S, C>,
     lot: u64,
     request: &Request<'_>,
     now: Moment,
+    made: &Made<'_>,
 ) -> Result<Done, StoreFault>
     requires ready { as_look_fault look.old.fault ≡ None }
     requires lot { lot < 2 ^ 62 }
-    ensures turned { OnOk result (TurnedKnown look.old.known look.new.known
+    requires made { AreMadeOf (C.Contents.file look.old.contents).contents.seen made.now.at
+        made.now.bytes.now made.now.pieces.now }
+    ensures widens { Widens (C.Contents.file look.old.contents)
+        (C.Contents.file look.new.contents) }
+    ensures turned { OnOk result (TurnedOver (C.Contents.file look.old.contents)
+        (C.Contents.file look.new.contents) look.old.known look.new.known
         (acted_on lot (entry_of (request.now, now))) (state S.Store look.old.conn)
         (state S.Store look.new.conn)) }
-    ensures done { HasCleanDisk (state S.Store look.new.conn) → IfOk result (λ done.
-        (y : Holding) → InsideKnown look.old.known y (state S.Store look.old.conn)
+    ensures done { HasCleanDisk (state S.Store look.new.conn)
+        → IsTrue (C.Contents.file look.new.contents).is_clean → IfOk result (λ done.
+        (y : Holding) → InsideKnown (C.Contents.file look.old.contents).bytes look.old.known y (state S.Store look.old.conn)
         → done ≡ done_newly (said_of (entry_of (request.now, now)) y)) }
     ensures fails { OnErr result (Stays (state S.Store look.old.conn)
         (state S.Store look.new.conn)) }
     ensures ready { as_look_fault look.new.fault ≡ None }
-    ensures fault { IsSure (HeldForKnown look.old.known) (state S.Store look.old.conn)
+    ensures fault { IsTrue (C.Contents.file look.new.contents).is_clean
+        → IsSure (HeldForKnown (C.Contents.file look.old.contents).bytes look.old.known) (state S.Store look.old.conn)
         (state S.Store look.new.conn) result }
     ensures plain { IfErr result IsPlain }
 {
-    let answer = match act(alloc, look, request, now) {
+    let answer = match act(alloc, look, request, now, made) {
         Ok(answer) => answer,
         Err(fault) => return Err(fault),
     };
@@ -100,22 +115,27 @@ fn act_and_record<S: Alter>(
 }
 
 // Sees a request: it looks for no record and leaves none, and its plan has no changes.
-fn see_one<S: Alter>(
+fn see_one<S: Alter, C: Contents>(
     alloc: Global,
-    look: &mut TableLook<S>,
+    look: &mut TableLook<S, C>,
     request: &Request<'_>,
     now: Moment,
 ) -> Result<Done, StoreFault>
     requires ready { as_look_fault look.old.fault ≡ None }
-    ensures turned { OnOk result (TurnedKnown look.old.known look.new.known (λ y. y)
+    ensures reads { ReadsFile (C.Contents.file look.old.contents)
+        (C.Contents.file look.new.contents) }
+    ensures turned { OnOk result (TurnedOver (C.Contents.file look.old.contents)
+        (C.Contents.file look.new.contents) look.old.known look.new.known (λ y. y)
         (state S.Store look.old.conn) (state S.Store look.new.conn)) }
-    ensures done { HasCleanDisk (state S.Store look.new.conn) → IfOk result (λ done.
-        (y : Holding) → InsideKnown look.old.known y (state S.Store look.old.conn)
+    ensures done { HasCleanDisk (state S.Store look.new.conn)
+        → IsTrue (C.Contents.file look.new.contents).is_clean → IfOk result (λ done.
+        (y : Holding) → InsideKnown (C.Contents.file look.old.contents).bytes look.old.known y (state S.Store look.old.conn)
         → done ≡ done_newly (said_of (entry_of (request.now, now)) y)) }
     ensures fails { OnErr result (Stays (state S.Store look.old.conn)
         (state S.Store look.new.conn)) }
     ensures ready { as_look_fault look.new.fault ≡ None }
-    ensures fault { IsSure (HeldForKnown look.old.known) (state S.Store look.old.conn)
+    ensures fault { IsTrue (C.Contents.file look.new.contents).is_clean
+        → IsSure (HeldForKnown (C.Contents.file look.old.contents).bytes look.old.known) (state S.Store look.old.conn)
         (state S.Store look.new.conn) result }
     ensures plain { IfErr result IsPlain }
 {
@@ -131,27 +151,35 @@ fn see_one<S: Alter>(
 }
 
 // Replays or executes a request that is kept.
-fn keep_one<S: Alter>(
+fn keep_one<S: Alter, C: Contents>(
     alloc: Global,
-    look: &mut TableLook<S>,
+    look: &mut TableLook<S, C>,
     profile: Profile,
     lot: u64,
     request: &Request<'_>,
     now: Moment,
+    made: &Made<'_>,
 ) -> Result<Done, StoreFault>
     requires ready { as_look_fault look.old.fault ≡ None }
     requires lot { lot < 2 ^ 62 }
     requires kept { is_seen (tree_of profile).service (entry_of (request.now, now)) ≡ false }
-    ensures turned { OnOk result (TurnedKnown look.old.known look.new.known
+    requires made { AreMadeOf (C.Contents.file look.old.contents).contents.seen made.now.at
+        made.now.bytes.now made.now.pieces.now }
+    ensures widens { Widens (C.Contents.file look.old.contents)
+        (C.Contents.file look.new.contents) }
+    ensures turned { OnOk result (TurnedOver (C.Contents.file look.old.contents)
+        (C.Contents.file look.new.contents) look.old.known look.new.known
         (λ y. (taken (tree_of profile).service lot (entry_of (request.now, now)) y).holding)
         (state S.Store look.old.conn) (state S.Store look.new.conn)) }
-    ensures done { HasCleanDisk (state S.Store look.new.conn) → IfOk result (λ done.
-        (y : Holding) → InsideKnown look.old.known y (state S.Store look.old.conn)
+    ensures done { HasCleanDisk (state S.Store look.new.conn)
+        → IsTrue (C.Contents.file look.new.contents).is_clean → IfOk result (λ done.
+        (y : Holding) → InsideKnown (C.Contents.file look.old.contents).bytes look.old.known y (state S.Store look.old.conn)
         → done ≡ (taken (tree_of profile).service lot (entry_of (request.now, now)) y).done) }
     ensures fails { OnErr result (Stays (state S.Store look.old.conn)
         (state S.Store look.new.conn)) }
     ensures ready { as_look_fault look.new.fault ≡ None }
-    ensures fault { IsSure (HeldForKnown look.old.known) (state S.Store look.old.conn)
+    ensures fault { IsTrue (C.Contents.file look.new.contents).is_clean
+        → IsSure (HeldForKnown (C.Contents.file look.old.contents).bytes look.old.known) (state S.Store look.old.conn)
         (state S.Store look.new.conn) result }
     ensures plain { IfErr result IsPlain }
 {
@@ -164,37 +192,49 @@ fn keep_one<S: Alter>(
             answer,
             repeated: true,
         }),
-        None => act_and_record(alloc, look, lot, request, now),
+        None => act_and_record(alloc, look, lot, request, now, made),
     }
 }
 
-/// Takes one request: a kept one whose id has a record is a repeat.
-pub(crate) fn take_one<S: Alter>(
+/// Takes one request: a kept one whose id has a record is a repeat. A large WRITE lists what was
+/// written for it.
+pub(crate) fn take_one<S: Alter, C: Contents>(
     alloc: Global,
-    look: &mut TableLook<S>,
+    look: &mut TableLook<S, C>,
     profile: Profile,
     lot: u64,
     request: &Request<'_>,
     now: Moment,
+    made: &Made<'_>,
 ) -> Result<Done, StoreFault>
     requires ready { as_look_fault look.old.fault ≡ None }
     requires lot { lot < 2 ^ 62 }
-    ensures turned { OnOk result (TurnedKnown look.old.known look.new.known
+    requires made { AreMadeOf (C.Contents.file look.old.contents).contents.seen made.now.at
+        made.now.bytes.now made.now.pieces.now }
+    ensures widens { Widens (C.Contents.file look.old.contents)
+        (C.Contents.file look.new.contents) }
+    // A seen one only reads of the data file.
+    ensures reads { is_seen (tree_of profile).service (entry_of (request.now, now)) ≡ true
+        → ReadsFile (C.Contents.file look.old.contents) (C.Contents.file look.new.contents) }
+    ensures turned { OnOk result (TurnedOver (C.Contents.file look.old.contents)
+        (C.Contents.file look.new.contents) look.old.known look.new.known
         (λ y. (taken (tree_of profile).service lot (entry_of (request.now, now)) y).holding)
         (state S.Store look.old.conn) (state S.Store look.new.conn)) }
-    ensures done { HasCleanDisk (state S.Store look.new.conn) → IfOk result (λ done.
-        (y : Holding) → InsideKnown look.old.known y (state S.Store look.old.conn)
+    ensures done { HasCleanDisk (state S.Store look.new.conn)
+        → IsTrue (C.Contents.file look.new.contents).is_clean → IfOk result (λ done.
+        (y : Holding) → InsideKnown (C.Contents.file look.old.contents).bytes look.old.known y (state S.Store look.old.conn)
         → done ≡ (taken (tree_of profile).service lot (entry_of (request.now, now)) y).done) }
     ensures fails { OnErr result (Stays (state S.Store look.old.conn)
         (state S.Store look.new.conn)) }
     ensures ready { as_look_fault look.new.fault ≡ None }
-    ensures fault { IsSure (HeldForKnown look.old.known) (state S.Store look.old.conn)
+    ensures fault { IsTrue (C.Contents.file look.new.contents).is_clean
+        → IsSure (HeldForKnown (C.Contents.file look.old.contents).bytes look.old.known) (state S.Store look.old.conn)
         (state S.Store look.new.conn) result }
     ensures plain { IfErr result IsPlain }
 {
     if sees_requests(profile, request.op.opcode()) {
         see_one(alloc, look, request, now)
     } else {
-        keep_one(alloc, look, profile, lot, request, now)
+        keep_one(alloc, look, profile, lot, request, now, made)
     }
 }

@@ -23,23 +23,25 @@ use fuse_answer::{Answer, MAX_BODY};
 use fuse_keeper::StoreFault;
 use fuse_rows::{EntryRow, HandleRow, NodeRow};
 use fuse_store_tables::{
-    bytes_at, node_at, number_at, select_handle, select_kept, select_named, select_node, small_at,
+    Layout, bytes_at, layout_of, node_at, number_at, select_handle, select_kept, select_named,
+    select_node, small_at,
 };
 use fuse_wire::{AccessMode, ByteList, Errno};
 use sqlite::{Alter, Connection, Row};
 use std::alloc::Global;
 
-// The node in the row that was found.
-fn read_node(rows: &[Row], number: u64) -> Result<Option<NodeRow>, StoreFault>
-    ensures value { IfOk result (λ r. (o : Option Node) → IfSome o (λ n. KeepsNode n
-        × (n.node ≡ number)) → rows.now ≡ map node_columns (option_to_list o) → r ≡ o) }
-    ensures fault { IfErr result (λ f. (o : Option Node) → IfSome o KeepsNode
-        → rows.now ≡ map node_columns (option_to_list o) → IsOutside f) }
+// The node in the row that was found in tables of this layout.
+fn read_node(rows: &[Row], number: u64, layout: Layout) -> Result<Option<NodeRow>, StoreFault>
+    ensures value { IfOk result (λ r. (o : Option Node) → IfSome o (λ n. KeepsNode layout n
+        × (n.node ≡ number)) → rows.now ≡ map (node_columns layout) (option_to_list o)
+        → r ≡ o) }
+    ensures fault { IfErr result (λ f. (o : Option Node) → IfSome o (KeepsNode layout)
+        → rows.now ≡ map (node_columns layout) (option_to_list o) → IsOutside f) }
     ensures plain { IfErr result IsPlain }
 {
     match rows.first() {
         None => Ok(None),
-        Some(row) => match node_at(row, number) {
+        Some(row) => match node_at(row, number, layout) {
             Ok(found) => Ok(Some(found)),
             Err(fault) => Err(fault),
         },
@@ -172,8 +174,9 @@ pub(crate) fn find_node<S: Alter>(
     if number >= END {
         return Ok(None);
     }
+    let layout = layout_of(conn);
     let rows = select_node(conn, number)?;
-    read_node(rows.as_slice(), number)
+    read_node(rows.as_slice(), number, layout)
 }
 
 /// The handle of this number.

@@ -1,5 +1,6 @@
 // A group of seen requests alone.
-ghost use Rattle.std.specs.Prelude.{◌≡◌, [], None, true, false, length, IfOk, IfErr, OnOk, OnErr};
+ghost use Rattle.std.specs.Prelude.{◌≡◌, [], None, true, false, length, IsTrue};
+ghost use Rattle.std.specs.Prelude.{IfOk, IfErr, OnOk, OnErr};
 ghost use Rattle.sqlite.specs.Held.{state};
 ghost use Rattle.fuse_keeper.specs.Group.{entries_of, ids_of};
 ghost use Rattle.fuse_keeper.specs.History.{kept_of};
@@ -8,9 +9,11 @@ ghost use Rattle.fuse_store_tables.specs.inner.Performing.{CommitsNothing, Trans
 ghost use Rattle.fuse_store_tables.specs.Faults.{IsPlain};
 ghost use Rattle.fuse_tree.specs.TheTree.{tree_of};
 ghost use Rattle.fuse_store_tree.specs.Looking.{as_look_fault};
+ghost use Rattle.fuse_store_tree.specs.Pieces.{ReadsFile};
 ghost use Rattle.fuse_store_tree.specs.Knowing.{HeldForKnown, ReportsKnown};
 ghost use Rattle.fuse_store_tree.specs.Group.{dones_of, keeps_nothing};
 
+use crate::contents::Contents;
 use crate::group::take_all;
 use crate::look::TableLook;
 use fuse_init::Profile;
@@ -44,27 +47,33 @@ pub(crate) fn only_sees(profile: Profile, group: &[(Request<'_>, Moment)], settl
 }
 
 // Sees the requests of a group in a transaction that is rolled back. A fault may leave it open.
-fn see_inside<S: Alter>(
+fn see_inside<S: Alter, C: Contents>(
     alloc: Global,
-    look: &mut TableLook<S>,
+    look: &mut TableLook<S, C>,
     profile: Profile,
     group: &[(Request<'_>, Moment)],
 ) -> Result<Vec<Done>, StoreFault>
     requires ready { as_look_fault look.old.fault ≡ None }
     requires seen { kept_of (tree_of profile).service (entries_of group.now) ≡ [] }
     ensures count { IfOk result (λ dones. length dones.items ≡ length group.now) }
-    ensures performs { TransactsAs (HeldForKnown look.old.known) (HeldForKnown look.new.known)
+    ensures reads { ReadsFile (C.Contents.file look.old.contents)
+        (C.Contents.file look.new.contents) }
+    ensures performs { IsTrue (C.Contents.file look.new.contents).is_clean
+        → TransactsAs (HeldForKnown (C.Contents.file look.new.contents).bytes look.old.known)
+        (HeldForKnown (C.Contents.file look.new.contents).bytes look.new.known)
         (state S.Store look.old.conn) (state S.Store look.new.conn) result }
     ensures open { StaysOpen (state S.Store look.old.conn) (state S.Store look.new.conn) result }
     // Nothing is committed, whether it succeeds or not.
     ensures nothing { CommitsNothing (state S.Store look.old.conn) (state S.Store look.new.conn) }
     ensures alone { OnOk result (LeavesAlone (state S.Store look.old.conn)
         (state S.Store look.new.conn)) }
-    ensures dones { IfOk result (λ dones. ReportsKnown look.old.known (state S.Store look.old.conn)
+    ensures dones { IsTrue (C.Contents.file look.new.contents).is_clean
+        → IfOk result (λ dones. ReportsKnown (C.Contents.file look.new.contents).bytes look.old.known (state S.Store look.old.conn)
         (state S.Store look.new.conn) (λ y. dones.items
         ≡ dones_of (tree_of profile).service 0 (entries_of group.now) y)) }
     ensures ready { as_look_fault look.new.fault ≡ None }
-    ensures fault { IsSafe (HeldForKnown look.old.known) (state S.Store look.old.conn)
+    ensures fault { IsTrue (C.Contents.file look.new.contents).is_clean
+        → IsSafe (HeldForKnown (C.Contents.file look.new.contents).bytes look.old.known) (state S.Store look.old.conn)
         (state S.Store look.new.conn) result }
     ensures plain { IfErr result IsPlain }
 {
@@ -73,7 +82,7 @@ fn see_inside<S: Alter>(
         Err(error) => return Err(StoreFault::from(error)),
     }
     // No record is added, so it doesn't matter under which lot.
-    let dones = match take_all(alloc, look, profile, 0, group) {
+    let dones = match take_all(alloc, look, profile, 0, group, &[]) {
         Ok(dones) => dones,
         Err(fault) => return Err(fault),
     };
@@ -85,25 +94,31 @@ fn see_inside<S: Alter>(
 
 /// Sees the requests of a group of which none is kept. Nothing is changed, and nothing is committed,
 /// whether it succeeds or not.
-pub(crate) fn see_at_rest<S: Alter>(
+pub(crate) fn see_at_rest<S: Alter, C: Contents>(
     alloc: Global,
-    look: &mut TableLook<S>,
+    look: &mut TableLook<S, C>,
     profile: Profile,
     group: &[(Request<'_>, Moment)],
 ) -> Result<Vec<Done>, StoreFault>
     requires ready { as_look_fault look.old.fault ≡ None }
     requires seen { kept_of (tree_of profile).service (entries_of group.now) ≡ [] }
     ensures count { IfOk result (λ dones. length dones.items ≡ length group.now) }
-    ensures serves { ServesAs (HeldForKnown look.old.known) (HeldForKnown look.new.known)
+    ensures reads { ReadsFile (C.Contents.file look.old.contents)
+        (C.Contents.file look.new.contents) }
+    ensures serves { IsTrue (C.Contents.file look.new.contents).is_clean
+        → ServesAs (HeldForKnown (C.Contents.file look.new.contents).bytes look.old.known)
+        (HeldForKnown (C.Contents.file look.new.contents).bytes look.new.known)
         (state S.Store look.old.conn) (state S.Store look.new.conn) result }
     ensures open { StaysOpen (state S.Store look.old.conn) (state S.Store look.new.conn) result }
     ensures alone { LeavesAlone (state S.Store look.old.conn) (state S.Store look.new.conn) }
-    ensures dones { IfOk result (λ dones. ReportsKnown look.old.known (state S.Store look.old.conn)
+    ensures dones { IsTrue (C.Contents.file look.new.contents).is_clean
+        → IfOk result (λ dones. ReportsKnown (C.Contents.file look.new.contents).bytes look.old.known (state S.Store look.old.conn)
         (state S.Store look.new.conn) (λ y. dones.items
         ≡ dones_of (tree_of profile).service 0 (entries_of group.now) y)) }
     ensures ready { as_look_fault look.new.fault ≡ None }
     ensures forgets { OnErr result (look.new.known ≡ None) }
-    ensures fault { IsSafe (HeldForKnown look.old.known) (state S.Store look.old.conn)
+    ensures fault { IsTrue (C.Contents.file look.new.contents).is_clean
+        → IsSafe (HeldForKnown (C.Contents.file look.new.contents).bytes look.old.known) (state S.Store look.old.conn)
         (state S.Store look.new.conn) result }
     ensures plain { IfErr result IsPlain }
 {

@@ -1,5 +1,6 @@
 // Deletion of the records of settled ids.
-ghost use Rattle.std.specs.Prelude.{◌<◌, ◌≤◌, ◌^◌, [], ◌∷◌, length, take, IsTrue, IfOk, IfErr, OnOk, OnErr};
+ghost use Rattle.std.specs.Prelude.{◌<◌, ◌≤◌, ◌^◌, ℕ, List, [], ◌∷◌, length, take, IsTrue};
+ghost use Rattle.std.specs.Prelude.{IfOk, IfErr, OnOk, OnErr};
 ghost use Rattle.sqlite.specs.Held.{state};
 ghost use Rattle.fuse_keeper.specs.Group.{ids_of};
 ghost use Rattle.fuse_store_tables.specs.Faults.{IsOutside, IsPlain};
@@ -15,7 +16,7 @@ use sqlite::{Alter, Connection};
 
 // Deletes the record of this id, if there is one.
 fn forget<S: Alter>(conn: &mut Connection<S>, id: u64) -> Result<(), StoreFault>
-    ensures turned { OnOk result (Turned (without_record id) (state S.Store conn.old)
+    ensures turned { OnOk result ((file : List ℕ) → Turned file (without_record id) (state S.Store conn.old)
         (state S.Store conn.new)) }
     ensures fails { OnErr result (Stays (state S.Store conn.old) (state S.Store conn.new)) }
     ensures fault { IfErr result IsOutside }
@@ -55,7 +56,7 @@ fn forget_four<S: Alter>(
     requires third { second ≤ third }
     requires last { third ≤ last }
     requires small { last < 2 ^ 63 }
-    ensures turned { OnOk result (Turned (without_settled (first ∷ second ∷ third ∷ last ∷ []))
+    ensures turned { OnOk result ((file : List ℕ) → Turned file (without_settled (first ∷ second ∷ third ∷ last ∷ []))
         (state S.Store conn.old) (state S.Store conn.new)) }
     ensures fails { OnErr result (Stays (state S.Store conn.old) (state S.Store conn.new)) }
     ensures fault { IfErr result IsOutside }
@@ -71,7 +72,7 @@ fn forget_four<S: Alter>(
 fn forget_first<S: Alter>(conn: &mut Connection<S>, ids: &[Id]) -> Result<usize, StoreFault>
     requires some { 1 ≤ length ids.now }
     ensures count { IfOk result (λ n. (1 ≤ n) × (n ≤ length ids.now)) }
-    ensures turned { IfOk result (λ n. Turned (without_settled (ids_of (take n ids.now)))
+    ensures turned { IfOk result (λ n. (file : List ℕ) → Turned file (without_settled (ids_of (take n ids.now)))
         (state S.Store conn.old) (state S.Store conn.new)) }
     ensures fails { OnErr result (Stays (state S.Store conn.old) (state S.Store conn.new)) }
     ensures fault { IfErr result IsOutside }
@@ -93,7 +94,7 @@ fn forget_first<S: Alter>(conn: &mut Connection<S>, ids: &[Id]) -> Result<usize,
 
 /// Deletes the records of these ids, where there are any.
 pub(crate) fn settle<S: Alter>(conn: &mut Connection<S>, ids: &[Id]) -> Result<(), StoreFault>
-    ensures turned { OnOk result (Turned (without_settled (ids_of ids.now))
+    ensures turned { OnOk result ((file : List ℕ) → Turned file (without_settled (ids_of ids.now))
         (state S.Store conn.old) (state S.Store conn.new)) }
     ensures fails { OnErr result (Stays (state S.Store conn.old) (state S.Store conn.new)) }
     ensures fault { IfErr result IsOutside }

@@ -1,17 +1,17 @@
 // Updates of single rows, each a change of a plan.
-ghost use Rattle.std.specs.Prelude.{◌<◌, ◌^◌, ◌+◌, Some, OnOk, OnErr};
+ghost use Rattle.std.specs.Prelude.{◌≡◌, ◌<◌, ◌^◌, ◌+◌, ℕ, List, Some, OnOk, OnErr};
 ghost use Rattle.std.specs.Prelude.{IfErr, IfSome};
 ghost use Rattle.sqlite.specs.State.{HasCleanDisk};
 ghost use Rattle.sqlite.specs.Held.{state};
 ghost use Rattle.fuse_rows.specs.declared.rows.Change.TheVariants as changes;
 ghost use Rattle.fuse_store_tables.specs.Faults.{IsOutside, IsPlain};
-ghost use Rattle.fuse_store_tree.specs.inner.Changing.{Changed};
-ghost use Rattle.fuse_store_tables.specs.Content.{Content, IsTime, HasWidths, set_counter};
+ghost use Rattle.fuse_store_tree.specs.inner.Changing.{ChangedIn};
+ghost use Rattle.fuse_store_tables.specs.Content.{Content, IsTime, HasWidths, HasCount, set_counter};
 ghost use Rattle.fuse_rows.specs.Columns.{FitsNode, FitsEntry, FitsHandle, FitsCounters};
 ghost use Rattle.fuse_rows.specs.Columns.{FitsRoom};
 ghost use Rattle.fuse_store_tables.specs.Moves.{Inside, Makes, Stays};
-ghost use Rattle.fuse_store_tree.specs.inner.Knowing.{ChangedKnown, known_after, counters_written};
-ghost use Rattle.fuse_store_tree.specs.inner.Writing.{with_change, with_used};
+ghost use Rattle.fuse_store_tree.specs.inner.Knowing.{ChangedKnownIn, known_after, counters_written};
+ghost use Rattle.fuse_store_tree.specs.inner.Writing.{with_change, with_used, counted_row};
 
 use crate::meta::Meta;
 use crate::moved_counters::move_counters;
@@ -19,8 +19,8 @@ use fuse_init::Settings;
 use fuse_keeper::StoreFault;
 use fuse_rows::{Counters, EntryRow, HandleRow, NodeRow, Room};
 use fuse_store_tables::{
-    AGREED, HANDLES, NEXT_NODE, USED, delete_entry, delete_handle, insert_entry, insert_handle,
-    update_counter,
+    AGREED, HANDLES, Layout, NEXT_NODE, USED, delete_entry, delete_handle, insert_entry,
+    insert_handle, layout_of, update_counter,
 };
 use fuse_wire::Moment;
 use sqlite::{Alter, Connection, Error};
@@ -31,7 +31,7 @@ pub(crate) fn add_entry<S: Alter>(
     row: &EntryRow,
 ) -> Result<(), StoreFault>
     requires { FitsEntry row.now }
-    ensures changed { OnOk result (Changed (with_change (changes.Entry row.now))
+    ensures changed { OnOk result ((file : List ℕ) → ChangedIn file (with_change (changes.Entry row.now))
         (state S.Store conn.old) (state S.Store conn.new)) }
     ensures fails { OnErr result (Stays (state S.Store conn.old) (state S.Store conn.new)) }
     ensures fault { IfErr result (λ f. IsOutside f) }
@@ -49,7 +49,7 @@ pub(crate) fn remove_entry<S: Alter>(
     cookie: u64,
 ) -> Result<(), StoreFault>
     requires { cookie < 2 ^ 63 }
-    ensures changed { OnOk result (Changed (with_change (changes.EntryGone cookie))
+    ensures changed { OnOk result ((file : List ℕ) → ChangedIn file (with_change (changes.EntryGone cookie))
         (state S.Store conn.old) (state S.Store conn.new)) }
     ensures fails { OnErr result (Stays (state S.Store conn.old) (state S.Store conn.new)) }
     ensures fault { IfErr result (λ f. IsOutside f) }
@@ -67,7 +67,7 @@ pub(crate) fn add_handle<S: Alter>(
     row: &HandleRow,
 ) -> Result<(), StoreFault>
     requires { FitsHandle row.now }
-    ensures changed { OnOk result (Changed (with_change (changes.Handle row.now))
+    ensures changed { OnOk result ((file : List ℕ) → ChangedIn file (with_change (changes.Handle row.now))
         (state S.Store conn.old) (state S.Store conn.new)) }
     ensures fails { OnErr result (Stays (state S.Store conn.old) (state S.Store conn.new)) }
     ensures fault { IfErr result (λ f. IsOutside f) }
@@ -82,7 +82,7 @@ pub(crate) fn add_handle<S: Alter>(
 /// Deletes the handle of this number.
 pub(crate) fn remove_handle<S: Alter>(conn: &mut Connection<S>, fh: u64) -> Result<(), StoreFault>
     requires { fh < 2 ^ 63 }
-    ensures changed { OnOk result (Changed (with_change (changes.HandleGone fh))
+    ensures changed { OnOk result ((file : List ℕ) → ChangedIn file (with_change (changes.HandleGone fh))
         (state S.Store conn.old) (state S.Store conn.new)) }
     ensures fails { OnErr result (Stays (state S.Store conn.old) (state S.Store conn.new)) }
     ensures fault { IfErr result (λ f. IsOutside f) }
@@ -211,7 +211,7 @@ pub(crate) fn set_counters<S: Alter>(
     n: &Counters,
 ) -> Result<(), StoreFault>
     requires { FitsCounters n.now }
-    ensures changed { OnOk result (ChangedKnown known (known_after known (changes.Counters n.now))
+    ensures changed { OnOk result ((file : List ℕ) → ChangedKnownIn file known (known_after known (changes.Counters n.now))
         (with_change (changes.Counters n.now)) (state S.Store conn.old)
         (state S.Store conn.new)) }
     ensures fails { OnErr result (Stays (state S.Store conn.old) (state S.Store conn.new)) }
@@ -230,7 +230,7 @@ pub(crate) fn set_settings<S: Alter>(
     v: Settings,
 ) -> Result<(), StoreFault>
     requires { v.flags.0 < 2 ^ 63 }
-    ensures changed { OnOk result (Changed (with_change (changes.Settings v))
+    ensures changed { OnOk result ((file : List ℕ) → ChangedIn file (with_change (changes.Settings v))
         (state S.Store conn.old) (state S.Store conn.new)) }
     ensures fails { OnErr result (Stays (state S.Store conn.old) (state S.Store conn.new)) }
     ensures fault { IfErr result (λ f. IsOutside f) }
@@ -280,17 +280,36 @@ fn law_of_widths(row: &NodeRow)
     narrow(row.subdirs);
 }
 
+// The row, with its written blocks counted where tables of this layout count them. A plan changes
+// no row of a tree to another.
+fn counted_in(row: &NodeRow, layout: Layout) -> NodeRow
+    requires { FitsNode row.now }
+    ensures value { result ≡ counted_row layout row.now }
+    ensures fits { FitsNode result }
+    ensures count { HasCount layout result }
+{
+    let written = match layout {
+        Layout::Second => None,
+        Layout::Third => match row.written {
+            None => Some(0),
+            Some(count) => Some(count),
+        },
+    };
+    NodeRow { written, ..*row }
+}
+
 /// Changes the row of a node, or adds it where there is none with its number.
 pub(crate) fn put_node<S: Alter>(conn: &mut Connection<S>, row: &NodeRow) -> Result<(), StoreFault>
     requires { FitsNode row.now }
-    ensures changed { OnOk result (Changed (with_change (changes.Node row.now))
-        (state S.Store conn.old) (state S.Store conn.new)) }
+    ensures changed { OnOk result ((file : List ℕ) → ChangedIn file
+        (with_change (changes.Node row.now)) (state S.Store conn.old) (state S.Store conn.new)) }
     ensures fails { OnErr result (Stays (state S.Store conn.old) (state S.Store conn.new)) }
     ensures fault { IfErr result (λ f. IsOutside f) }
     ensures plain { IfErr result IsPlain }
 {
-    law_of_widths(row);
-    match fuse_store_tables::put_node(conn, row) {
+    let row = counted_in(row, layout_of(conn));
+    law_of_widths(&row);
+    match fuse_store_tables::put_node(conn, &row) {
         Ok(()) => Ok(()),
         Err(error) => Err(StoreFault::from(error)),
     }

@@ -4,7 +4,8 @@ use Rattle.std.specs.Option.{option_map}
 use Rattle.std.specs.List.{sum_by}
 use Rattle.fuse_rows.specs.declared.rows.Full.{Full}
 use Rattle.fuse_rows.specs.declared.rows.Room.{Room}
-use Rattle.fuse_tree.specs.State.{State, Tree, is_named, blocks_for}
+use Rattle.fuse_tree.specs.State.{State, Tree, is_named}
+use Rattle.fuse_rows.specs.Blocks.{how_many}
 use Rattle.fuse_rows.specs.Rows.{Rows, row_is_named}
 use Rattle.fuse_tree.specs.Rowed.{rowed}
 
@@ -15,9 +16,9 @@ cleared_tree s = record s { nodes = filter (λ n. is_named s n.number) s.nodes; 
 abbrev pub is_named_row : Full → Bool
 is_named_row f = row_is_named f.row
 
--- the blocks of the nodes without a name
+-- the written blocks of the nodes without a name
 abbrev pub blocks_freed : List Full → ℕ
-blocks_freed nodes = sum_by (λ f. blocks_for f.row.size) (filter (λ f. not (is_named_row f)) nodes)
+blocks_freed nodes = sum_by (λ f. how_many f.row.written) (filter (λ f. not (is_named_row f)) nodes)
 
 -- the room when so many blocks are no longer in use
 abbrev pub room_less : ℕ → Room → Room

@@ -1,5 +1,6 @@
 -- The state after a request and its answer (defined by this project): shared by the definitions of the operations.
-use Rattle.std.specs.Prelude.{◌+◌, ◌-◌, ◌/◌, ◌==◌, ℕ, not, if◌then◌else◌, List, [], ◌∷◌, length, map, Option, Some, None}
+use Rattle.std.specs.Prelude.{◌+◌, ◌-◌, ◌*◌, ◌/◌, ◌==◌, ℕ, not, if◌then◌else◌, List, [], ◌∷◌, length, map, Option, Some, None}
+use Rattle.std.specs.Option.{option_map}
 use Rattle.fuse_wire.specs.declared.errno.Errno.{Errno}
 use Rattle.fuse_wire.specs.Errnos.{enoent, enotdir}
 use Rattle.fuse_wire.specs.declared.moment.Moment.{Moment}
@@ -39,11 +40,16 @@ answer s body = record { state = s; said = record { errno = 0; body = body } }
 
 -- ---- the attributes of a node
 
+-- `blocks` of the attributes: those of the written blocks, where these are counted, and else those that the size takes
+abbrev pub sectors_for : Option ℕ → ℕ → ℕ
+sectors_for None size = (size + (sector_bytes - 1)) / sector_bytes
+sectors_for (Some written) size = block_bytes / sector_bytes * written
+
 abbrev pub attr_of : State → Node → Attr
 attr_of s n = record {
   ino = n.number;
   size = length n.content;
-  blocks = (length n.content + (sector_bytes - 1)) / sector_bytes;
+  blocks = sectors_for (option_map length n.blocks) (length n.content);
   atime = n.atime.secs;
   mtime = n.mtime.secs;
   ctime = n.ctime.secs;

@@ -11,7 +11,7 @@ use Rattle.fuse_rows.specs.declared.origin.Origin.{Origin}
 use Rattle.fuse_tree.specs.declared.new_node.NewNode.{NewNode}
 use Rattle.fuse_tree.specs.Checks.{Check, Where, Part}
 use Rattle.fuse_rows.specs.declared.rows.EntryRow.{EntryRow}
-use Rattle.fuse_tree.specs.State.{State, Node, terms_of, is_dir, type_bits, is_device, is_named, name_tests}
+use Rattle.fuse_tree.specs.State.{State, Node, terms_of, no_blocks, is_dir, type_bits, is_device, is_named, name_tests}
 use Rattle.fuse_rows.specs.Rows.{entry_at}
 use Rattle.fuse_tree.specs.Keeping.{agreement_of, valid_of}
 use Rattle.fuse_tree.specs.Done.{Done, refuse_by, answer, attr_of, entry_out_of, touch}
@@ -55,6 +55,7 @@ new_node s fresh = record {
   mtime = fresh.made;
   ctime = fresh.made;
   content = [];
+  blocks = no_blocks s.capacity;
 }
 
 abbrev pub new_entry : State → ℕ → List ℕ → EntryRow

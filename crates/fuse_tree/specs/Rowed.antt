@@ -1,5 +1,7 @@
 -- The rows that stand for a state (defined by this project).
 use Rattle.std.specs.Prelude.{◌≡◌, length, map}
+use Rattle.std.specs.Option.{option_map}
+use Rattle.fuse_rows.specs.Blocks.{Body}
 use Rattle.fuse_rows.specs.declared.rows.NodeRow.{NodeRow}
 use Rattle.fuse_rows.specs.declared.rows.Full.{Full}
 use Rattle.fuse_rows.specs.declared.rows.Counters.{Counters as CountersRow}
@@ -7,7 +9,7 @@ use Rattle.fuse_tree.specs.State.{State, Node, Tree, up_of, subdirs_of}
 use Rattle.fuse_tree.specs.Space.{room_of}
 use Rattle.fuse_rows.specs.Rows.{Rows}
 
--- a node's row: its size, the directory above and the directories in it are counted
+-- a node's row: its size, its written blocks, the directory above and the directories in it are counted
 abbrev pub row_of : State → Node → NodeRow
 row_of s n = record {
   node = n.number;
@@ -21,10 +23,14 @@ row_of s n = record {
   ctime = n.ctime;
   up = up_of s.entries n.number;
   subdirs = subdirs_of s n.number;
+  written = option_map length n.blocks;
 }
 
+abbrev pub body_of_node : Node → Body
+body_of_node n = record { bytes = n.content; blocks = n.blocks }
+
 abbrev pub full_of : State → Node → Full
-full_of s n = record { row = row_of s n; content = n.content }
+full_of s n = record { row = row_of s n; content = body_of_node n }
 
 abbrev pub counters_of : State → CountersRow
 counters_of s = record {

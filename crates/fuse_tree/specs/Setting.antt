@@ -1,9 +1,9 @@
 -- SETATTR (defined by this project): the bits of `valid` say which attributes it sets.
-use Rattle.std.specs.Prelude.{◌+◌, ◌*◌, ◌/◌, ◌%◌, ◌==◌, ◌&&◌, ◌||◌, ℕ, Bool, not, List, length, nat_lt, if◌then◌else◌, Option, Some, None}
+use Rattle.std.specs.Prelude.{◌+◌, ◌*◌, ◌/◌, ◌%◌, ◌==◌, ◌||◌, ℕ, Bool, not, List, nat_lt, if◌then◌else◌, Option, Some, None}
 use Rattle.std.specs.Int.RustNames.{bit_and}
 use Rattle.fuse_wire.specs.Flags.{valid_bits}
 use Rattle.fuse_wire.specs.declared.errno.Errno.{Errno}
-use Rattle.fuse_wire.specs.Errnos.{eisdir, einval, efbig, enospc}
+use Rattle.fuse_wire.specs.Errnos.{eisdir, einval, efbig}
 use Rattle.fuse_wire.specs.declared.moment.Moment.{Moment}
 use Rattle.fuse_wire.specs.declared.setattr_valid.SetattrValid.{SetattrValid}
 use Rattle.fuse_wire.specs.Bits.{fattr_mode, fattr_uid, fattr_gid, fattr_size, fattr_atime, fattr_mtime, fattr_atime_now, fattr_mtime_now, fattr_ctime}
@@ -11,10 +11,11 @@ use Rattle.fuse_request.specs.declared.request.SetattrIn.{SetattrIn}
 use Rattle.fuse_answer.specs.Bodies.{attr_out_bytes}
 use Rattle.fuse_tree.specs.Modes.{type_unit}
 use Rattle.fuse_tree.specs.State.{State, Node, terms_of, is_dir, is_file}
-use Rattle.fuse_tree.specs.Space.{room_of, has_room}
+use Rattle.std.specs.Option.{option_map}
+use Rattle.fuse_rows.specs.Blocks.{below_size}
 use Rattle.fuse_rows.specs.Rows.{sized}
 use Rattle.fuse_tree.specs.Keeping.{agreement_of, valid_of}
-use Rattle.fuse_tree.specs.Done.{Done, refuse, refuse_for, answer, attr_of, attr_out_of}
+use Rattle.fuse_tree.specs.Done.{Done, refuse_for, answer, attr_of, attr_out_of}
 use Rattle.fuse_tree.specs.Changing.{with_changed}
 
 -- the bit is set; bits without names are ignored
@@ -68,6 +69,7 @@ set_attributes set now n = record n {
   mtime = mtime_after set now n.mtime;
   ctime = ctime_after set now n.ctime;
   content = if has_valid_bit set fattr_size then sized set.size n.content else n.content;
+  blocks = if has_valid_bit set fattr_size then option_map (below_size set.size) n.blocks else n.blocks;
 }
 
 -- ---- SETATTR
@@ -89,11 +91,5 @@ with_set s set now number = with_changed number (set_attributes set now) s
 abbrev pub set_answer : State → SetattrIn → Moment → Node → List ℕ
 set_answer s set now n = attr_out_bytes (attr_out_of (valid_of (agreement_of s)) (attr_of (with_set s set now n.number) (set_attributes set now n)))
 
--- where there is room for the size
-abbrev pub set_with_room : State → SetattrIn → Moment → Node → Done
-set_with_room s set now n =
-    if has_valid_bit set fattr_size && not (has_room (room_of s) (length n.content) set.size) then refuse s enospc
-    else answer (with_set s set now n.number) (set_answer s set now n)
-
 abbrev pub setattr : State → SetattrIn → Moment → Node → Done
-setattr s set now n = refuse_for s (set_fault (terms_of s).file_limit set n.mode) (set_with_room s set now n)
+setattr s set now n = refuse_for s (set_fault (terms_of s).file_limit set n.mode) (answer (with_set s set now n.number) (set_answer s set now n))

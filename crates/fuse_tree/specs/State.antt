@@ -1,6 +1,7 @@
 -- A tree of files, and its invariant (defined by this project). Numbers are given out in rising order, so each
 -- list stands in the order of its numbers: a list with rising numbers is a finite map.
-use Rattle.std.specs.Prelude.{◌≡◌, ◌≢◌, ◌<◌, ◌≤◌, ◌+◌, ◌*◌, ◌/◌, ◌%◌, ◌^◌, ◌==◌, ◌&&◌, ◌||◌, ℕ, zero, suc, Bool, true, false, not, nat_eq, nat_lt, ◌-◌, if◌then◌else◌, List, [], ◌∷◌, length, find, filter, Option, Some, None, IfSome, codes}
+use Rattle.std.specs.Prelude.{◌≡◌, ◌≢◌, ◌<◌, ◌≤◌, ◌+◌, ◌*◌, ◌/◌, ◌%◌, ◌^◌, ◌==◌, ◌&&◌, ◌||◌, ℕ, zero, suc, Bool, true, false, not, nat_eq, nat_lt, if◌then◌else◌, List, [], ◌∷◌, length, find, filter, slice_index_or, Option, Some, None, IfSome, is_some, codes}
+use Rattle.std.specs.Option.{option_map}
 use Rattle.std.specs.List.{AllByRecursion, list_any, sum_by}
 use Rattle.std.specs.Cmp.Lexicographic.{pointwise}
 use Rattle.fuse_wire.specs.declared.access_mode.AccessMode.{AccessMode}
@@ -13,6 +14,7 @@ use Rattle.fuse_init.specs.declared.profile.Profile.{Profile}
 use Rattle.fuse_init.specs.declared.profile.Profile.TheVariants.{Plain, Everyday}
 use Rattle.fuse_init.specs.Profile.{Terms, terms}
 use Rattle.fuse_rows.specs.Bounds.{handle_limit, number_end, capacity_end, name_limit, target_limit, fuse_root_id, block_bytes}
+use Rattle.fuse_rows.specs.Blocks.{blocks_for, listed_blocks}
 use Rattle.fuse_tree.specs.Modes.{s_ifblk, s_ifchr, s_ifdir, s_ififo, s_iflnk, s_ifreg, s_ifsock, type_unit, type_count}
 use Rattle.fuse_rows.specs.declared.rows.EntryRow.{EntryRow}
 use Rattle.fuse_rows.specs.declared.rows.HandleRow.{HandleRow}
@@ -20,7 +22,7 @@ use Rattle.fuse_rows.specs.declared.origin.Origin.{Origin}
 use Rattle.fuse_rows.specs.Rows.{profile_for, is_entry}
 use Rattle.fuse_tree.specs.Checks.{error_in}
 
--- a node: its size, its links and the directory above are counted, and not kept
+-- a node: its size, its links, its written blocks and the directory above are counted, and not kept
 pub record Node : Type 0 where
   pub number : ℕ
   pub mode : ℕ
@@ -31,6 +33,8 @@ pub record Node : Type 0 where
   pub mtime : Moment
   pub ctime : Moment
   pub content : List ℕ
+  -- which blocks of the content were written, in rising order; none of a plain store, which doesn't count them
+  pub blocks : Option (List ℕ)
 
 -- all that the requests of a kernel can read or change
 pub record State : Type 0 where
@@ -50,9 +54,13 @@ profile_of s = profile_for s.capacity
 abbrev pub terms_of : State → Terms
 terms_of s = terms (profile_of s)
 
--- the root of a new store: an empty directory of its owner
-abbrev pub root_node : Origin → Node
-root_node from = record {
+-- no written block of a new node, in a store of this capacity
+abbrev pub no_blocks : Option ℕ → Option (List ℕ)
+no_blocks capacity = option_map (λ _. []) capacity
+
+-- the root of a new store of this capacity: an empty directory of its owner
+abbrev pub root_node : Option ℕ → Origin → Node
+root_node capacity from = record {
   number = fuse_root_id;
   mode = s_ifdir + 0o755;
   uid = from.owner.uid;
@@ -62,6 +70,7 @@ root_node from = record {
   mtime = from.made;
   ctime = from.made;
   content = [];
+  blocks = no_blocks capacity;
 }
 
 abbrev pub capacity_for : Profile → ℕ → Option ℕ
@@ -71,7 +80,7 @@ capacity_for Everyday capacity = Some capacity
 -- a new store of this profile and origin
 abbrev pub new_store : Profile → ℕ → Origin → State
 new_store p capacity from = record {
-  nodes = root_node from ∷ [];
+  nodes = root_node (capacity_for p capacity) from ∷ [];
   entries = [];
   handles = [];
   settings = None;
@@ -137,13 +146,13 @@ links_of s n =
     else if is_dir n.mode then 2 + subdirs_of s n.number
     else 1
 
--- the blocks that a size takes, written or not
-abbrev pub blocks_for : ℕ → ℕ
-blocks_for size = (size + (block_bytes - 1)) / block_bytes
+-- the written blocks of a node, where they are counted
+abbrev pub block_count_of : Node → ℕ
+block_count_of n = length (listed_blocks n.blocks)
 
 -- the blocks in use
 abbrev pub used_of : State → ℕ
-used_of s = sum_by (λ n. blocks_for (length n.content)) s.nodes
+used_of s = sum_by block_count_of s.nodes
 
 -- ---- names
 
@@ -208,6 +217,18 @@ pub record Carries (t : Terms) (mode : ℕ) (content : List ℕ) : Type 0 where
   pub target : is_link mode ≡ true → IsTarget content
   pub links : is_link mode ≡ true → t.links ≡ true
 
+-- the written blocks of a content rise, each begins before its end, and a byte that lies in none of them is zero
+pub record AreWritten (content blocks : List ℕ) : Type 0 where
+  pub rise : Apart (λ b later. b < later) blocks
+  pub within : AllByRecursion (λ b. b < blocks_for (length content)) blocks
+  pub others : (at : ℕ) → list_any (λ b. b == at / block_bytes) blocks ≡ false → slice_index_or content at 0 ≡ 0
+
+-- written blocks are those of the content, and are there where the profile counts them; the target of a link is written, in one block
+pub record CountsBlocks (t : Terms) (mode : ℕ) (content : List ℕ) (blocks : Option (List ℕ)) : Type 0 where
+  pub counted : is_some blocks ≡ t.counts_written
+  pub written : IfSome blocks (AreWritten content)
+  pub target : is_link mode ≡ true → blocks ≡ Some (0 ∷ [])
+
 -- a node's number is given out, its mode is one, and it has what such a node may have for content
 pub record IsNode (t : Terms) (next_node : ℕ) (n : Node) : Type 0 where
   pub from_one : 1 ≤ n.number
@@ -215,6 +236,7 @@ pub record IsNode (t : Terms) (next_node : ℕ) (n : Node) : Type 0 where
   pub mode : HasMode n.mode n.rdev
   pub content : Carries t n.mode n.content
   pub size : length n.content ≤ t.file_limit
+  pub blocks : CountsBlocks t n.mode n.content n.blocks
 
 -- an entry leads from a directory under the root to a node other than the root
 pub record IsEntry (nodes : List Node) (entries : List EntryRow) (next_cookie : ℕ) (e : EntryRow) : Type 0 where

@@ -3,7 +3,9 @@ use Rattle.std.specs.Prelude.{◌+◌, ◌==◌, ℕ, Bool, not, nat_lt, List, [
 use Rattle.fuse_wire.specs.declared.errno.Errno.{Errno}
 use Rattle.fuse_wire.specs.Errnos.{enoent, enotdir, enospc, enametoolong}
 use Rattle.fuse_answer.specs.Bodies.{entry_bytes}
+use Rattle.std.specs.Option.{option_map}
 use Rattle.fuse_rows.specs.Bounds.{target_limit}
+use Rattle.fuse_rows.specs.Blocks.{with_touched}
 use Rattle.fuse_tree.specs.Modes.{s_iflnk}
 use Rattle.fuse_rows.specs.declared.origin.Origin.{Origin}
 use Rattle.fuse_tree.specs.declared.new_node.NewNode.{NewNode}
@@ -22,8 +24,9 @@ link_mode = s_iflnk + 0o777
 abbrev pub target_tests : List ℕ → List (Errno × Bool)
 target_tests target = (enoent, length target == 0) ∷ (enametoolong, nat_lt target_limit (length target)) ∷ []
 
+-- the block that the target touches is written
 abbrev pub with_target : List ℕ → Node → Node
-with_target target n = record n { content = target }
+with_target target n = record n { content = target; blocks = option_map (with_touched 0 (length target)) n.blocks }
 
 -- the state with a new node of this content under this name in the directory
 abbrev pub with_link : State → NewNode → List ℕ → ℕ → List ℕ → State
@@ -37,11 +40,11 @@ link_body s fresh target dir name =
 abbrev pub link : State → NewNode → List ℕ → ℕ → List ℕ → Done
 link s fresh target dir name = answer (with_link s fresh target dir name) (link_body s fresh target dir name)
 
--- there must be room for a node and for its target
+-- there must be room for a node and for the block of its target
 abbrev pub symlink_checks : State → List ℕ → List ℕ → Node → List Check
 symlink_checks s target name n =
     Where enotdir (not (is_dir n.mode)) ∷ Part (name_tests name) ∷ Part (target_tests target) ∷ place_checks s name n
-    ++ Where enospc (not (has_room (room_of s) 0 (length target))) ∷ []
+    ++ Where enospc (not (has_room (room_of s) 1)) ∷ []
 
 abbrev pub symlink : State → Origin → List ℕ → List ℕ → Node → Done
 symlink s from target name n = refuse_by s (symlink_checks s target name n) (link s (begun_in s n (asked_node from link_mode 0)) target n.number name)

@@ -1,15 +1,17 @@
 -- WRITE and READ (defined by this project).
-use Rattle.std.specs.Prelude.{◌+◌, ◌==◌, ℕ, max, Bool, true, false, not, nat_lt, if◌then◌else◌, List, [], ◌∷◌, length, take, drop, Option, Some, None}
+use Rattle.std.specs.Prelude.{◌+◌, ◌==◌, ℕ, Bool, true, false, not, nat_lt, if◌then◌else◌, List, [], ◌∷◌, length, take, drop, Option, Some, None}
 use Rattle.fuse_wire.specs.declared.access_mode.AccessMode.{AccessMode}
 use Rattle.fuse_wire.specs.declared.access_mode.AccessMode.TheVariants.{ReadOnly, WriteOnly, ReadWrite}
 use Rattle.fuse_wire.specs.Errnos.{ebadf, eisdir, einval, efbig, enospc}
 use Rattle.fuse_wire.specs.declared.moment.Moment.{Moment}
 use Rattle.fuse_request.specs.declared.request.ReadIn.{ReadIn}
 use Rattle.fuse_answer.specs.Bodies.{write_bytes}
+use Rattle.std.specs.Option.{option_map}
 use Rattle.fuse_rows.specs.Bounds.{read_limit}
+use Rattle.fuse_rows.specs.Blocks.{with_touched, listed_blocks}
 use Rattle.fuse_tree.specs.Checks.{Check, Where}
 use Rattle.fuse_tree.specs.State.{State, Node, terms_of, is_dir}
-use Rattle.fuse_tree.specs.Space.{room_of, has_room}
+use Rattle.fuse_tree.specs.Space.{room_of, has_room, newly_written}
 use Rattle.fuse_rows.specs.Rows.{written}
 use Rattle.fuse_tree.specs.Handles.{access_at}
 use Rattle.fuse_tree.specs.Done.{Done, refuse, refuse_by, answer}
@@ -30,8 +32,14 @@ pub record Writing : Type 0 where
   pub payload : List ℕ
   pub now : Moment
 
+-- the blocks that the bytes touch are written, where they are counted
 abbrev pub wrote : ℕ → List ℕ → Moment → Node → Node
-wrote offset payload now n = record n { content = written offset payload n.content; mtime = now; ctime = now }
+wrote offset payload now n = record n {
+  content = written offset payload n.content;
+  blocks = option_map (with_touched offset (length payload)) n.blocks;
+  mtime = now;
+  ctime = now;
+}
 
 -- the state in which the payload stands in this node
 abbrev pub with_bytes : State → ℕ → List ℕ → Moment → ℕ → State
@@ -47,7 +55,7 @@ write s fh w n =
     if not (may_write (access_at s.handles fh n.number)) then refuse s ebadf
     else if length w.payload == 0 then answer s (count_body 0)
     else if nat_lt (terms_of s).file_limit (w.offset + length w.payload) then refuse s efbig
-    else if not (has_room (room_of s) (length n.content) (max (length n.content) (w.offset + length w.payload))) then refuse s enospc
+    else if not (has_room (room_of s) (newly_written w.offset (length w.payload) (listed_blocks n.blocks))) then refuse s enospc
     else answer (with_bytes s w.offset w.payload w.now n.number) (count_body (length w.payload))
 
 -- ---- READ

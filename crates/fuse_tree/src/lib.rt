@@ -7,7 +7,6 @@ mod look;
 mod mode;
 mod new_node;
 mod rename_mode;
-mod space;
 mod terms;
 
 pub use agreement::Agreement;
@@ -18,7 +17,6 @@ pub use mode::{
 };
 pub use new_node::NewNode;
 pub use rename_mode::RenameMode;
-pub use space::blocks_of;
 pub use terms::{
     inherits, max_file, max_nodes, open_flags, removes, sees_requests, serves_further,
 };

@@ -2,7 +2,7 @@ ghost use Rattle.std.specs.Prelude.{◌≡◌, None, IfOk, OnOk, OnErr, Option};
 ghost use Rattle.std.specs.Result.{result_err};
 ghost use Rattle.fuse_rows.specs.Rows.{Rows, row_at, entry_at, entries_after, handle_at};
 ghost use Rattle.fuse_tree.specs.Rowed.{IsRowed};
-ghost use Rattle.fuse_rows.specs.Rows.{bytes_at, children_after, handles_of};
+ghost use Rattle.fuse_rows.specs.Rows.{bytes_at, children_after, handles_of, blocks_between};
 ghost use Rattle.fuse_tree.specs.Keeping.{agreement_at};
 ghost use Rattle.fuse_tree.specs.declared.look.LookFault.{LookFault};
 
@@ -107,6 +107,15 @@ pub trait Look {
         requires { fault self.old ≡ None }
         ensures bytes { is_clean self.new → (rows : Rows) → IsRowed rows → sees self.old rows
             → IfOk result (λ bytes. bytes ≡ bytes_at rows node offset len) }
+        ensures fault { fault self.new ≡ result_err result }
+        ensures looks { OnOk result (looks self.old self.new) }
+        ensures fails { OnErr result (fails self.old self.new) };
+
+    /// How many blocks of the node were written, from the block `from` on and below `to`.
+    fn blocks_between(&mut self, node: u64, from: u64, to: u64) -> Result<u64, LookFault>
+        requires { fault self.old ≡ None }
+        ensures count { is_clean self.new → (rows : Rows) → IsRowed rows → sees self.old rows
+            → IfOk result (λ count. count ≡ blocks_between rows node from to) }
         ensures fault { fault self.new ≡ result_err result }
         ensures looks { OnOk result (looks self.old self.new) }
         ensures fails { OnErr result (fails self.old self.new) };

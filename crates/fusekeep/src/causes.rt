@@ -1,8 +1,11 @@
 //! A second line on standard error: the file that was refused, the cause, as far as it is known, and what
 //! can be done about it.
 
-use crate::snapshot::has_journal;
+use crate::ends::{DataEnd, End};
+use crate::snapshot::{has_journal, read_store};
 use fuse_commands::{Cause, Ending, Run, STANDARD_INPUT, Work};
+use fuse_data_host::SUFFIX;
+use fuse_files::number_of;
 use std::fs::{self, OpenOptions};
 use std::io::Read;
 use std::os::unix::fs::MetadataExt;
@@ -22,7 +25,7 @@ const DAMAGED: &str =
     " is damaged: its rows contradict each other. Go back to a copy, or look at them with sqlite3";
 
 const OTHER_VERSION: &str =
-    " is a store of a version that this program doesn't know: it knows 1 and 2";
+    " is a store of a version that this program doesn't know: it knows 1 to 3";
 
 const CHANGING: &str = " was written by a server each time that it was read: try again";
 
@@ -139,9 +142,6 @@ fn say_unopened_beside(rt: &HostRuntime, file: &str, writes: bool) {
     let Ok(journal) = format!(in rt.alloc(); "{real}-journal") else {
         return;
     };
-    let Ok(log) = format!(in rt.alloc(); "{real}-wal") else {
-        return;
-    };
     if has_journal(rt, journal.as_str()) {
         return say(
             rt,
@@ -149,15 +149,22 @@ fn say_unopened_beside(rt: &HostRuntime, file: &str, writes: bool) {
             " is there: open the file with sqlite3 first",
         );
     }
-    match store_refusal(rt, log.as_str(), writes) {
-        Some(NONE_THERE) if !writes => {}
-        Some(NONE_THERE) => {
-            if let Some(text) = making_refusal(rt, log.as_str()) {
-                say(rt, log.as_str(), text);
-            }
+    for suffix in ["-wal", SUFFIX] {
+        let Ok(path) = format!(in rt.alloc(); "{real}{suffix}") else {
+            return;
+        };
+        if let Some(text) = refusal_beside(rt, path.as_str(), writes) {
+            return say(rt, path.as_str(), text);
         }
-        Some(text) => say(rt, log.as_str(), text),
-        None => {}
+    }
+}
+
+// Why a file beside a store can't be opened, or made where it is missing.
+fn refusal_beside(rt: &HostRuntime, path: &str, writes: bool) -> Option<&'static str> {
+    match store_refusal(rt, path, writes) {
+        Some(NONE_THERE) if writes => making_refusal(rt, path),
+        Some(NONE_THERE) => None,
+        other => other,
     }
 }
 
@@ -171,10 +178,63 @@ fn say_of_store(rt: &HostRuntime, file: &str, writes: bool, ending: Ending) {
         Ending::Sql(Cause::Corrupt) => say(rt, file, CORRUPT),
         Ending::NotAStore => say(rt, file, stranger_text(rt, file)),
         Ending::Version(_) => say(rt, file, OTHER_VERSION),
-        Ending::Damaged => say(rt, file, DAMAGED),
+        Ending::Damaged => say_damaged(rt, file),
         Ending::Busy => say(rt, file, CHANGING),
         Ending::Memory => say_memory(rt, file, writes),
         _ => {}
+    }
+}
+
+// The path of the data file of a store.
+fn data_path(rt: &HostRuntime, file: &str) -> Option<String> {
+    let real = fs::canonicalize(rt, file).ok()?;
+    format!(in rt.alloc(); "{}{SUFFIX}", real.as_str()).ok()
+}
+
+// Whether a file begins as the contents of the store with this number do.
+fn begins_as(rt: &HostRuntime, path: &str, number: u64) -> bool {
+    let Ok(mut file) = fs::open(rt, path) else {
+        return false;
+    };
+    let mut first = [0; 32];
+    if !matches!(file.read(&mut first), Ok(32)) {
+        return false;
+    }
+    let version: u64 = 3;
+    &first[..16] == b"fusekeep content".as_slice()
+        && &first[16..24] == version.to_le_bytes().as_slice()
+        && &first[24..] == number.to_le_bytes().as_slice()
+}
+
+// Why a store is damaged: its data file is missing or of another one, or else its rows.
+fn say_damaged(rt: &HostRuntime, file: &str) {
+    let number = match read_store(rt, file) {
+        Ok(read) => number_of(rt.alloc(), read),
+        Err(_) => None,
+    };
+    if let Some(number) = number
+        && let Some(path) = data_path(rt, file)
+    {
+        if let Some(text) = refusal_of(rt, path.as_str(), false) {
+            return say(rt, path.as_str(), text);
+        }
+        if !begins_as(rt, path.as_str(), number) {
+            return say(rt, path.as_str(), " has contents of another store");
+        }
+    }
+    say(rt, file, DAMAGED)
+}
+
+// The cause of a fault of the store in a file, or in its data file.
+fn say_of_files(rt: &HostRuntime, file: &str, writes: bool, end: End) {
+    let is_disk = matches!(end.ending, Ending::Sql(Cause::NoRoom | Cause::InputOutput));
+    let text = match end.data {
+        DataEnd::NoRoom if is_disk => ": no room left",
+        DataEnd::Failed if is_disk => ": input/output error",
+        _ => return say_of_store(rt, file, writes, end.ending),
+    };
+    if let Some(path) = data_path(rt, file) {
+        say(rt, path.as_str(), text);
     }
 }
 
@@ -210,13 +270,18 @@ impl fmt::Display for MemoryLine<'_> {
         let size = self.size;
         write!(f, "{} and its log have {size} bytes: ", self.path)?;
         if self.writes {
-            write!(f, "a server wants as many, and some 30 MB more")
-        } else {
-            let copies = size.saturating_mul(3);
+            write!(f, "a server wants as many, and some 30 MB more. ")?;
             write!(
                 f,
-                "a look at a copy in memory wants some {copies}, and 10 MB more"
+                "One that migrates an everyday store of version 2 wants two to three times as many"
             )
+        } else {
+            let (copies, older) = (size.saturating_mul(3), size.saturating_mul(8));
+            write!(
+                f,
+                "a look at a copy in memory wants some {copies}, and 10 MB more. "
+            )?;
+            write!(f, "At an everyday store of version 2 it wants some {older}")
         }
     }
 }
@@ -269,16 +334,17 @@ fn say_of_input(rt: &HostRuntime, input: &str, ending: Ending) {
 }
 
 /// Prints the cause of an ending of this run, if it is known.
-pub(crate) fn say_cause(rt: &HostRuntime, run: Run<'_>, ending: Ending) {
+pub(crate) fn say_cause(rt: &HostRuntime, run: Run<'_>, end: End) {
+    let End { ending, data } = end;
     match run {
-        Run::Serve { db, .. } => say_of_store(rt, db, true, ending),
+        Run::Serve { db, .. } => say_of_files(rt, db, true, end),
         Run::Store { file }
         | Run::List { file, .. }
         | Run::Cat { file, .. }
         | Run::Verify { file } => say_of_store(rt, file, false, ending),
         Run::Read { input, work } => {
             if let Work::Replay { db: Some(file), .. } = work {
-                say_of_store(rt, file, true, ending);
+                say_of_files(rt, file, true, End { ending, data });
             }
             say_of_input(rt, input, ending);
         }

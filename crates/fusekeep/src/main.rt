@@ -5,6 +5,8 @@
 mod causes;
 mod companion;
 mod deaths;
+mod ends;
+mod number;
 mod serve;
 mod show;
 mod snapshot;
@@ -13,15 +15,18 @@ mod version;
 use causes::say_cause;
 use clap::Error;
 use clap::error::ErrorKind;
-use companion::{missing_log, remove_log};
+use companion::{look_beside, remove_unused};
+use ends::{DataEnd, End};
 use fuse_commands::{
-    Ending, ProgressReader, Run, STANDARD_INPUT, Work, impossible_store, parse, run_check,
+    Cause, Ending, ProgressReader, Run, STANDARD_INPUT, Work, impossible_store, parse, run_check,
     run_decode, run_dump, unreadable,
 };
+use fuse_data_host::DataStart;
 use fuse_files::{Show, kind_asked, replay_in_memory, replay_store, simulate_store};
 use fuse_store::StoreKind;
-use fuse_store_files::{CrashMemory, StoreFiles};
+use fuse_store_files::{CrashMemory, StoreFiles, StoreLeft};
 use fuse_wire::Moment;
+use number::draw_number;
 use serve::serve_as_asked;
 use show::{show_file, verify_file};
 use sqlite::{Files, Start, Unknown, Wary};
@@ -77,10 +82,10 @@ fn run(rt: &HostRuntime) -> Ending {
     };
     match parse(rt.alloc(), words.as_slice(), VERSION) {
         Ok(asked) => {
-            let ending = run_as_asked(rt, asked);
-            say_ending(rt, ending);
-            say_cause(rt, asked, ending);
-            ending
+            let end = run_as_asked(rt, asked);
+            say_ending(rt, end.ending);
+            say_cause(rt, asked, end);
+            end.ending
         }
         Err(error) => {
             let ending = refuse(rt, error);
@@ -91,15 +96,15 @@ fn run(rt: &HostRuntime) -> Ending {
 }
 
 // Runs a command, if the new store that it asks for is possible.
-fn run_as_asked(rt: &HostRuntime, asked: Run<'_>) -> Ending {
+fn run_as_asked(rt: &HostRuntime, asked: Run<'_>) -> End {
     match kind_asked(asked.new_store()) {
         Some(kind) => run_command(rt, asked, kind),
-        None => refuse(rt, impossible_store(rt.alloc())),
+        None => End::of(refuse(rt, impossible_store(rt.alloc()))),
     }
 }
 
 // Runs a command. A new store is of this kind.
-fn run_command(rt: &HostRuntime, asked: Run<'_>, kind: StoreKind) -> Ending {
+fn run_command(rt: &HostRuntime, asked: Run<'_>, kind: StoreKind) -> End {
     match asked {
         Run::Serve {
             db,
@@ -114,16 +119,16 @@ fn run_command(rt: &HostRuntime, asked: Run<'_>, kind: StoreKind) -> Ending {
                 serve_as_asked(rt, db, Unknown, begin, at, kind)
             }
         }
-        Run::Store { file } => show_file(rt, file, Show::Summary),
-        Run::List { file, path } => show_file(rt, file, Show::Directory(path)),
-        Run::Cat { file, path } => show_file(rt, file, Show::File(path)),
-        Run::Verify { file } => verify_file(rt, file),
+        Run::Store { file } => End::of(show_file(rt, file, Show::Summary)),
+        Run::List { file, path } => End::of(show_file(rt, file, Show::Directory(path))),
+        Run::Cat { file, path } => End::of(show_file(rt, file, Show::File(path))),
+        Run::Verify { file } => End::of(verify_file(rt, file)),
         Run::Read { input, work } => run_on_input(rt, input, work, kind),
     }
 }
 
 // Opens the input and processes it.
-fn run_on_input(rt: &HostRuntime, input: &str, work: Work<'_>, kind: StoreKind) -> Ending {
+fn run_on_input(rt: &HostRuntime, input: &str, work: Work<'_>, kind: StoreKind) -> End {
     if input == STANDARD_INPUT {
         return run_with_progress(rt, rt.reader(), None, work, kind);
     }
@@ -132,7 +137,7 @@ fn run_on_input(rt: &HostRuntime, input: &str, work: Work<'_>, kind: StoreKind) 
             let total = size_of(&file);
             run_with_progress(rt, file, total, work, kind)
         }
-        Err(_) => Ending::PortFailed,
+        Err(_) => End::of(Ending::PortFailed),
     }
 }
 
@@ -161,7 +166,7 @@ fn run_with_progress<R: Read + Drop>(
     total: Option<u64>,
     work: Work<'_>,
     kind: StoreKind,
-) -> Ending {
+) -> End {
     if is_watched(rt, work) {
         run_work(rt, ProgressReader::new(reader, rt, total), work, kind)
     } else {
@@ -170,31 +175,26 @@ fn run_with_progress<R: Read + Drop>(
 }
 
 // Processes the input, with buffered output.
-fn run_work<R: Read + Drop>(
-    rt: &HostRuntime,
-    reader: R,
-    work: Work<'_>,
-    kind: StoreKind,
-) -> Ending {
+fn run_work<R: Read + Drop>(rt: &HostRuntime, reader: R, work: Work<'_>, kind: StoreKind) -> End {
     let alloc = rt.alloc();
     let Ok(mut writer) = BufWriter::new(alloc, io::writer(rt)) else {
-        return Ending::Memory;
+        return End::of(Ending::Memory);
     };
     match work {
-        Work::Dump => run_dump(alloc, reader, &mut writer),
-        Work::Decode => run_decode(alloc, reader, &mut writer),
-        Work::Check => run_check(alloc, reader, &mut writer),
+        Work::Dump => End::of(run_dump(alloc, reader, &mut writer)),
+        Work::Decode => End::of(run_decode(alloc, reader, &mut writer)),
+        Work::Check => End::of(run_check(alloc, reader, &mut writer)),
         Work::Replay { db, at, wary, .. } => {
             let moment = Moment { secs: at, nanos: 0 };
             match db {
-                None => replay_in_memory(alloc, kind, reader, &mut writer, moment),
+                None => End::of(replay_in_memory(alloc, kind, reader, &mut writer, moment)),
                 Some(file) if wary => {
                     replay_on_file(rt, file, Wary, kind, reader, &mut writer, moment)
                 }
                 Some(file) => replay_on_file(rt, file, Unknown, kind, reader, &mut writer, moment),
             }
         }
-        Work::Simulate { .. } => simulate_in_memory(alloc, kind, reader, &mut writer),
+        Work::Simulate { .. } => { End::of(simulate_in_memory(alloc, kind, reader, &mut writer)) }
     }
 }
 
@@ -207,18 +207,24 @@ fn replay_on_file<S: Start, R: Read + Drop, W: Write>(
     reader: R,
     writer: &mut W,
     moment: Moment,
-) -> Ending {
-    let made = missing_log(rt, file);
-    let files = StoreFiles::at(rt, file, start);
-    let (ending, left) = replay_store(rt.alloc(), files, kind, reader, writer, moment);
-    if let Some(left) = left {
-        remove_log(rt, made, ending);
-        let _files = left.into_files();
-    }
-    ending
+) -> End {
+    let Ok(number) = draw_number(rt) else {
+        return End::of(Ending::Sql(Cause::CannotOpen));
+    };
+    let missing = look_beside(rt, file);
+    let files = StoreFiles::at(rt, file, start, DataStart);
+    let new = (kind, number);
+    let (ending, left) = replay_store(rt.alloc(), files, new, reader, writer, moment);
+    let Some(StoreLeft { tables, disk }) = left else {
+        return End::of(ending);
+    };
+    remove_unused(rt, missing, ending);
+    let data = DataEnd::of(&disk);
+    let _files = (tables.into_files(), disk);
+    End { ending, data }
 }
 
-// Runs a script over a new store in two files in memory.
+// Runs a script over a new store in files in memory.
 fn simulate_in_memory<R: Read + Drop, W: Write>(
     alloc: Global,
     kind: StoreKind,
@@ -229,5 +235,6 @@ fn simulate_in_memory<R: Read + Drop, W: Write>(
         log: CrashMemory::new(alloc),
         db: CrashMemory::new(alloc),
     };
-    simulate_store(alloc, files, kind, reader, writer)
+    let disk = CrashMemory::new(alloc);
+    simulate_store(alloc, (files, disk), kind, reader, writer)
 }

@@ -1,10 +1,13 @@
 //! The command `serve`: standard input and standard output are a FUSE device.
-use crate::companion::{missing_log, remove_log};
-use fuse_commands::{Begin, CountLine, Ending, shows_seen};
+use crate::companion::{look_beside, remove_unused};
+use crate::ends::{DataEnd, End};
+use crate::number::draw_number;
+use fuse_commands::{Begin, Cause, CountLine, Ending, shows_seen};
+use fuse_data_host::DataStart;
 use fuse_files::{StoreRun, serve_store};
 use fuse_session::{Clock, DevicePort, Fixed, System};
 use fuse_store::StoreKind;
-use fuse_store_files::StoreFiles;
+use fuse_store_files::{StoreFiles, StoreLeft};
 use fuse_wire::Moment;
 use sqlite::Start;
 
@@ -16,9 +19,9 @@ pub(crate) fn serve_as_asked<S: Start>(
     begin: Option<Begin>,
     at: Option<u64>,
     kind: StoreKind,
-) -> Ending {
+) -> End {
     let Some(begin) = begin else {
-        return Ending::Modes;
+        return End::of(Ending::Modes);
     };
     match at {
         Some(secs) => {
@@ -38,17 +41,20 @@ fn serve_on_files<S: Start, C: Clock>(
     clock: &mut C,
     begin: Begin,
     kind: StoreKind,
-) -> Ending {
+) -> End {
     let alloc = rt.alloc();
-    let made = missing_log(rt, file);
-    let files = StoreFiles::at(rt, file, start);
+    let Ok(number) = draw_number(rt) else {
+        return End::of(Ending::Sql(Cause::CannotOpen));
+    };
+    let missing = look_beside(rt, file);
+    let files = StoreFiles::at(rt, file, start, DataStart);
     let mut port = DevicePort::new(rt.stdin(), rt.stdout());
     let StoreRun {
         ending,
         profile,
         counts,
         left,
-    } = serve_store(alloc, files, &mut port, clock, begin, kind);
+    } = serve_store(alloc, files, &mut port, clock, begin, (kind, number));
     if let Some(profile) = profile
         && let Some(counts) = counts
         && ending.is_of_stream()
@@ -58,9 +64,11 @@ fn serve_on_files<S: Start, C: Clock>(
             shows_seen: shows_seen(profile),
         });
     }
-    if let Some(left) = left {
-        remove_log(rt, made, ending);
-        let _files = left.into_files();
-    }
-    ending
+    let Some(StoreLeft { tables, disk }) = left else {
+        return End::of(ending);
+    };
+    remove_unused(rt, missing, ending);
+    let data = DataEnd::of(&disk);
+    let _files = (tables.into_files(), disk);
+    End { ending, data }
 }

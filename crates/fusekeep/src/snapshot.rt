@@ -2,7 +2,9 @@
 ghost use Rattle.std.specs.Prelude.{◌≡◌, IfOk, IfSome};
 
 use fuse_commands::{Cause, Ending};
+use fuse_data_host::{DataFrom, DataStart, OpenFault, open_to_read};
 use fuse_files::StoreBytes;
+use sqlite_disk::digest_of;
 use std::alloc::Global;
 use std::fs;
 use std::io::{self, Read};
@@ -129,4 +131,44 @@ pub(crate) fn read_store(rt: &HostRuntime, file: &str) -> Result<StoreBytes, End
         return Err(UNOPENED);
     }
     read_at_rest(rt, real.as_str())
+}
+
+/// What a log was, to be compared.
+#[derive(Clone, Copy, PartialEq, Eq)]
+pub(crate) struct LogMark {
+    len: usize,
+    sum: u64,
+}
+
+impl LogMark {
+    /// Of a log with these bytes.
+    pub(crate) fn of(log: &[u8]) -> LogMark {
+        LogMark {
+            len: log.len(),
+            sum: digest_of(0, log),
+        }
+    }
+}
+
+/// What the log of a store is now.
+pub(crate) fn mark_log(rt: &HostRuntime, file: &str) -> Result<LogMark, Ending> {
+    let real = match fs::canonicalize(rt, file) {
+        Ok(real) => real,
+        Err(error) => return Err(refusal(&error)),
+    };
+    let log = read_log(
+        rt,
+        format!(in rt.alloc(); "{}-wal", real.as_str())?.as_str(),
+    )?;
+    Ok(LogMark::of(log.as_slice()))
+}
+
+/// The data file of a store, to be read, where it is there and can be opened, and whether it was
+/// refused.
+pub(crate) fn open_data(rt: &HostRuntime, file: &str) -> (Option<DataFrom<DataStart>>, bool) {
+    match open_to_read(rt, file, DataStart) {
+        Ok(disk) => (Some(disk), false),
+        Err(OpenFault::Missing) => (None, false),
+        Err(_) => (None, true),
+    }
 }

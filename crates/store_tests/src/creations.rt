@@ -1,12 +1,13 @@
 //! A new store over a database that holds something, and the version and the size of a store.
-use crate::stores::number;
+use crate::stores::{NO_VOLUME, number};
 use fuse_init::PlainProfile;
 use fuse_rows::Origin;
-use fuse_store::{StoreFault, TableKeeper};
+use fuse_store::{StoreFault, StoreParts, TableKeeper};
 use fuse_store_tables::{sum_sizes, try_store};
 use fuse_store_tree::size_at_rest;
 use fuse_wire::Moment;
 use sqlite::{Connection, Error, MemStore};
+use sqlite_disk::Memory;
 use std::alloc::Global;
 
 const START: Moment = Moment { secs: 0, nanos: 0 };
@@ -20,12 +21,22 @@ fn after(alloc: Global, statement: &str) -> Result<Connection<MemStore>, StoreFa
     Ok(conn)
 }
 
+type Parts = StoreParts<MemStore, Memory>;
+
+type Plain = TableKeeper<PlainProfile, MemStore, Memory>;
+
+// A new plain store over a database.
+fn create(alloc: Global, conn: Connection<MemStore>) -> Result<Plain, (StoreFault, Parts)> {
+    let parts = StoreParts { conn, disk: None };
+    TableKeeper::create(alloc, parts, NO_VOLUME, Origin::at(START))
+}
+
 // The fault of a new store over a database, and how much is listed there afterwards.
 fn refused(alloc: Global, conn: Connection<MemStore>) -> Result<(StoreFault, i64), StoreFault> {
-    match TableKeeper::<PlainProfile, _>::create(alloc, conn, 0, Origin::at(START)) {
+    match create(alloc, conn) {
         Ok(_) => Err(StoreFault::Damaged),
-        Err((fault, mut conn)) => {
-            let listed = number(&mut conn, TABLES)?;
+        Err((fault, mut parts)) => {
+            let listed = number(&mut parts.conn, TABLES)?;
             Ok((fault, listed))
         }
     }
@@ -40,7 +51,15 @@ fn is_taken(alloc: Global) -> Result<bool, StoreFault> {
 // Over another table, nothing is made.
 fn is_alone(alloc: Global) -> Result<bool, StoreFault> {
     let (fault, listed) = refused(alloc, after(alloc, "CREATE TABLE other (k)")?)?;
-    Ok(matches!(fault, StoreFault::Sql(Error::InvalidQuery)) && listed == 1)
+    Ok(matches!(fault, StoreFault::Sql(_)) && listed == 1)
+}
+
+// Nor over two, beside which the statements of a new store run.
+fn are_alone(alloc: Global) -> Result<bool, StoreFault> {
+    let mut conn = after(alloc, "CREATE TABLE other (k)")?;
+    conn.execute("CREATE TABLE another (k)", &[])?;
+    let (fault, listed) = refused(alloc, conn)?;
+    Ok(matches!(fault, StoreFault::Sql(Error::InvalidQuery)) && listed == 2)
 }
 
 // The statements alone, over nothing.
@@ -54,8 +73,13 @@ fn is_tried(alloc: Global) -> Result<bool, StoreFault> {
 fn a_store_over_another(rt: HostRuntime) -> Result<(), StoreFault> {
     let alloc = rt.alloc();
     assert_eq!(rt;
-        [is_taken(alloc)?, is_alone(alloc)?, is_tried(alloc)?],
-        [true; 3]
+        [
+            is_taken(alloc)?,
+            is_alone(alloc)?,
+            are_alone(alloc)?,
+            is_tried(alloc)?
+        ],
+        [true; 4]
     );
     Ok(())
 }
@@ -63,17 +87,12 @@ fn a_store_over_another(rt: HostRuntime) -> Result<(), StoreFault> {
 // The size of all contents of a new store, and of one whose root has five bytes.
 fn sizes(alloc: Global) -> Result<[u64; 4], StoreFault> {
     let conn = Connection::open_in_memory(alloc)?;
-    let mut keeper = match TableKeeper::<PlainProfile, _>::create(
-        alloc,
-        conn,
-        0,
-        Origin::at(START),
-    ) {
+    let mut keeper = match create(alloc, conn) {
         Ok(keeper) => keeper,
         Err((fault, _)) => return Err(fault),
     };
     let none = keeper.content_size()?;
-    let mut conn = keeper.into_connection();
+    let mut conn = keeper.into_parts().conn;
     conn.execute("UPDATE nodes SET size = 5", &[])?;
     let some = [sum_sizes(&mut conn)?, size_at_rest(&mut conn)?];
     conn.execute("DELETE FROM nodes", &[])?;

@@ -1,10 +1,12 @@
 //! A keeper over the tables: each of its calls.
+use crate::stores::NO_VOLUME;
 use fuse_init::PlainProfile;
 use fuse_request::{InHeader, InitIn, Op, Request};
 use fuse_rows::Origin;
-use fuse_store::{Done, Keeper, Restart, StoreFault, TableKeeper};
+use fuse_store::{Done, Keeper, Restart, StoreFault, StoreParts, TableKeeper};
 use fuse_wire::{Id, Moment};
 use sqlite::{Connection, MemStore};
+use sqlite_disk::Memory;
 use std::alloc::Global;
 
 const START: Moment = Moment { secs: 0, nanos: 0 };
@@ -16,11 +18,12 @@ const AT_1000: Moment = Moment {
 
 const RESEND: u64 = 0x8000_0000_0000_0000;
 
-type MemKeeper = TableKeeper<PlainProfile, MemStore>;
+type MemKeeper = TableKeeper<PlainProfile, MemStore, Memory>;
 
 fn made(alloc: Global) -> Result<MemKeeper, StoreFault> {
     let conn = Connection::open_in_memory(alloc)?;
-    match TableKeeper::create(alloc, conn, 0, Origin::at(START)) {
+    let parts = StoreParts { conn, disk: None };
+    match TableKeeper::create(alloc, parts, NO_VOLUME, Origin::at(START)) {
         Ok(keeper) => Ok(keeper),
         Err((fault, _)) => Err(fault),
     }

@@ -8,9 +8,15 @@ mod blocks;
 #[cfg(test)]
 mod creations;
 #[cfg(test)]
+mod data_stops;
+#[cfg(test)]
 mod disks;
 #[cfg(test)]
+mod everyday;
+#[cfg(test)]
 mod files;
+#[cfg(test)]
+mod group_works;
 #[cfg(test)]
 mod groups;
 #[cfg(test)]
@@ -18,7 +24,11 @@ mod halves;
 #[cfg(test)]
 mod keepers;
 #[cfg(test)]
+mod migrations;
+#[cfg(test)]
 mod observations;
+#[cfg(test)]
+mod pieces;
 #[cfg(test)]
 mod requests;
 #[cfg(test)]

@@ -37,7 +37,7 @@ const F_TO_G: Op<'static> = Op::Rename {
     new_name: b"g",
 };
 
-fn request(header: InHeader, op: Op<'static>) -> Timed {
+fn request(header: InHeader, op: Op<'_>) -> (Request<'_>, Moment) {
     let request = Request {
         header,
         op,
@@ -46,8 +46,8 @@ fn request(header: InHeader, op: Op<'static>) -> Timed {
     (request, AT_1000)
 }
 
-// A request on a node, with the uid, gid and pid of the cases.
-fn asked(unique: u64, nodeid: u64, op: Op<'static>) -> Timed {
+/// A request on a node, with the uid, gid and pid of the cases.
+pub(crate) fn asked(unique: u64, nodeid: u64, op: Op<'_>) -> (Request<'_>, Moment) {
     let header = InHeader {
         unique,
         nodeid,
@@ -58,8 +58,8 @@ fn asked(unique: u64, nodeid: u64, op: Op<'static>) -> Timed {
     request(header, op)
 }
 
-// The INIT of case init-agreed, with uid, gid and pid 0.
-fn init(unique: u64) -> Timed {
+/// The INIT of case init-agreed, with uid, gid and pid 0.
+pub(crate) fn init(unique: u64) -> Timed {
     let header = InHeader {
         unique,
         nodeid: 0,
@@ -70,7 +70,8 @@ fn init(unique: u64) -> Timed {
     request(header, INIT)
 }
 
-fn mknod() -> Op<'static> {
+/// A regular file `f`.
+pub(crate) fn mknod() -> Op<'static> {
     Op::Mknod {
         mode: 0o100_644,
         rdev: 0,
@@ -87,7 +88,8 @@ fn mkdir() -> Op<'static> {
     }
 }
 
-fn open() -> Op<'static> {
+/// To read and to write.
+pub(crate) fn open() -> Op<'static> {
     Op::OpenFile {
         flags: 2,
         open_flags: 0,
@@ -116,7 +118,8 @@ fn read() -> Op<'static> {
     })
 }
 
-fn release() -> Op<'static> {
+/// Of the first open.
+pub(crate) fn release() -> Op<'static> {
     Op::Release(ReleaseIn {
         fh: 1,
         flags: 2,

@@ -1,21 +1,28 @@
 //! Everyday stores: their room, and the nodes that go.
 ghost use Rattle.std.specs.Prelude.{◌<◌, ◌≤◌, ◌^◌, IfSome};
-ghost use Rattle.fuse_rows.specs.Bounds.{capacity_end, file_limit};
+ghost use Rattle.fuse_rows.specs.Bounds.{file_limit};
 ghost use Rattle.fuse_rows.specs.Columns.{FitsNode, FitsHandle};
+ghost use Rattle.fuse_store_tables.specs.Making.{IsVolume};
 
 use crate::stores::number;
 use fuse_init::Profile;
 use fuse_keeper::StoreFault;
 use fuse_rows::{HandleRow, NodeRow, Origin, Owner};
 use fuse_store_tables::{
-    NEXT_NODE, USED, begin_mount, delete_node, insert_handle, insert_node, make_store,
-    select_handles_of, set_up, update_counter,
+    NEXT_NODE, NothingMore, USED, Volume, begin_mount, delete_node, insert_handle, insert_node,
+    make_store, select_handles_of, set_up, update_counter,
 };
 use fuse_wire::{AccessMode, Moment};
 use sqlite::{Connection, MemStore};
 use std::alloc::Global;
 
 const START: Moment = Moment { secs: 0, nanos: 0 };
+
+// The room of 30 blocks.
+const OF_30: Volume = Volume {
+    capacity: 30,
+    number: 7,
+};
 
 // The rows of the room, as one number.
 const ROOM: &str =
@@ -25,25 +32,25 @@ const NODES: &str = "SELECT count(*) FROM nodes";
 
 fn made_for(
     alloc: Global,
-    room: Option<u64>,
+    room: Option<Volume>,
     owner: Owner,
 ) -> Result<Connection<MemStore>, StoreFault>
-    requires { IfSome room (λ capacity. capacity < capacity_end) }
+    requires { IfSome room IsVolume }
 {
     let mut conn = Connection::open_in_memory(alloc)?;
     make_store(&mut conn, room, Origin { owner, made: START })?;
     Ok(conn)
 }
 
-fn made(alloc: Global, room: Option<u64>) -> Result<Connection<MemStore>, StoreFault>
-    requires { IfSome room (λ capacity. capacity < capacity_end) }
+fn made(alloc: Global, room: Option<Volume>) -> Result<Connection<MemStore>, StoreFault>
+    requires { IfSome room IsVolume }
 {
     made_for(alloc, room, Owner::SUPERUSER)
 }
 
 // The owner of the root of a new store, as one number.
 fn owner_in(alloc: Global, owner: Owner) -> Result<i64, StoreFault> {
-    let mut conn = made_for(alloc, Some(30), owner)?;
+    let mut conn = made_for(alloc, Some(OF_30), owner)?;
     Ok(number(&mut conn, "SELECT 10000000000 * uid + gid FROM nodes")?)
 }
 
@@ -58,11 +65,11 @@ fn an_owner(rt: HostRuntime) -> Result<(), StoreFault> {
 }
 
 // The profile and the room of a new store.
-fn opened(alloc: Global, room: Option<u64>) -> Result<(bool, i64), StoreFault>
-    requires { IfSome room (λ capacity. capacity < capacity_end) }
+fn opened(alloc: Global, room: Option<Volume>) -> Result<(bool, i64), StoreFault>
+    requires { IfSome room IsVolume }
 {
     let mut conn = made(alloc, room)?;
-    let is_everyday = match set_up(&mut conn, None)? {
+    let is_everyday = match set_up(alloc, &mut conn, None, None, &mut NothingMore)? {
         Profile::Plain => false,
         Profile::Everyday => true,
     };
@@ -72,15 +79,26 @@ fn opened(alloc: Global, room: Option<u64>) -> Result<(bool, i64), StoreFault>
 #[test]
 fn a_room(rt: HostRuntime) -> Result<(), StoreFault> {
     assert_eq!(rt; opened(rt.alloc(), None)?, (false, 0));
-    assert_eq!(rt; opened(rt.alloc(), Some(30))?, (true, 23000));
+    assert_eq!(rt; opened(rt.alloc(), Some(OF_30))?, (true, 23000));
     Ok(())
+}
+
+// What an everyday store of version 2 has beside a plain one.
+const ROOM_OF_SECOND: &str = "INSERT INTO meta (k, v) VALUES (12, 2), (13, 30), (14, 0)";
+
+// An opening of an everyday store of version 2 after a change of `meta`.
+fn reopened_second(alloc: Global, change: &str) -> Result<bool, StoreFault> {
+    let mut conn = made(alloc, None)?;
+    conn.execute(ROOM_OF_SECOND, &[])?;
+    conn.execute(change, &[])?;
+    Ok(set_up(alloc, &mut conn, None, Some(7), &mut NothingMore).is_ok())
 }
 
 // An opening after a change of `meta`.
 fn reopened(alloc: Global, change: &str) -> Result<bool, StoreFault> {
-    let mut conn = made(alloc, Some(30))?;
+    let mut conn = made(alloc, Some(OF_30))?;
     conn.execute(change, &[])?;
-    Ok(set_up(&mut conn, None).is_ok())
+    Ok(set_up(alloc, &mut conn, None, None, &mut NothingMore).is_ok())
 }
 
 #[test]
@@ -92,13 +110,29 @@ fn a_damaged_room(rt: HostRuntime) -> Result<(), StoreFault> {
     assert!(rt; !reopened(alloc, "DELETE FROM meta WHERE k = 12")?);
     assert!(rt; !reopened(alloc, "DELETE FROM meta WHERE k = 13")?);
     assert!(rt; !reopened(alloc, "DELETE FROM meta WHERE k > 12")?);
-    assert!(rt; reopened(alloc, "DELETE FROM meta WHERE k > 11")?);
+    assert!(rt; !reopened(alloc, "DELETE FROM meta WHERE k > 11")?);
+    assert!(rt; !reopened(alloc, "DELETE FROM meta WHERE k = 15")?);
     Ok(())
 }
 
-fn node(number: u64, size: u64) -> NodeRow
+// Without the rows of its room it is a plain store.
+#[test]
+fn a_damaged_room_of_version_two(rt: HostRuntime) -> Result<(), StoreFault> {
+    let alloc = rt.alloc();
+    assert!(rt; reopened_second(alloc, "UPDATE meta SET v = 30 WHERE k = 14")?);
+    assert!(rt; !reopened_second(alloc, "UPDATE meta SET v = 31 WHERE k = 14")?);
+    assert!(rt; !reopened_second(alloc, "UPDATE meta SET v = 3 WHERE k = 12")?);
+    assert!(rt; !reopened_second(alloc, "DELETE FROM meta WHERE k = 12")?);
+    assert!(rt; !reopened_second(alloc, "DELETE FROM meta WHERE k = 13")?);
+    assert!(rt; !reopened_second(alloc, "DELETE FROM meta WHERE k > 12")?);
+    assert!(rt; reopened_second(alloc, "DELETE FROM meta WHERE k > 11")?);
+    Ok(())
+}
+
+fn node(number: u64, size: u64, written: u64) -> NodeRow
     requires number { number < 2 ^ 63 }
     requires size { size ≤ file_limit }
+    requires written { written < 2 ^ 63 }
     ensures { FitsNode result }
 {
     NodeRow {
@@ -113,15 +147,16 @@ fn node(number: u64, size: u64) -> NodeRow
         ctime: START,
         up: 0,
         subdirs: 0,
+        written: Some(written),
     }
 }
 
-// A store with two nodes without a name, of 2 blocks and of none, in a transaction.
+// A store with two nodes without a name, in a transaction: of five blocks two are written, and none.
 fn begun(alloc: Global) -> Result<Connection<MemStore>, StoreFault> {
-    let mut conn = made(alloc, Some(30))?;
+    let mut conn = made(alloc, Some(OF_30))?;
     fuse_store_tables::begin(&mut conn)?;
-    insert_node(&mut conn, &node(2, 4097))?;
-    insert_node(&mut conn, &node(3, 0))?;
+    insert_node(&mut conn, &node(2, 20000, 2))?;
+    insert_node(&mut conn, &node(3, 0, 0))?;
     update_counter(&mut conn, NEXT_NODE, 4)?;
     update_counter(&mut conn, USED, 5)?;
     Ok(conn)

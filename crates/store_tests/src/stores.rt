@@ -4,9 +4,17 @@ use crate::observations::observe;
 use crate::requests::{START, messages, part};
 use fuse_init::PlainProfile;
 use fuse_rows::Origin;
-use fuse_store::{Keeper, PlainKeeper, PlainTree, StoreFault, TableKeeper};
+use fuse_store::{Keeper, PlainKeeper, PlainTree, StoreFault, StoreParts, TableKeeper};
+use fuse_store_tables::Volume;
 use sqlite::{Alter, Connection, Error};
+use sqlite_disk::Memory;
 use std::alloc::Global;
+
+/// That of a plain store, which has no room.
+pub(crate) const NO_VOLUME: Volume = Volume {
+    capacity: 0,
+    number: 0,
+};
 
 /// The version of a store, 0 where there is none, the number of messages that were performed, and
 /// whether the next mount began then.
@@ -125,15 +133,19 @@ pub(crate) fn shape_of(version: i64) -> [i64; 4] {
     }
 }
 
+// The keeper of a plain store, which has no data file.
+type Plain<S> = TableKeeper<PlainProfile, S, Memory>;
+
 // The keeper of a database, or the fault and the database.
-type Started<S> = Result<TableKeeper<PlainProfile, S>, (StoreFault, Connection<S>)>;
+type Started<S> = Result<Plain<S>, (StoreFault, StoreParts<S, Memory>)>;
 
 // The keeper of a store of this version, which is made where there is none.
 fn start<S: Alter + Drop>(alloc: Global, conn: Connection<S>, version: i64) -> Started<S> {
+    let parts = StoreParts { conn, disk: None };
     if version == 0 {
-        TableKeeper::create(alloc, conn, 0, Origin::at(START))
+        TableKeeper::create(alloc, parts, NO_VOLUME, Origin::at(START))
     } else {
-        TableKeeper::open(alloc, conn)
+        TableKeeper::open(alloc, parts, None)
     }
 }
 
@@ -177,17 +189,17 @@ fn go_on<K: Keeper>(keeper: &mut K, work: Work, first: usize) -> Result<usize, S
 // How many steps were done, and the database.
 type Ran<S> = Result<(usize, Connection<S>), StoreFault>;
 
-fn run_on<S: Alter + Drop>(mut keeper: TableKeeper<PlainProfile, S>, work: Work) -> Ran<S> {
+fn run_on<S: Alter + Drop>(mut keeper: Plain<S>, work: Work) -> Ran<S> {
     let opening = if work.first.version == 2 { 0 } else { 1 };
     let steps = go_on(&mut keeper, work, opening)?;
-    Ok((steps, keeper.into_connection()))
+    Ok((steps, keeper.into_parts().conn))
 }
 
 /// Does the work over a database, up to a stop. Making a store is a step, and so is a migration.
 pub(crate) fn run<S: Alter + Drop>(alloc: Global, conn: Connection<S>, work: Work) -> Ran<S> {
     match start(alloc, conn, work.first.version) {
         Ok(keeper) => run_on(keeper, work),
-        Err((StoreFault::Sql(_), conn)) => Ok((0, conn)),
+        Err((StoreFault::Sql(_), parts)) => Ok((0, parts.conn)),
         Err((fault, _)) => Err(fault),
     }
 }

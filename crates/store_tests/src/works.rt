@@ -29,7 +29,12 @@ fn is_right(tally: &Tally, least: [u64; 3]) -> bool {
 }
 
 // Whether all is right where this disk stops. Prints the tally.
-fn stopped(rt: &HostRuntime, work: Work, which: Which, least: [u64; 3]) -> Result<bool, Fail> {
+pub(crate) fn stopped(
+    rt: &HostRuntime,
+    work: Work,
+    which: Which,
+    least: [u64; 3],
+) -> Result<bool, Fail> {
     let tally = stop_at_each(rt.alloc(), work, which)?;
     println!(rt; "{which:?}: {tally:?}")?;
     Ok(is_right(&tally, least))
@@ -78,43 +83,8 @@ fn a_store_is_migrated_file(rt: HostRuntime) -> Result<(), Fail> {
 }
 
 #[test]
-fn the_run_in_one_group_log(rt: HostRuntime) -> Result<(), Fail> {
-    let work = Work::at_once(State::second(0), State::second(MESSAGES));
-    assert!(rt; stopped(&rt, work, Which::Log, [240, 20, 1])?);
-    Ok(())
-}
-
-#[test]
-fn the_run_in_one_group_file(rt: HostRuntime) -> Result<(), Fail> {
-    let work = Work::at_once(State::second(0), State::second(MESSAGES));
-    assert!(rt; stopped(&rt, work, Which::File, [28, 11, 0])?);
-    Ok(())
-}
-
-#[test]
-fn the_first_groups_log(rt: HostRuntime) -> Result<(), Fail> {
-    let work = Work::in_groups(State::second(0), State::second(4));
-    assert!(rt; stopped(&rt, work, Which::Log, [240, 20, 4])?);
-    Ok(())
-}
-
-#[test]
 fn the_first_groups_file(rt: HostRuntime) -> Result<(), Fail> {
     let work = Work::in_groups(State::second(0), State::second(4));
     assert!(rt; stopped(&rt, work, Which::File, [50, 20, 0])?);
-    Ok(())
-}
-
-#[test]
-fn the_last_groups_log(rt: HostRuntime) -> Result<(), Fail> {
-    let work = Work::in_groups(State::second(4), State::second(MESSAGES));
-    assert!(rt; stopped(&rt, work, Which::Log, [130, 18, 4])?);
-    Ok(())
-}
-
-#[test]
-fn the_last_groups_file(rt: HostRuntime) -> Result<(), Fail> {
-    let work = Work::in_groups(State::second(4), State::second(MESSAGES));
-    assert!(rt; stopped(&rt, work, Which::File, [80, 20, 0])?);
     Ok(())
 }

@@ -5,6 +5,7 @@ static long take_line(long number, ...);
 #include "../../../mount/gather/show.c"
 #undef syscall
 #include "../../../mount/gather/work.c"
+#include "../../../mount/gather/hold.c"
 
 static long take_line(long number, ...) {
   (void)number;

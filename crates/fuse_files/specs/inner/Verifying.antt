@@ -1,10 +1,8 @@
 -- How a store is verified (defined by this project).
 use Rattle.std.specs.Prelude.{◌≡◌, ℕ, List, Option}
 use Rattle.sqlite.specs.State.{State}
+use Rattle.fuse_store_tree.specs.StoreState.{StoreState}
 use Rattle.fuse_keeper.specs.declared.fault.StoreFault.{StoreFault}
-use Rattle.fuse_tree.specs.Rowed.{rowed}
-use Rattle.fuse_store_tables.specs.Moves.{InsideAs}
-use Rattle.fuse_store_tree.specs.Holding.{Holding, HeldFor}
 use Rattle.fuse_store.specs.Opening.{Stored, WasFor}
 use Rattle.fuse_show.specs.declared.tally.Tally.{Tally}
 use Rattle.fuse_show.specs.declared.verify.VerifyFault.{VerifyFault}
@@ -15,13 +13,7 @@ use Rattle.fuse_commands.specs.declared.ending.Ending.{Ending}
 use Rattle.fuse_commands.specs.declared.ending.Ending.TheVariants as ending
 use Rattle.fuse_files.specs.StoreShown.{SaysNothing}
 use Rattle.fuse_files.specs.StoreVerified.{rows_begun, IsStoreEnding, Verdicts}
-use Rattle.fuse_files.specs.inner.Showing.{showing_ending}
-
--- a transaction is open over the rows of this store, once a mount begins of it
-pub record SeesBegun (z : Stored) (s : State) : Type 0 where
-  pub holding : Holding
-  pub inside : InsideAs (HeldFor holding) s
-  pub same : rowed holding.tree ≡ rows_begun z
+use Rattle.fuse_files.specs.inner.Showing.{showing_ending, WasInside}
 
 -- the ending of a walk with this fault, over a look that has this one
 abbrev pub walk_ending : Option StoreFault → VerifyFault → Ending
@@ -31,12 +23,22 @@ walk_ending fault walk.Memory = ending.Memory
 walk_ending fault walk.Output = ending.PortFailed
 
 -- an ending without a verdict says nothing of the store of a database
-abbrev pub IsUnsaidOver : State → Ending → Type 0
+abbrev pub IsUnsaidOver : StoreState → Ending → Type 0
 IsUnsaidOver s e = IsStoreEnding e × ((z : Stored) → WasFor z s → SaysNothing e)
 
-abbrev pub IsCountedOver : State → Tally → Type 0
+abbrev pub IsCountedOver : StoreState → Tally → Type 0
 IsCountedOver s t = (z : Stored) → WasFor z s → Counts (rows_begun z).counters t
 
 -- the same of a database
-abbrev pub VerifiesOver : State → Ending → Way → List ℕ → Type 0
+abbrev pub VerifiesOver : StoreState → Ending → Way → List ℕ → Type 0
 VerifiesOver s e = Verdicts (IsUnsaidOver s) (IsCountedOver s) e
+
+-- the same where its contents lie in its tables
+abbrev pub IsUnsaidInside : State → Ending → Type 0
+IsUnsaidInside s e = IsStoreEnding e × ((z : Stored) → WasInside z s → SaysNothing e)
+
+abbrev pub IsCountedInside : State → Tally → Type 0
+IsCountedInside s t = (z : Stored) → WasInside z s → Counts (rows_begun z).counters t
+
+abbrev pub VerifiesInside : State → Ending → Way → List ℕ → Type 0
+VerifiesInside s e = Verdicts (IsUnsaidInside s) (IsCountedInside s) e

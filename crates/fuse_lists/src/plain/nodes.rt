@@ -1,5 +1,6 @@
-use fuse_rows::{Child, Chunks, EntryRow, Full, NodeRow, Origin, ROOT_ID};
-use fuse_tree::{S_IFDIR, blocks_of};
+use fuse_init::Profile;
+use fuse_rows::{Child, EntryRow, FileBody, Full, NodeRow, Origin, ROOT_ID};
+use fuse_tree::S_IFDIR;
 use fuse_wire::{ByteList, Memory};
 use std::alloc::Global;
 use std::marker::Model;
@@ -26,7 +27,9 @@ impl NodeList {
     ghost use Rattle.std.specs.Prelude.{◌≡◌, ◌==◌, IfOk, OnOk, OnErr, [], length, map, filter};
     ghost use Rattle.std.specs.Prelude.{◌-◌, not, find, take, drop};
     ghost use Rattle.std.specs.Option.{option_map};
-    ghost use Rattle.fuse_rows.specs.Rows.{put_node, at_node, written, sized, content_of};
+    ghost use Rattle.fuse_rows.specs.Rows.{put_node, at_node, body_written, body_sized};
+    ghost use Rattle.fuse_rows.specs.Rows.{content_of, written_blocks_of};
+    ghost use Rattle.fuse_rows.specs.Blocks.{count_between};
     ghost use Rattle.fuse_tree.specs.Clearing.{is_named_row, blocks_freed};
 
     pub(super) fn new(alloc: Global) -> NodeList
@@ -91,6 +94,13 @@ impl NodeList {
         bytes_in(alloc, self.nodes.as_slice(), number, offset, len)
     }
 
+    pub(super) fn blocks_between(&self, number: u64, from: u64, to: u64) -> u64
+        ensures { result ≡ count_between from to
+            (written_blocks_of (find (λ f. f.row.node == number) self.now)) }
+    {
+        blocks_of_node(self.nodes.as_slice(), number, from, to)
+    }
+
     pub(super) fn put(&mut self, alloc: Global, row: NodeRow) -> Result<(), Memory>
         ensures ok { OnOk result (self.new ≡ put_node row self.old) }
         ensures err { OnErr result (self.new ≡ self.old) }
@@ -100,7 +110,7 @@ impl NodeList {
             full.row = row;
             return Ok(());
         }
-        let content = Chunks::new(alloc);
+        let content = FileBody::new(alloc, row.written);
         self.nodes.push(Full { row, content })?;
         Ok(())
     }
@@ -112,7 +122,7 @@ impl NodeList {
         offset: u64,
         bytes: &[u8],
     ) -> Result<(), Memory>
-        ensures ok { OnOk result (self.new ≡ map (at_node number (written offset bytes.now))
+        ensures ok { OnOk result (self.new ≡ map (at_node number (body_written offset bytes.now))
             self.old) }
         ensures err { OnErr result (self.new ≡ self.old) }
     {
@@ -124,7 +134,7 @@ impl NodeList {
     }
 
     pub(super) fn set_size(&mut self, alloc: Global, number: u64, size: u64) -> Result<(), Memory>
-        ensures ok { OnOk result (self.new ≡ map (at_node number (sized size)) self.old) }
+        ensures ok { OnOk result (self.new ≡ map (at_node number (body_sized size)) self.old) }
         ensures err { OnErr result (self.new ≡ self.old) }
     {
         let Some(place) = place_in(self.nodes.as_slice(), number) else {
@@ -162,16 +172,21 @@ impl NodeList {
 
 ghost use Rattle.std.specs.Prelude.{◌≡◌, ◌==◌, ◌-◌, ℕ, IfOk, find, take, drop, position};
 ghost use Rattle.std.specs.Option.{option_map};
-ghost use Rattle.fuse_init.specs.declared.profile.Profile.{Profile};
-ghost use Rattle.fuse_tree.specs.State.{root_node, new_store};
+ghost use Rattle.fuse_tree.specs.State.{root_node, new_store, capacity_for};
 ghost use Rattle.fuse_tree.specs.Clearing.{blocks_freed};
-ghost use Rattle.fuse_rows.specs.Rows.{content_of};
+ghost use Rattle.fuse_rows.specs.Rows.{content_of, written_blocks_of};
+ghost use Rattle.fuse_rows.specs.Blocks.{count_between};
 ghost use Rattle.fuse_tree.specs.Rowed.{row_of};
 
 /// The root of a new store.
-pub(super) fn root_row(from: Origin) -> NodeRow
-    ensures { (p : Profile) (capacity : ℕ) → result ≡ row_of (new_store p capacity from) (root_node from) }
+pub(super) fn root_row(profile: Profile, from: Origin) -> NodeRow
+    ensures { (capacity : ℕ) → result ≡ row_of (new_store profile capacity from)
+        (root_node (capacity_for profile capacity) from) }
 {
+    let written = match profile {
+        Profile::Plain => None,
+        Profile::Everyday => Some(0),
+    };
     NodeRow {
         node: ROOT_ID,
         mode: S_IFDIR + 0o755,
@@ -184,6 +199,7 @@ pub(super) fn root_row(from: Origin) -> NodeRow
         ctime: from.made,
         up: 0,
         subdirs: 0,
+        written,
     }
 }
 
@@ -222,13 +238,26 @@ fn bytes_in(
     Ok(ByteList::from_vec(Vec::new(alloc)))
 }
 
+// How many blocks of this node were written, from one on and below another.
+fn blocks_of_node(nodes: &[Full], number: u64, from: u64, to: u64) -> u64
+    ensures { result ≡ count_between from to
+        (written_blocks_of (find (λ f. f.row.node == number) nodes.now)) }
+{
+    for full in nodes {
+        if full.row.node == number {
+            return full.content.blocks_between(from, to);
+        }
+    }
+    0
+}
+
 fn left_in(nodes: &[Full], used: u64) -> u64
     ensures { result ≡ used - blocks_freed nodes.now }
 {
     let mut left = used;
     for full in nodes {
         if !full.row.is_named() {
-            left = left.saturating_sub(blocks_of(full.row.size));
+            left = left.saturating_sub(full.row.written.unwrap_or(0));
         }
     }
     left

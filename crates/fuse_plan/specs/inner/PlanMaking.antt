@@ -1,6 +1,7 @@
 -- The plans of MKNOD and MKDIR over the rows (defined by this project), in the order of their checks.
 -- Not part of what is trusted: neither `done` nor the public clauses of `plan` speak of it.
 use Rattle.std.specs.Prelude.{◌<◌, ◌+◌, ℕ, not, if◌then◌else◌, List, [], ◌∷◌, is_some}
+use Rattle.std.specs.Option.{option_map}
 use Rattle.fuse_wire.specs.Errnos.{enoent, eexist, enotdir, einval, enospc}
 use Rattle.fuse_rows.specs.Bounds.{node_limit, number_end}
 use Rattle.fuse_init.specs.Profile.{terms}
@@ -34,6 +35,7 @@ new_row counters fresh up = record {
   ctime = fresh.made;
   up = up;
   subdirs = 0;
+  written = option_map (λ _. 0) counters.room;
 }
 
 -- a directory's row when this node is made in it

@@ -11,12 +11,13 @@ use Rattle.fuse_rows.specs.declared.rows.Room.{Room}
 use Rattle.fuse_rows.specs.declared.rows.Counters.{Counters as CountersRow}
 use Rattle.fuse_rows.specs.declared.rows.Change.{Change}
 use Rattle.fuse_rows.specs.declared.rows.Change.TheVariants as changes
-use Rattle.fuse_tree.specs.State.{blocks_for, is_used}
+use Rattle.fuse_rows.specs.Blocks.{how_many}
+use Rattle.fuse_tree.specs.State.{is_used}
 use Rattle.fuse_rows.specs.Rows.{Rows, row_is_named, handles_of}
 
 -- the room when the node of this row has gone
 abbrev pub room_without : NodeRow → Room → Room
-room_without row room = record room { used = room.used - blocks_for row.size }
+room_without row room = record room { used = room.used - how_many row.written }
 
 abbrev pub counters_less : NodeRow → CountersRow → CountersRow
 counters_less row counters = record counters { nodes = counters.nodes - 1; room = option_map (room_without row) counters.room }

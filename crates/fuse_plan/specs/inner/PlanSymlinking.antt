@@ -1,6 +1,7 @@
 -- The plan of SYMLINK over the rows (defined by this project), in the order of its checks.
 -- Not part of what is trusted: neither `done` nor the public clauses of `plan` speak of it.
-use Rattle.std.specs.Prelude.{ℕ, not, List, [], ◌∷◌, ◌++◌, length}
+use Rattle.std.specs.Prelude.{◌+◌, ℕ, not, List, [], ◌∷◌, ◌++◌, length}
+use Rattle.std.specs.Option.{option_map}
 use Rattle.fuse_wire.specs.Errnos.{enotdir, enospc}
 use Rattle.fuse_tree.specs.declared.agreement.Agreement.{Agreement}
 use Rattle.fuse_tree.specs.Keeping.{valid_of}
@@ -17,17 +18,17 @@ use Rattle.fuse_rows.specs.Rows.{Rows}
 use Rattle.fuse_tree.specs.Space.{has_room}
 use Rattle.fuse_tree.specs.Symlinking.{link_mode, target_tests}
 use Rattle.fuse_tree.specs.Making.{asked_node}
-use Rattle.fuse_plan.specs.inner.PlanSpace.{counters_sized}
+use Rattle.fuse_plan.specs.inner.PlanSpace.{counters_used}
 use Rattle.fuse_plan.specs.inner.PlanMaking.{new_row, dir_row_with, new_entry_row, counters_after, row_place_checks, node_begun_at}
 use Rattle.fuse_plan.specs.inner.Reading.{refused_by, entry_body}
 
 abbrev pub link_row : CountersRow → NewNode → ℕ → ℕ → NodeRow
-link_row counters fresh size up = record (new_row counters fresh up) { size = size }
+link_row counters fresh size up = record (new_row counters fresh up) { size = size; written = option_map (λ _. 1) counters.room }
 
 abbrev pub link_changes : CountersRow → NewNode → List ℕ → List ℕ → NodeRow → List Change
 link_changes counters fresh target name row =
     changes.Node (dir_row_with fresh row) ∷ changes.Node (link_row counters fresh (length target) row.node) ∷ changes.Entry (new_entry_row counters row.node name)
-    ∷ changes.Written counters.next_node 0 target ∷ changes.Counters (counters_sized 0 (length target) (counters_after counters)) ∷ []
+    ∷ changes.Written counters.next_node 0 target ∷ changes.Counters (counters_used (λ used. used + 1) (counters_after counters)) ∷ []
 
 abbrev pub plan_new_link : ℕ → CountersRow → NewNode → List ℕ → List ℕ → NodeRow → Planned
 plan_new_link valid counters fresh target name row = record {
@@ -35,9 +36,9 @@ plan_new_link valid counters fresh target name row = record {
   changes = link_changes counters fresh target name row;
 }
 
--- there must be room for a node and for its target
+-- there must be room for a node and for the block of its target
 abbrev pub row_link_checks : Agreement → List ℕ → List ℕ → NodeRow → Rows → List Check
-row_link_checks a target name row rows = row_place_checks a name row rows ++ Where enospc (not (has_room rows.counters.room 0 (length target))) ∷ []
+row_link_checks a target name row rows = row_place_checks a name row rows ++ Where enospc (not (has_room rows.counters.room 1)) ∷ []
 
 abbrev pub row_symlink_checks : Agreement → List ℕ → List ℕ → NodeRow → Rows → List Check
 row_symlink_checks a target name row rows =

@@ -1,6 +1,7 @@
 -- The plans of WRITE and READ over the rows (defined by this project), in the order of their checks.
 -- Not part of what is trusted: neither `done` nor the public clauses of `plan` speak of it.
 use Rattle.std.specs.Prelude.{◌+◌, ◌==◌, ℕ, max, not, nat_lt, if◌then◌else◌, List, [], ◌∷◌, length, Option}
+use Rattle.std.specs.Option.{option_map}
 use Rattle.fuse_wire.specs.Errnos.{ebadf, eisdir, einval, efbig, enospc}
 use Rattle.fuse_wire.specs.declared.moment.Moment.{Moment}
 use Rattle.fuse_request.specs.declared.request.ReadIn.{ReadIn}
@@ -18,36 +19,34 @@ use Rattle.fuse_rows.specs.Rows.{Rows, bytes_at}
 use Rattle.fuse_tree.specs.Handles.{access_at}
 use Rattle.fuse_tree.specs.Writing.{Writing, may_write, may_read, count_body}
 use Rattle.fuse_tree.specs.Space.{has_room}
-use Rattle.fuse_plan.specs.inner.PlanSpace.{counters_for, room_in, room_changes}
+use Rattle.fuse_plan.specs.inner.PlanSpace.{counters_for, room_in, room_changes, newly_in}
 use Rattle.fuse_plan.specs.inner.Reading.{refused, refused_by, told}
 
 -- ---- WRITE
 
--- a file's row when bytes that end here are written
-abbrev pub written_row : ℕ → Moment → NodeRow → NodeRow
-written_row end now row = record row { size = max row.size end; mtime = now; ctime = now }
+-- a file's row when bytes that end here are written, and so many blocks with them
+abbrev pub written_row : ℕ → ℕ → Moment → NodeRow → NodeRow
+written_row end more now row = record row { size = max row.size end; mtime = now; ctime = now; written = option_map (λ w. w + more) row.written }
 
-abbrev pub write_changes : ℕ → List ℕ → Moment → NodeRow → Option CountersRow → List Change
-write_changes offset payload now row counters =
-    changes.Node (written_row (offset + length payload) now row) ∷ changes.Written row.node offset payload
-    ∷ room_changes counters row.size (max row.size (offset + length payload))
+abbrev pub write_changes : ℕ → List ℕ → ℕ → Moment → NodeRow → Option CountersRow → List Change
+write_changes offset payload more now row counters =
+    changes.Node (written_row (offset + length payload) more now row) ∷ changes.Written row.node offset payload ∷ room_changes counters (λ used. used + more)
 
-abbrev pub plan_written : ℕ → List ℕ → Moment → NodeRow → Option CountersRow → Planned
-plan_written offset payload now row counters =
-    record { answer = record { errno = 0; body = count_body (length payload) }; changes = write_changes offset payload now row counters }
+abbrev pub plan_written : ℕ → List ℕ → ℕ → Moment → NodeRow → Option CountersRow → Planned
+plan_written offset payload more now row counters =
+    record { answer = record { errno = 0; body = count_body (length payload) }; changes = write_changes offset payload more now row counters }
 
--- where there is room for the size
-abbrev pub plan_room : ℕ → List ℕ → Moment → NodeRow → Option CountersRow → Planned
-plan_room offset payload now row counters =
-    if not (has_room (room_in counters) row.size (max row.size (offset + length payload))) then refused enospc
-    else plan_written offset payload now row counters
+-- where there is room for the blocks that become written
+abbrev pub plan_room : ℕ → List ℕ → ℕ → Moment → NodeRow → Option CountersRow → Planned
+plan_room offset payload more now row counters =
+    if not (has_room (room_in counters) more) then refused enospc else plan_written offset payload more now row counters
 
 abbrev pub plan_write : Profile → ℕ → Writing → NodeRow → Rows → Planned
 plan_write p fh w row rows =
     if not (may_write (access_at rows.handles fh row.node)) then refused ebadf
     else if length w.payload == 0 then told (count_body 0)
     else if nat_lt (terms p).file_limit (w.offset + length w.payload) then refused efbig
-    else plan_room w.offset w.payload w.now row (counters_for p rows)
+    else plan_room w.offset w.payload (newly_in rows row w.offset (length w.payload)) w.now row (counters_for p rows)
 
 -- ---- READ
 

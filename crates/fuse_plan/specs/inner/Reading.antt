@@ -1,13 +1,14 @@
 -- The parts of `plan` over the rows (defined by this project): shared by the plans of the operations.
 -- Not part of what is trusted: neither `done` nor the public clauses of `plan` speak of it.
-use Rattle.std.specs.Prelude.{◌≡◌, ◌≤◌, ◌+◌, ◌-◌, ◌/◌, ◌&&◌, ℕ, Bool, not, nat_le, if◌then◌else◌, List, [], ◌∷◌, Option, Some, None, Result, IfOk, IfErr, OnErr, ◌≢◌}
+use Rattle.std.specs.Prelude.{◌≡◌, ◌≤◌, ◌+◌, ◌&&◌, ℕ, Bool, not, nat_le, if◌then◌else◌, List, [], ◌∷◌, Option, Some, None, Result, IfOk, IfErr, OnErr, ◌≢◌}
 use Rattle.fuse_wire.specs.declared.errno.Errno.{Errno}
 use Rattle.fuse_wire.specs.Errnos.{enoent, enotdir}
 use Rattle.fuse_init.specs.declared.profile.Profile.{Profile}
 use Rattle.fuse_init.specs.Profile.{terms}
 use Rattle.fuse_answer.specs.Bodies.{entry_bytes, attr_out_bytes}
 use Rattle.fuse_answer.specs.declared.records.Attr.{Attr}
-use Rattle.fuse_rows.specs.Bounds.{node_limit, file_limit, block_bytes, sector_bytes}
+use Rattle.fuse_rows.specs.Bounds.{node_limit, file_limit, block_limit, block_bytes}
+use Rattle.fuse_rows.specs.Blocks.{how_many}
 use Rattle.fuse_tree.specs.declared.look.LookFault.{LookFault}
 use Rattle.fuse_plan.specs.declared.planning.fault.PlanFault.{PlanFault}
 use Rattle.fuse_plan.specs.declared.planning.fault.PlanFault.TheVariants as faults
@@ -19,7 +20,7 @@ use Rattle.fuse_tree.specs.State.{is_dir, name_tests}
 use Rattle.fuse_rows.specs.Rows.{Rows, row_is_named, row_at, entry_at}
 use Rattle.fuse_tree.specs.Rowed.{IsRowed}
 use Rattle.fuse_plan.specs.Plan.{look_fault}
-use Rattle.fuse_tree.specs.Done.{entry_out_of, attr_out_of}
+use Rattle.fuse_tree.specs.Done.{sectors_for, entry_out_of, attr_out_of}
 
 -- ---- the answers of the parts
 
@@ -57,12 +58,13 @@ pub record LooksUp {S X : Type 0} (v : View S) (old new : S) (result : Result X 
 
 -- the row is within the bounds of this profile
 abbrev pub is_within : Profile → NodeRow → Bool
-is_within p row = nat_le row.size (terms p).file_limit && nat_le row.subdirs (terms p).node_limit
+is_within p row = nat_le row.size (terms p).file_limit && (nat_le row.subdirs (terms p).node_limit && nat_le (how_many row.written) block_limit)
 
 -- a row within the bounds of every profile
 pub record IsWithin (row : NodeRow) : Type 0 where
   pub size : row.size ≤ file_limit
   pub subdirs : row.subdirs ≤ node_limit
+  pub written : how_many row.written ≤ block_limit
 
 -- ---- answers
 
@@ -97,7 +99,7 @@ abbrev pub row_attr : NodeRow → Attr
 row_attr row = record {
   ino = row.node;
   size = row.size;
-  blocks = (row.size + (sector_bytes - 1)) / sector_bytes;
+  blocks = sectors_for row.written row.size;
   atime = row.atime.secs;
   mtime = row.mtime.secs;
   ctime = row.ctime.secs;

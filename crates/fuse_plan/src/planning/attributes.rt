@@ -1,5 +1,7 @@
 ghost use Rattle.std.specs.Prelude.{◌≡◌};
 ghost use Rattle.fuse_tree.specs.State.{is_dir, is_file, is_link};
+ghost use Rattle.fuse_rows.specs.Blocks.{how_many};
+ghost use Rattle.fuse_tree.specs.Done.{sectors_for};
 ghost use Rattle.fuse_plan.specs.inner.Reading.{IsWithin, row_links, row_attr};
 
 use fuse_answer::Attr;
@@ -37,6 +39,17 @@ fn links_of(row: &NodeRow) -> u32
     }
 }
 
+// The attributes' `blocks`: of its written blocks, where they are counted, and else of its size.
+fn sectors_of(row: &NodeRow) -> u64
+    requires { IsWithin row.now }
+    ensures { result ≡ sectors_for row.now.written row.now.size }
+{
+    match row.written {
+        None => (row.size + (SECTOR_SIZE - 1)) / SECTOR_SIZE,
+        Some(written) => u64::from(BLOCK_SIZE) / SECTOR_SIZE * written,
+    }
+}
+
 pub(crate) fn attributes_of(row: &NodeRow) -> Attr
     requires { IsWithin row.now }
     ensures { result ≡ row_attr row.now }
@@ -44,7 +57,7 @@ pub(crate) fn attributes_of(row: &NodeRow) -> Attr
     Attr {
         ino: row.node,
         size: row.size,
-        blocks: (row.size + (SECTOR_SIZE - 1)) / SECTOR_SIZE,
+        blocks: sectors_of(row),
         atime: row.atime.secs,
         mtime: row.mtime.secs,
         ctime: row.ctime.secs,
@@ -58,5 +71,15 @@ pub(crate) fn attributes_of(row: &NodeRow) -> Attr
         rdev: row.rdev,
         blksize: BLOCK_SIZE,
         flags: 0,
+    }
+}
+
+// How many blocks of the node of this row were written: none, where they are not counted.
+pub(crate) fn count_of(row: &NodeRow) -> u64
+    ensures { result ≡ how_many row.now.written }
+{
+    match row.written {
+        None => 0,
+        Some(written) => written,
     }
 }

@@ -7,9 +7,10 @@ ghost use Rattle.fuse_plan.specs.inner.Reading.{IsWithin, child_at, LooksUp, vie
 ghost use Rattle.fuse_tree.specs.Removing as removing;
 ghost use Rattle.fuse_plan.specs.inner.PlanRemoving.{link_at};
 
+use super::attributes::count_of;
 use super::fault::PlanFault;
 use fuse_init::Profile;
-use fuse_rows::{Counters, EntryRow, HandleRow, MAX_FILE, MAX_NODES, NodeRow};
+use fuse_rows::{Counters, EntryRow, HandleRow, MAX_BLOCKS, MAX_FILE, MAX_NODES, NodeRow};
 use fuse_tree::{Agreement, Look, max_file, max_nodes};
 use fuse_wire::AccessMode;
 
@@ -42,14 +43,16 @@ pub(crate) fn is_beyond(row: &NodeRow) -> bool
     ensures beyond { result ≡ true → ¬ IsWithin row.now }
     ensures within { result ≡ false → IsWithin row.now }
 {
-    row.size > MAX_FILE || u64::from(row.subdirs) > MAX_NODES
+    row.size > MAX_FILE || u64::from(row.subdirs) > MAX_NODES || count_of(row) > MAX_BLOCKS
 }
 
 // Whether the row is within the bounds of this profile.
 pub(crate) fn is_within(profile: Profile, row: &NodeRow) -> bool
     ensures { result ≡ reading.is_within profile row.now }
 {
-    row.size <= max_file(profile) && u64::from(row.subdirs) <= max_nodes(profile)
+    row.size <= max_file(profile)
+        && u64::from(row.subdirs) <= max_nodes(profile)
+        && count_of(row) <= MAX_BLOCKS
 }
 
 fn find_entry<L: Look>(look: &mut L, dir: u64, name: &[u8]) -> Result<Option<EntryRow>, PlanFault>

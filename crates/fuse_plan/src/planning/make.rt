@@ -1,4 +1,5 @@
 ghost use Rattle.std.specs.Prelude.{◌≡◌, ◌<◌, ◌^◌, None, false, IfOk};
+ghost use Rattle.std.specs.Option.{option_map};
 ghost use Rattle.fuse_init.specs.Profile.{terms};
 ghost use Rattle.fuse_tree.specs.Making as making;
 ghost use Rattle.fuse_tree.specs.Making.{is_full};
@@ -198,6 +199,16 @@ pub(crate) fn dir_row_of(fresh: &NewNode, row: &NodeRow) -> NodeRow
     dir
 }
 
+// No written block, where they are counted.
+fn none_written(counters: &Counters) -> Option<u64>
+    ensures { result ≡ option_map (λ _. 0) counters.now.room }
+{
+    match counters.room {
+        None => None,
+        Some(_) => Some(0),
+    }
+}
+
 // The row of a new node in this directory.
 pub(crate) fn new_row_of(counters: &Counters, fresh: &NewNode, dir: u64) -> NodeRow
     ensures { result ≡ new_row counters.now fresh.now dir }
@@ -214,5 +225,6 @@ pub(crate) fn new_row_of(counters: &Counters, fresh: &NewNode, dir: u64) -> Node
         ctime: fresh.made,
         up: dir,
         subdirs: 0,
+        written: none_written(counters),
     }
 }

@@ -7,10 +7,11 @@ ghost use Rattle.fuse_plan.specs.inner.PlanRemoval.{goes_unnamed, goes_closed};
 ghost use Rattle.fuse_plan.specs.inner.PlanRemoval.{is_used_beside as used_beside};
 ghost use Rattle.fuse_plan.specs.inner.Reading.{LooksUp, view};
 
+use super::attributes::count_of;
 use super::fault::PlanFault;
 use fuse_init::Profile;
 use fuse_rows::{Change, Counters, HandleRow, NodeRow, Room};
-use fuse_tree::{Look, blocks_of, removes};
+use fuse_tree::{Look, removes};
 use fuse_wire::Memory;
 
 // Whether an fh of this node is open.
@@ -75,7 +76,7 @@ fn room_less(row: &NodeRow, room: &Room) -> Room
     ensures { result ≡ planning.room_without row.now room.now }
 {
     Room {
-        used: room.used.saturating_sub(blocks_of(row.size)),
+        used: room.used.saturating_sub(count_of(row)),
         ..*room
     }
 }

@@ -1,19 +1,18 @@
-ghost use Rattle.std.specs.Prelude.{◌≡◌, ◌≤◌, ◌&&◌, None, not, true, false, IfOk};
+ghost use Rattle.std.specs.Prelude.{◌≡◌, ◌≤◌, None, true, IfOk};
 ghost use Rattle.fuse_rows.specs.Bounds.{file_limit};
 ghost use Rattle.fuse_init.specs.Profile.{terms};
 ghost use Rattle.fuse_wire.specs.Bits.{fattr_size};
-ghost use Rattle.fuse_tree.specs.Space.{has_room};
 ghost use Rattle.fuse_tree.specs.Setting as setting;
 ghost use Rattle.fuse_tree.specs.Setting.{set_fault};
 ghost use Rattle.fuse_plan.specs.inner.PlanSetting as planning;
 ghost use Rattle.fuse_plan.specs.inner.PlanSetting.{set_row, set_changes, set_counters};
-ghost use Rattle.fuse_plan.specs.inner.PlanSpace.{room_in};
+ghost use Rattle.fuse_plan.specs.inner.PlanSetting.{set_gone};
 ghost use Rattle.fuse_plan.specs.inner.Reading.{IsWithin, LooksUp, view};
 
 use super::answers::{attr_answer, refused};
 use super::attributes::{is_directory, is_regular_file};
 use super::fault::PlanFault;
-use super::space::{find_sized, is_room_for, push_room};
+use super::space::{find_gone, find_sized, push_less};
 use crate::planned::Planned;
 use bitflags::Flags;
 use fuse_init::Profile;
@@ -40,12 +39,23 @@ pub(crate) fn plan_setattr<L: Look>(
     if let Some(errno) = fault_of_set(agreement.profile, set, row.mode) {
         return Ok(refused(alloc, errno));
     }
+    let gone = find_set_gone(look, set, row)?;
     let counters = find_set(look, agreement.profile, set)?;
-    if has(set, SetattrValid::SIZE) && !is_room_for(&counters, row.size, set.size) {
-        return Ok(refused(alloc, Errno::ENOSPC));
-    }
     let valid = agreement.valid_secs();
-    Ok(set_with_room(alloc, valid, set, now, row, &counters)?)
+    Ok(set_all(alloc, valid, set, now, gone, row, &counters)?)
+}
+
+// The blocks that are written no more: none, where the size is not set.
+fn find_set_gone<L: Look>(look: &mut L, set: &SetattrIn, row: &NodeRow) -> Result<u64, PlanFault>
+    requires { L.fault look.old ≡ None }
+    ensures { LooksUp (view L.is_clean L.sees L.fault L.looks L.fails) look.old look.new result
+        (set_gone set.now row.now) }
+{
+    if has(set, SetattrValid::SIZE) {
+        find_gone(look, row, set.size)
+    } else {
+        Ok(0)
+    }
 }
 
 // The counters, where the size is set and blocks are counted.
@@ -162,9 +172,9 @@ fn ctime_after(set: &SetattrIn, now: Moment, ctime: Moment) -> Moment
     }
 }
 
-// The row after it, where there is no fault.
-fn row_after(set: &SetattrIn, now: Moment, row: &NodeRow) -> NodeRow
-    ensures { result ≡ set_row set.now now row.now }
+// The row after it, where there is no fault and so many blocks are written no more.
+fn row_after(set: &SetattrIn, now: Moment, gone: u64, row: &NodeRow) -> NodeRow
+    ensures { result ≡ set_row set.now now gone row.now }
 {
     let mut after = *row;
     after.mode = mode_after(set, row.mode);
@@ -180,27 +190,30 @@ fn row_after(set: &SetattrIn, now: Moment, row: &NodeRow) -> NodeRow
     after.atime = atime_after(set, now, row.atime);
     after.mtime = mtime_after(set, now, row.mtime);
     after.ctime = ctime_after(set, now, row.ctime);
+    after.written = match row.written {
+        None => None,
+        Some(written) => Some(written.saturating_sub(gone)),
+    };
     after
 }
 
-// Where there is room for the size.
-fn set_with_room(
+fn set_all(
     alloc: Global,
     valid: u64,
     set: &SetattrIn,
     now: Moment,
+    gone: u64,
     row: &NodeRow,
     counters: &Option<Counters>,
 ) -> Result<Planned, Memory>
     requires within { IsWithin row.now }
     requires size { setting.has_valid_bit set.now fattr_size ≡ true → set.now.size ≤ file_limit }
-    requires room { (setting.has_valid_bit set.now fattr_size
-        && not (has_room (room_in counters.now) row.now.size set.now.size)) ≡ false }
-    ensures { IfOk result (λ p. p ≡ planning.plan_set valid set.now now row.now counters.now) }
+    ensures { IfOk result (λ p. p
+        ≡ planning.plan_set valid set.now now gone row.now counters.now) }
 {
-    let after = row_after(set, now, row);
+    let after = row_after(set, now, gone, row);
     let answer = attr_answer(alloc, valid, &after)?;
-    let changes = changes_to(alloc, set, now, row, counters)?;
+    let changes = changes_to(alloc, set, now, gone, row, counters)?;
     Ok(Planned { answer, changes })
 }
 
@@ -209,21 +222,21 @@ fn changes_to(
     alloc: Global,
     set: &SetattrIn,
     now: Moment,
+    gone: u64,
     row: &NodeRow,
     counters: &Option<Counters>,
 ) -> Result<ChangeList, Memory>
-    requires { (setting.has_valid_bit set.now fattr_size
-        && not (has_room (room_in counters.now) row.now.size set.now.size)) ≡ false }
-    ensures { IfOk result (λ changes. changes ≡ set_changes set.now now row.now counters.now) }
+    ensures { IfOk result (λ changes. changes
+        ≡ set_changes set.now now gone row.now counters.now) }
 {
     let mut changes = Vec::new(alloc);
-    changes.push(Change::Node(row_after(set, now, row)))?;
+    changes.push(Change::Node(row_after(set, now, gone, row)))?;
     if has(set, SetattrValid::SIZE) {
         changes.push(Change::Sized {
             node: row.node,
             size: set.size,
         })?;
-        push_room(&mut changes, counters, row.size, set.size)?;
+        push_less(&mut changes, counters, gone)?;
     }
     Ok(ChangeList::from_vec(changes))
 }

@@ -17,7 +17,7 @@ use super::make::{
     asked_node, begun, counters_made, dir_row_of, is_full_of, new_entry_of, new_row_of,
 };
 use super::names::fault_of_name;
-use super::space::{counters_after, is_room_in};
+use super::space::{counters_more, is_room_in};
 use crate::planned::Planned;
 use fuse_rows::{Change, ChangeList, Counters, MAX_TARGET, NodeRow, Origin};
 use fuse_tree::{Agreement, Look, NewNode, S_IFLNK};
@@ -93,7 +93,7 @@ fn link_in<L: Look>(
     if is_full_of(agreement.profile, &counters) {
         return Ok(refused(alloc, Errno::ENOSPC));
     }
-    if !is_room_in(&counters.room, 0, target.len() as u64) {
+    if !is_room_in(&counters.room, 1) {
         return Ok(refused(alloc, Errno::ENOSPC));
     }
     let valid = agreement.valid_secs();
@@ -112,7 +112,7 @@ fn link(
     requires within { IsWithin row.now }
     requires place { HasPlace counters.now }
     requires short { length target.now ≤ target_limit }
-    requires room { has_room counters.now.room 0 (length target.now) ≡ true }
+    requires room { has_room counters.now.room 1 ≡ true }
     ensures { IfOk result (λ p. p
         ≡ plan_new_link valid counters.now fresh.now target.now name.now row.now) }
 {
@@ -134,7 +134,7 @@ fn changes_of_link(
     requires within { IsWithin row.now }
     requires place { HasPlace counters.now }
     requires short { length target.now ≤ target_limit }
-    requires room { has_room counters.now.room 0 (length target.now) ≡ true }
+    requires room { has_room counters.now.room 1 ≡ true }
     ensures { IfOk result (λ changes. changes
         ≡ link_changes counters.now fresh.now target.now name.now row.now) }
 {
@@ -149,7 +149,7 @@ fn changes_of_link(
         offset: 0,
         bytes,
     })?;
-    let counters = counters_after(&counters_made(counters), 0, size);
+    let counters = counters_more(&counters_made(counters), 1);
     changes.push(Change::Counters(counters))?;
     Ok(ChangeList::from_vec(changes))
 }
@@ -160,8 +160,13 @@ fn link_row_of(counters: &Counters, fresh: &NewNode, size: u64, dir: u64) -> Nod
     ensures row { result ≡ link_row counters.now fresh.now size dir }
     ensures within { IsWithin result }
 {
+    let written = match counters.room {
+        None => None,
+        Some(_) => Some(1),
+    };
     NodeRow {
         size,
+        written,
         ..new_row_of(counters, fresh, dir)
     }
 }

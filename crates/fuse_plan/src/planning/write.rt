@@ -1,4 +1,4 @@
-ghost use Rattle.std.specs.Prelude.{◌≡◌, ◌≤◌, ◌+◌, max, None, length, nat_lt, true, false, IfOk};
+ghost use Rattle.std.specs.Prelude.{◌≡◌, ◌≤◌, ◌+◌, None, length, nat_lt, true, false, IfOk};
 ghost use Rattle.fuse_init.specs.Profile.{terms};
 ghost use Rattle.fuse_rows.specs.Bounds.{file_limit};
 ghost use Rattle.fuse_tree.specs.Space.{has_room};
@@ -7,12 +7,12 @@ ghost use Rattle.fuse_tree.specs.Writing.{count_body};
 ghost use Rattle.fuse_plan.specs.inner.PlanWriting as planning;
 ghost use Rattle.fuse_plan.specs.inner.PlanWriting.{written_row, write_changes, plan_written};
 ghost use Rattle.fuse_plan.specs.inner.PlanSpace.{room_in};
-ghost use Rattle.fuse_plan.specs.inner.Reading.{told, LooksUp, view};
+ghost use Rattle.fuse_plan.specs.inner.Reading.{told, IsWithin, LooksUp, view};
 
 use super::answers::{refused, unchanged};
 use super::fault::PlanFault;
 use super::finding::find_access;
-use super::space::{find_sized, is_room_for, push_room};
+use super::space::{find_new, find_sized, is_room_for, push_more};
 use crate::planned::Planned;
 use fuse_answer::{Answer, WriteOut};
 use fuse_init::Profile;
@@ -32,7 +32,8 @@ pub(crate) fn plan_write<L: Look>(
     now: Moment,
     row: &NodeRow,
 ) -> Result<Planned, PlanFault>
-    requires { L.fault look.old ≡ None }
+    requires fault { L.fault look.old ≡ None }
+    requires rows { IsWithin row.now }
     ensures { LooksUp (view L.is_clean L.sees L.fault L.looks L.fails) look.old look.new result
         (planning.plan_write profile fh
         (record { offset = offset; payload = payload.now; now = now }) row.now) }
@@ -46,12 +47,12 @@ pub(crate) fn plan_write<L: Look>(
     if ends_too_far(profile, offset, payload.len()) {
         return Ok(refused(alloc, Errno::EFBIG));
     }
+    let more = find_new(look, row, offset, payload.len())?;
     let counters = find_sized(look, profile)?;
-    let size = row.size.max(offset + payload.len() as u64);
-    if !is_room_for(&counters, row.size, size) {
+    if !is_room_for(&counters, more) {
         return Ok(refused(alloc, Errno::ENOSPC));
     }
-    Ok(write(alloc, offset, payload, now, row, &counters)?)
+    Ok(write(alloc, offset, payload, more, now, row, &counters)?)
 }
 
 // Whether what is open so may be written to.
@@ -87,17 +88,20 @@ fn write(
     alloc: Global,
     offset: u64,
     payload: &[u8],
+    more: u64,
     now: Moment,
     row: &NodeRow,
     counters: &Option<Counters>,
 ) -> Result<Planned, Memory>
     requires within { offset + length payload.now ≤ file_limit }
-    requires room { has_room (room_in counters.now) row.now.size
-        (max row.now.size (offset + length payload.now)) ≡ true }
-    ensures { IfOk result (λ p. p ≡ plan_written offset payload.now now row.now counters.now) }
+    requires row { IsWithin row.now }
+    requires more { more ≤ offset + length payload.now }
+    requires room { has_room (room_in counters.now) more ≡ true }
+    ensures { IfOk result (λ p. p
+        ≡ plan_written offset payload.now more now row.now counters.now) }
 {
     let answer = count_answer(alloc, payload.len())?;
-    let changes = changes_to(alloc, offset, payload, now, row, counters)?;
+    let changes = changes_to(alloc, offset, payload, more, now, row, counters)?;
     Ok(Planned { answer, changes })
 }
 
@@ -106,37 +110,46 @@ fn changes_to(
     alloc: Global,
     offset: u64,
     payload: &[u8],
+    more: u64,
     now: Moment,
     row: &NodeRow,
     counters: &Option<Counters>,
 ) -> Result<ChangeList, Memory>
     requires within { offset + length payload.now ≤ file_limit }
-    requires room { has_room (room_in counters.now) row.now.size
-        (max row.now.size (offset + length payload.now)) ≡ true }
+    requires row { IsWithin row.now }
+    requires more { more ≤ offset + length payload.now }
+    requires room { has_room (room_in counters.now) more ≡ true }
     ensures { IfOk result (λ changes. changes
-        ≡ write_changes offset payload.now now row.now counters.now) }
+        ≡ write_changes offset payload.now more now row.now counters.now) }
 {
     let mut changes = Vec::new(alloc);
     let end = offset + payload.len() as u64;
-    changes.push(Change::Node(row_after(row, end, now)))?;
+    changes.push(Change::Node(row_after(row, end, more, now)))?;
     let bytes = ByteList::from_vec(Vec::from_slice(alloc, payload)?);
     changes.push(Change::Written {
         node: row.node,
         offset,
         bytes,
     })?;
-    push_room(&mut changes, counters, row.size, row.size.max(end))?;
+    push_more(&mut changes, counters, more)?;
     Ok(ChangeList::from_vec(changes))
 }
 
-// The row of a file in which written bytes end here.
-fn row_after(row: &NodeRow, end: u64, now: Moment) -> NodeRow
-    ensures { result ≡ written_row end now row.now }
+// The row of a file in which written bytes end here, and so many blocks became written.
+fn row_after(row: &NodeRow, end: u64, more: u64, now: Moment) -> NodeRow
+    requires row { IsWithin row.now }
+    requires more { more ≤ file_limit }
+    ensures { result ≡ written_row end more now row.now }
 {
+    let written = match row.written {
+        None => None,
+        Some(written) => Some(written + more),
+    };
     NodeRow {
         size: row.size.max(end),
         mtime: now,
         ctime: now,
+        written,
         ..*row
     }
 }

@@ -3,6 +3,7 @@ use Rattle.std.specs.Prelude.{ℕ, pos, [], ◌∷◌, if◌then◌else◌}
 use Rattle.sqlite.specs.declared.types.Value.TheVariants.{Int}
 use Rattle.sqlite.specs.Order.{Row, column}
 use Rattle.fuse_rows.specs.declared.rows.NodeRow.{NodeRow}
+use Rattle.fuse_store_tables.specs.declared.version.Layout.{Layout}
 use Rattle.fuse_store_tables.specs.Content.{Counter, node_columns}
 use Rattle.sqlite.specs.declared.error.Error.{Error}
 use Rattle.fuse_keeper.specs.declared.fault.StoreFault.{StoreFault}
@@ -10,8 +11,8 @@ use Rattle.fuse_keeper.specs.declared.fault.StoreFault.TheVariants.{Memory, Dama
 use Rattle.fuse_keeper.specs.Faults.{is_memory}
 use Rattle.sqlite.specs.declared.types.Value.{Value}
 
-abbrev pub given_node : NodeRow → Row
-given_node n = Int (pos n.node) ∷ node_columns n
+abbrev pub given_node : Layout → NodeRow → Row
+given_node layout n = Int (pos n.node) ∷ node_columns layout n
 
 -- the fault of a column that could not be read: damage, unless memory ran out
 abbrev pub misread_as : Error → StoreFault

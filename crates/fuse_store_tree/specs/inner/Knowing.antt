@@ -1,5 +1,5 @@
 -- What is known of the table `meta` on the way of a group (defined by this project).
-use Rattle.std.specs.Prelude.{◌==◌, if◌then◌else◌, ℕ, List, Option, Some, None, Result, IfErr}
+use Rattle.std.specs.Prelude.{◌==◌, if◌then◌else◌, ℕ, IsTrue, List, Option, Some, None, Result, IfErr}
 use Rattle.sqlite.specs.Effect.{Database}
 use Rattle.sqlite.specs.State.{State, HasCleanDisk}
 use Rattle.fuse_rows.specs.Rows.{profile_for}
@@ -13,6 +13,7 @@ use Rattle.fuse_store_tables.specs.Content.{Content, Counter, counter_key, set_b
 use Rattle.fuse_store_tables.specs.Faults.{IsOutside}
 use Rattle.fuse_store_tables.specs.Moves.{InsideAs, Stays, StaysInside, TurnsTo}
 use Rattle.fuse_store_tree.specs.declared.meta.Meta.{Meta}
+use Rattle.fuse_store_tree.specs.Pieces.{File}
 use Rattle.fuse_store_tree.specs.Store.{Store, Held}
 use Rattle.fuse_store_tree.specs.Holding.{Holding}
 use Rattle.fuse_store_tree.specs.Knowing.{Knows, HeldForKnown}
@@ -81,23 +82,29 @@ counters_written (Some m) n = counters_moved m.counters n
 -- ---- steps
 
 -- a database that holds a store, where what is known is right
-abbrev pub HeldKnown : Option Meta → Store → Database → Type 0
-HeldKnown known x d = Held x d × Knows known x.rows
+abbrev pub HeldKnown : List ℕ → Option Meta → Store → Database → Type 0
+HeldKnown file known x d = Held file x d × Knows known x.rows
 
 -- what was known was right, and what is known then is right of the store that is made
-pub record ChangedKnown (was is : Option Meta) (g : Store → Store) (old new : State) : Type 0 where
+pub record ChangedKnown (f : File) (was is : Option Meta) (g : Store → Store) (old new : State) : Type 0 where
   pub stays : Stays old new
   pub within : StaysInside old new
-  pub turns : TurnsTo (HeldKnown was) (λ x. HeldKnown is (g x)) old new
+  pub turns : IsTrue f.is_clean → TurnsTo (HeldKnown f.bytes was) (λ x. HeldKnown f.bytes is (g x)) old new
 
-abbrev pub InsideKnown : Option Meta → Holding → State → Type 0
-InsideKnown known y = InsideAs (HeldForKnown known y)
-
-pub record TurnedKnown (was is : Option Meta) (f : Holding → Holding) (old new : State) : Type 0 where
+-- such a step that reads no piece
+pub record ChangedKnownIn (file : List ℕ) (was is : Option Meta) (g : Store → Store) (old new : State) : Type 0 where
   pub stays : Stays old new
   pub within : StaysInside old new
-  pub turns : TurnsTo (HeldForKnown was) (λ y. HeldForKnown is (f y)) old new
+  pub turns : TurnsTo (HeldKnown file was) (λ x. HeldKnown file is (g x)) old new
+
+abbrev pub InsideKnown : List ℕ → Option Meta → Holding → State → Type 0
+InsideKnown file known y = InsideAs (HeldForKnown file known y)
+
+pub record TurnedKnown (file : File) (was is : Option Meta) (f : Holding → Holding) (old new : State) : Type 0 where
+  pub stays : Stays old new
+  pub within : StaysInside old new
+  pub turns : IsTrue file.is_clean → TurnsTo (HeldForKnown file.bytes was) (λ y. HeldForKnown file.bytes is (f y)) old new
 
 -- within a transaction: a fault says nothing of the store, unless no lot number is left
-abbrev pub IsSureKnown : {X : Type 0} → Option Meta → Option ℕ → State → State → Result X StoreFault → Type 0
-IsSureKnown known lot old new r = HasCleanDisk new → IfErr r (λ f. (y : Holding) → InsideKnown known y old → HasLotLeft lot y → IsOutside f)
+abbrev pub IsSureKnown : {X : Type 0} → List ℕ → Option Meta → Option ℕ → State → State → Result X StoreFault → Type 0
+IsSureKnown file known lot old new r = HasCleanDisk new → IfErr r (λ f. (y : Holding) → InsideKnown file known y old → HasLotLeft lot y → IsOutside f)

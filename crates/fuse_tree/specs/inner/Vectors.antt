@@ -1,8 +1,8 @@
 -- Worked examples (defined by this project): `done` of INIT, of the first run, and of a name that is missing.
-use Rattle.std.specs.Prelude.{◌≡◌, ◌+◌, ◌^◌, ℕ, List, [], Option, Some, None, replicate, codes}
+use Rattle.std.specs.Prelude.{◌≡◌, ◌+◌, ◌^◌, ℕ, List, [], ◌∷◌, Option, Some, None, replicate, codes}
 use Rattle.fuse_wire.specs.declared.moment.Moment.{Moment}
 use Rattle.fuse_wire.specs.declared.errno.Errno.{Errno}
-use Rattle.fuse_wire.specs.Errnos.{enoent, eexist, einval, enametoolong, enosys, eproto, estale}
+use Rattle.fuse_wire.specs.Errnos.{enoent, eexist, einval, enametoolong, enosys, enospc, eproto, estale}
 use Rattle.fuse_request.specs.Act.{Act, Asked}
 use Rattle.fuse_request.specs.Act as acts
 use Rattle.fuse_answer.specs.Said.{Said}
@@ -11,7 +11,10 @@ use Rattle.fuse_answer.specs.declared.records.Attr.{Attr}
 use Rattle.fuse_init.specs.declared.settings.Settings.{Settings}
 use Rattle.fuse_init.specs.declared.profile.Profile.TheVariants as profiles
 use Rattle.fuse_rows.specs.Origins.{made_at}
-use Rattle.fuse_tree.specs.State.{State, new_store}
+use Rattle.fuse_rows.specs.Blocks.{with_touched, below_size}
+use Rattle.fuse_tree.specs.State.{State, new_store, used_of}
+use Rattle.fuse_tree.specs.Space.{newly_written}
+use Rattle.fuse_tree.specs.Done.{sectors_for}
 use Rattle.fuse_tree.specs.Do.{done}
 
 abbrev pub at : ℕ → Moment
@@ -110,3 +113,36 @@ Refusals =
     × (lookup_of 1 (replicate 255 97) ≡ refuses enoent)
     × (lookup_of 2 (codes "hello") ≡ refuses estale)
     × ((done first (asks 4 1 (acts.Further 35 [])) (at 1000)).said ≡ refuses enosys)
+
+-- ---- written blocks: those that bytes touch, those that a size leaves, and what an everyday store of two blocks counts
+
+abbrev pub Blocks : Type 0
+Blocks =
+    (with_touched 4095 2 [] ≡ 0 ∷ 1 ∷ [])
+    × (with_touched 5000 1 (0 ∷ 1 ∷ 7 ∷ []) ≡ 0 ∷ 1 ∷ 7 ∷ [])
+    × (with_touched 8192 4096 (0 ∷ 7 ∷ []) ≡ 0 ∷ 2 ∷ 7 ∷ [])
+    × (with_touched 5000 0 (7 ∷ []) ≡ 7 ∷ [])
+    × (newly_written 4095 4098 (1 ∷ 5 ∷ []) ≡ 2)
+    × (below_size 4097 (0 ∷ 1 ∷ 2 ∷ []) ≡ 0 ∷ 1 ∷ [])
+    × (below_size 4096 (0 ∷ 1 ∷ 2 ∷ []) ≡ 0 ∷ [])
+    × (below_size 40960 (0 ∷ 1 ∷ 2 ∷ []) ≡ 0 ∷ 1 ∷ 2 ∷ [])
+    × (sectors_for None 513 ≡ 2)
+    × (sectors_for (Some 3) 513 ≡ 24)
+
+abbrev pub everyday_of : ℕ → State
+everyday_of capacity = after_init (new_store profiles.Everyday capacity (made_at (at 0))) (init_act 7 40 0x40002021 (Some 0x80))
+
+-- a file in the root, open for writing: node 2, fh 1
+abbrev pub with_file : State → State
+with_file s =
+    (done (done s (asks 6 1 (acts.Mknod 0o100644 0 0o022 (codes "f"))) (at 1000)).state (asks 8 2 (acts.OpenFile 2 0)) (at 1000)).state
+
+abbrev pub write_act : ℕ → List ℕ → Act
+write_act offset payload = acts.Write 1 offset 0 0 0 payload
+
+abbrev pub Counted : Type 0
+Counted =
+    (used_of (done (with_file (everyday_of 1)) (asks 10 2 (write_act 0 (codes "ab"))) (at 1000)).state ≡ 1)
+    × ((done (with_file (everyday_of 0)) (asks 10 2 (write_act 0 (codes "ab"))) (at 1000)).said ≡ refuses enospc)
+    × ((done (with_file (everyday_of 0)) (asks 10 2 (write_act 0 [])) (at 1000)).said.errno ≡ 0)
+    × (used_of (with_file (everyday_of 1)) ≡ 0)

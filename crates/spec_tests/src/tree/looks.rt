@@ -102,6 +102,10 @@ impl Look for Many {
         Ok(ByteList::from_vec(Vec::new(self.alloc)))
     }
 
+    fn blocks_between(&mut self, _node: u64, _from: u64, _to: u64) -> Result<u64, LookFault> {
+        Ok(0)
+    }
+
     fn counters(&mut self) -> Result<Counters, LookFault> {
         self.looks[3] = self.looks[3].wrapping_add(1);
         Ok(self.counters)
@@ -156,6 +160,7 @@ fn row_of(number: u64) -> NodeRow {
         ctime: START,
         up: if number == ROOT_ID { 0 } else { ROOT_ID },
         subdirs: 0,
+        written: None,
     }
 }
 

@@ -13,5 +13,5 @@ returns-clause-served g c = λ x task run served image left. file_lives g.P.Prof
 pub returns-clause-refused : goal.returns-clause-refused
 returns-clause-refused g c = λ x task run refused resumes image left at stand new.
     ran_nothing (FilesStand g.P.Profiled.PROFILE) at image
-    (still_stands g.P.Profiled.PROFILE task.first at stand run.left image
-    (subst (λ how. IfSome run.left (LeavesOpening how task.first)) (resumed_how g.C.Clock.gave task.begin task.kind x.clock x.clock' refused.how resumes refused.opens) refused.crash) left)
+    (still_stands g.P.Profiled.PROFILE task.first at stand g.E.Disk task.number run.left image
+    (subst (λ how. IfSome run.left (LeavesOpening g.E.Disk how task.first)) (resumed_how g.C.Clock.gave task x.clock x.clock' refused.how resumes refused.opens) refused.crash) left)

@@ -16,7 +16,7 @@ of_profile Everyday capacity from = refl
 pub returns-clause-stands : goal.returns-clause-stands
 returns-clause-stands g c =
     let p = g.P.Profiled.PROFILE in
-    let from = origin_of (made_then c.args.kind) in
+    let from = origin_of (made_then c.args.kind 0) in
     c.over.ensures.stands (new_state p c.args.kind)
     (record { tree = c.new_store_is_tree.ensures p c.args.kind.capacity from c.args.kind.low; profile = of_profile p c.args.kind.capacity from })
     c.in_ok-tree.ensures.held

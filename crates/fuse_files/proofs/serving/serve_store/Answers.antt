@@ -1,4 +1,5 @@
 use Rattle.std.proofs.Common.{inl, inr}
+use Rattle.fuse_store_files.specs.Files.{found_at}
 use Rattle.fuse_files.proofs.serving.serve_store.Goals as goal
 
 pub returns-in-Ok-Plain-clause-ran : goal.returns-in-Ok-Plain-clause-ran
@@ -13,7 +14,7 @@ returns-in-Ok-Plain-clause-ran g c =
       keeper = c.in-Ok-Plain.keeper;
       mid = c.opening_for-opening.new.clock;
       how = c.opening_for-opening.result;
-      opens = c.opening_for-opening.ensures;
+      opens = c.opening_for-opening.ensures (found_at g.S.Start g.T.Start);
       from = record { profile = profile; opened = opened; kept = kept; rows = rows; own = own; firm = firm };
       ran = c.serve_keeper.ensures.ran;
     }))
@@ -30,7 +31,7 @@ returns-in-Ok-Everyday-clause-ran g c =
       keeper = c.in-Ok-Everyday.keeper;
       mid = c.opening_for-opening.new.clock;
       how = c.opening_for-opening.result;
-      opens = c.opening_for-opening.ensures;
+      opens = c.opening_for-opening.ensures (found_at g.S.Start g.T.Start);
       from = record { profile = profile; opened = opened; kept = kept; rows = rows; own = own; firm = firm };
       ran = c.serve_keeper-in-Ok-Everyday.ensures.ran;
     }))

@@ -1,28 +1,30 @@
-use Rattle.std.proofs.Common.{sym, subst}
+use Rattle.std.proofs.Common.{subst, sym, ◌∙◌}
+use Rattle.std.specs.Prelude.{IsTrue}
+use Rattle.std.proofs.lemmas.Result.{IfErr-weaker}
 use Rattle.sqlite.specs.Held.{state}
+use Rattle.fuse_data.specs.State.{state_in}
 use Rattle.fuse_store_tree.specs.Store.{records_of}
 use Rattle.fuse_store.specs.Opening.{opened_for}
-use Rattle.fuse_store.specs.TableState.{HoldsIn}
-use Rattle.fuse_store.specs.StoreKeeper.{own_conn, own_known, own_profile}
-use Rattle.fuse_files.specs.StoreShown.{rows_in, MayCutShort}
-use Rattle.fuse_files.specs.inner.Showing.{Sees}
-use Rattle.fuse_files.proofs.Looks.{sees_rows, failed}
-use Rattle.fuse_files.proofs.Written.{store_cut}
+use Rattle.fuse_store.specs.TableKeeper.{parts_state}
+use Rattle.fuse_store.specs.StoreKeeper.{own_conn}
+use Rattle.fuse_files.proofs.Looks.{honest_kept, ok_of_2, quiet_fails}
+use Rattle.fuse_files.specs.StoreShown.{rows_in}
+use Rattle.fuse_files.proofs.Written.{nothing_cut}
 use Rattle.fuse_files.proofs.showing.look_at.Goals as goal
 
-pub returns-in-Ok-begin-clause-looks : goal.returns-in-Ok-begin-clause-looks
-returns-in-Ok-begin-clause-looks g c = λ clean. record {
-  sees = λ z was.
-      let held = c.in-Ok.ensures.holds (clean (own_conn c.in-Ok.keeper)) z was in
-      let begun = sees_rows z (state g.S.Store c.into_connection-conn.result) (state g.S.Store c.begin.new.conn) (records_of (opened_for z).kept)
-      (subst (λ conn. HoldsIn (own_profile c.in-Ok.keeper) (own_known c.in-Ok.keeper) (state g.S.Store conn) (rows_in z) (records_of (opened_for z).kept)) (sym c.into_connection-conn.ensures.same) held)
-      (c.in-Ok-begin.ensures.begun (clean c.begin.new.conn)) in
-      subst (λ conn. Sees z (state g.S.Store conn)) (sym c.new.ensures.conn) begun;
-  tabled = c.in-Ok.ensures.tabled (clean (own_conn c.in-Ok.keeper));
-}
+pub returns-in-Ok-clause-looks : goal.returns-in-Ok-clause-looks
+returns-in-Ok-clause-looks g c =
+    let opened = c.in-Ok.ensures in
+    ok_of_2 c.look_in.result _ _ _ (λ look file sees clean good.
+    let honest = honest_kept g.S.Store g.D.Disk c.in-Ok.keeper (clean (own_conn c.in-Ok.keeper)) (subst (λ f. IsTrue (state_in g.D.Disk f).is_clean) file good) in
+    record {
+      sees = λ z was. sees clean (rows_in z) (records_of (opened_for z).kept) (opened.holds honest z was);
+      tabled = opened.tabled honest;
+    }) c.look_in.ensures.file c.look_in.ensures.sees
 
-pub returns-in-Err-begin-clause-fails : goal.returns-in-Err-begin-clause-fails
-returns-in-Err-begin-clause-fails g c = λ clean. failed (state g.S.Store c.args.conn) _ _ _ c.from.ensures c.of.ensures
+pub returns-in-Ok-clause-fails : goal.returns-in-Ok-clause-fails
+returns-in-Ok-clause-fails g c =
+    IfErr-weaker c.look_in.result _ _ (λ e quiet clean good. quiet_fails (parts_state g.S.Store g.D.Disk c.args.parts) e.ending quiet) c.look_in.ensures.quiet
 
-pub returns-in-Err-begin-clause-cut : goal.returns-in-Err-begin-clause-cut
-returns-in-Err-begin-clause-cut g c = subst MayCutShort (sym c.of.ensures) (store_cut c.from.result)
+pub returns-in-Ok-clause-cut : goal.returns-in-Ok-clause-cut
+returns-in-Ok-clause-cut g c = IfErr-weaker c.look_in.result _ _ (λ e quiet. nothing_cut e.ending quiet) c.look_in.ensures.quiet

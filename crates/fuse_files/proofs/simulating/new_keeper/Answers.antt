@@ -1,4 +1,7 @@
-use Rattle.std.proofs.Common.{◌≡◌, [], inl, refl, sym, subst}
+use Rattle.std.proofs.Common.{◌≡◌, ◌∙◌, [], inl, refl, sym, ap, ap₂, subst}
+use Rattle.fuse_tree.specs.State.{new_store}
+use Rattle.fuse_store.specs.declared.new_store.NewStore.{NewStore}
+use Rattle.fuse_store.specs.Creating.{origin_of}
 use Rattle.std.specs.Prelude.{IsErrAnd}
 use Rattle.sqlite.specs.Files.{over_files, image_of, file_state}
 use Rattle.fuse_keeper.specs.KeeperState.{StandsFor, IsFirm}
@@ -12,18 +15,22 @@ use Rattle.fuse_files.proofs.simulating.new_keeper.Goals as goal
 
 pub returns-in-Ok-create-clause-stands : goal.returns-in-Ok-create-clause-stands
 returns-in-Ok-create-clause-stands g c =
+    let p = g.P.Profiled.PROFILE in
     let made = c.in-Ok-create.ensures in
-    subst (λ k. (keeper_told g.P.Profiled.PROFILE over_files k).is_honest → StandsFor (keeper_told g.P.Profiled.PROFILE over_files k) (new_state g.P.Profiled.PROFILE c.args.kind) [] []) (sym c.new.ensures)
-    (λ honest. made.stands honest (made.was honest))
+    let capacity = ap (λ v. v.capacity) c.volume.ensures.is ∙ ap (λ (n : NewStore). n.kind.capacity) c.made_at-new.ensures in
+    let from = c.origin.ensures ∙ ap origin_of c.made_at-new.ensures in
+    let same : new_store p c.volume.result.capacity c.origin.result ≡ new_state p c.args.kind = ap₂ (new_store p) capacity from in
+    subst (λ k. (keeper_told p over_files g.D.Disk k).is_honest → StandsFor (keeper_told p over_files g.D.Disk k) (new_state p c.args.kind) [] []) (sym c.new.ensures)
+    (λ honest. subst (λ s. StandsFor (keeper_told p over_files g.D.Disk c.in-Ok-create.keeper) s [] []) same (made.stands honest (made.was honest)))
 
 pub returns-in-Ok-create-clause-firm : goal.returns-in-Ok-create-clause-firm
 returns-in-Ok-create-clause-firm g c =
-    subst (λ k. (keeper_told g.P.Profiled.PROFILE over_files k).is_honest → IsFirm (keeper_told g.P.Profiled.PROFILE over_files k)) (sym c.new.ensures) c.in-Ok-create.ensures.firm
+    subst (λ k. (keeper_told g.P.Profiled.PROFILE over_files g.D.Disk k).is_honest → IsFirm (keeper_told g.P.Profiled.PROFILE over_files g.D.Disk k)) (sym c.new.ensures) c.in-Ok-create.ensures.firm
 
 pub returns-in-Err-clause-fault : goal.returns-in-Err-clause-fault
 returns-in-Err-clause-fault g c = λ sure.
-    subst (λ f. IsUnopened (image_of g.D.Disk c.args.files) (store_ending f)) (sym c.opening_fault.ensures)
-    (not_opened_in sure c.args.files c.open_files.result c.in-Err.error c.open_files.ensures.cause
+    subst (λ f. IsUnopened (image_of g.D.Disk c.args.files.0) (store_ending f)) (sym c.opening_fault.ensures)
+    (not_opened_in sure c.args.files.0 c.open_files.result c.in-Err.error c.open_files.ensures.cause
     (subst (λ r. IsErrAnd r (λ p. p.0 ≡ c.in-Err.error)) (sym c.in-Err.is) refl))
 
 pub returns-clause-fault : goal.returns-clause-fault
@@ -36,5 +43,5 @@ returns-in-Ok-create-clause-blank g c = λ sure.
     let clean = clean_conn sure c.in-Ok.conn in
     let live = c.in-Ok.ensures.opened clean in
     let found = c.in-Ok.ensures.found clean in
-    finds_blank (image_of g.D.Disk c.args.files) (file_state c.in-Ok.conn) live.0 live.1 (record { holds = found.holds; reads = found.reads })
+    finds_blank (image_of g.D.Disk c.args.files.0) (file_state c.in-Ok.conn) live.0 live.1 (record { holds = found.holds; reads = found.reads })
     c.in-Ok-create.ensures.blank

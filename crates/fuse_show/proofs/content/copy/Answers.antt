@@ -18,10 +18,10 @@ pub returns-in_err-bytes-clause-copied : goal.returns-in_err-bytes-clause-copied
 returns-in_err-bytes-clause-copied g c =
     let before = c.loop-offset.invariant in
     let p = err_from_is_err_and c.from_residual.result c.from_residual.ensures.1 in
-    look_cut g.W.Sink.was_written (g.L.Look.is_clean) (g.L.Look.looks) (g.L.Look.sees) _ _ c.args.look.now c.loop-offset.look _ c.from_residual.result _
+    look_cut g.W.Sink.was_written (g.L.Look.is_clean) (g.L.Look.looks) (g.L.Look.fails) (g.L.Look.sees) _ _ c.args.look.now c.loop-offset.look _ c.from_residual.result _
     (λ (rows : Rows) (bytes : List ℕ) (r : Result (Unit {0}) ShowFault). row_at rows c.args.row.now.node ≡ Some c.args.row.now
     → WritesOut (content_at rows c.args.row.now.node) bytes r)
-    _ before.bytes before.looks (p.1 ∙ ap Err p.2) (λ xs so clean rows is sees found.
+    _ before.bytes before.looks c.in_err-bytes.ensures.fails (p.1 ∙ ap Err p.2) (λ xs so clean rows is sees found.
     (taken_part (content_at rows c.args.row.now.node) xs c.loop-offset.offset (so clean rows is sees found), refl))
 
 pub returns-in-Err-clause-copied : goal.returns-in-Err-clause-copied
@@ -29,7 +29,7 @@ returns-in-Err-clause-copied g c =
     let before = c.loop-offset.invariant in
     let looks = c.in_ok-bytes.ensures.looks in
     took_stop g.W.Sink.was_written _ _ _ c.in-Err.fault _ _ _ before.bytes c.in-Err.ensures.put (λ xs ys so is.
-    up_to_here (g.L.Look.is_clean) (g.L.Look.looks) (g.L.Look.sees) _ _ _ _ (g.met.L.Look.and_then _ _ _ before.looks looks) (λ clean rows rowed sees found.
+    up_to_here (g.L.Look.is_clean) (g.L.Look.looks) (g.L.Look.fails) (g.L.Look.sees) (λ s. g.met.L.Look.or_less s s (g.met.L.Look.still s)) _ _ _ _ (g.met.L.Look.and_then _ _ _ before.looks looks) (λ clean rows rowed sees found.
     let clean_before = g.met.L.Look.was_clean _ _ looks clean in
     let sees_before = g.met.L.Look.kept _ _ before.looks clean_before rows sees in
     let piece = c.in_ok-bytes.ensures.bytes clean rows rowed sees_before in (
@@ -71,7 +71,7 @@ returns g c =
     let before = c.loop-offset.invariant in
     record {
       copied = took_all g.W.Sink.was_written _ _ _ _ _ before.bytes (λ xs so.
-          up_to_here (g.L.Look.is_clean) (g.L.Look.looks) (g.L.Look.sees) _ _ _ _ before.looks (λ clean rows is sees found.
+          up_to_here (g.L.Look.is_clean) (g.L.Look.looks) (g.L.Look.fails) (g.L.Look.sees) (λ s. g.met.L.Look.or_less s s (g.met.L.Look.still s)) _ _ _ _ before.looks (λ clean rows is sees found.
           let size = sized_right c.rows_of_trees.ensures rows c.args.row.now.node c.args.row.now is found in
           so clean rows is sees found ∙ piece_all (content_at rows c.args.row.now.node) c.loop-offset.offset (omega arith)));
       looked = record { fault = before.fault; looks = λ _. before.looks; fails = tt };
@@ -82,5 +82,5 @@ returns g c =
 pub returns-then-row-gt-MAX_FILE-clause-copied : goal.returns-then-row-gt-MAX_FILE-clause-copied
 returns-then-row-gt-MAX_FILE-clause-copied g c =
     puts_none g.W.Sink.was_written _ NotATree _ refl
-    (up_to_here (g.L.Look.is_clean) (g.L.Look.looks) (g.L.Look.sees) _ _ _ _ (g.met.L.Look.still _) (λ clean rows is sees found.
+    (up_to_here (g.L.Look.is_clean) (g.L.Look.looks) (g.L.Look.fails) (g.L.Look.sees) (λ s. g.met.L.Look.or_less s s (g.met.L.Look.still s)) _ _ _ _ (g.met.L.Look.still _) (λ clean rows is sees found.
     let less = small c.rows_of_trees.ensures rows c.args.row.now.node c.args.row.now is found in absurd (omega arith)))

@@ -24,7 +24,7 @@ loop-left-preserved g c =
       fault = one.looked.fault;
       looks = g.met.L.Look.and_then _ _ _ before.looks looks;
       lines = took_more g.W.Sink.was_written _ _ _ c.in-Ok.rest _ _ _ before.lines one.page (λ xs ys so is. λ clean rows rowed sees.
-          let now = read_off (g.L.Look.is_clean) (g.L.Look.looks) (g.L.Look.sees) g.met.L.Look.and_then g.met.L.Look.was_clean g.met.L.Look.kept _ _ _ is in
+          let now = read_off (g.L.Look.is_clean) (g.L.Look.looks) (g.L.Look.fails) (g.L.Look.sees) g.met.L.Look.and_then g.met.L.Look.was_clean g.met.L.Look.kept _ _ _ is in
           let clean_before = g.met.L.Look.was_clean _ _ looks clean in
           let sees_before = g.met.L.Look.kept _ _ before.looks clean_before rows sees in
           let was : listing rows c.args.dir ≡ xs ++ lines_left rows c.args.dir (Some c.in-Some.after) =
@@ -40,7 +40,7 @@ returns-in-Err g c =
     let one = c.in-Err.ensures in
     record {
       listed = took_stop g.W.Sink.was_written _ _ _ c.in-Err.fault _ _ _ before.lines one.page (λ xs ys so is.
-          up_to_after (g.L.Look.is_clean) (g.L.Look.looks) (g.L.Look.sees) g.met.L.Look.and_then g.met.L.Look.was_clean g.met.L.Look.kept _ _ _ _ _ _ _
+          up_to_after (g.L.Look.is_clean) (g.L.Look.looks) (g.L.Look.fails) (g.L.Look.sees) g.met.L.Look.and_then g.met.L.Look.was_clean g.met.L.Look.kept _ _ _ _ _ _ _
           before.looks so is (λ rows rowed p q.
           let was : listing rows c.args.dir ≡ xs ++ lines_left rows c.args.dir (Some c.in-Some.after) =
           p ∙ ap (λ (o : Option ℕ). xs ++ lines_left rows c.args.dir o) c.in-Some.is in
@@ -59,7 +59,7 @@ returns g c =
     let before = c.loop-left.invariant in
     record {
       listed = took_all g.W.Sink.was_written _ _ _ _ _ before.lines (λ xs so.
-          up_to_here (g.L.Look.is_clean) (g.L.Look.looks) (g.L.Look.sees) _ _ _ _ before.looks (λ clean rows is sees.
+          up_to_here (g.L.Look.is_clean) (g.L.Look.looks) (g.L.Look.fails) (g.L.Look.sees) (λ s. g.met.L.Look.or_less s s (g.met.L.Look.still s)) _ _ _ _ before.looks (λ clean rows is sees.
           pages_all (listing rows c.args.dir) xs
           (so clean rows is sees ∙ ap (λ (o : Option ℕ). xs ++ lines_left rows c.args.dir o) c.in_default.is)));
       written = took_all g.W.Sink.was_written _ _ _ _ _ before.any (λ xs p. p);

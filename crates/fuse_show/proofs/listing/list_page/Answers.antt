@@ -18,14 +18,14 @@ use Rattle.fuse_show.proofs.listing.list_page.Goals as goal
 pub returns-in_err-entries-clause-page : goal.returns-in_err-entries-clause-page
 returns-in_err-entries-clause-page g c =
     let p = err_from_is_err_and c.from_residual.result c.from_residual.ensures.1 in
-    look_failed g.W.Sink.was_written (g.L.Look.is_clean) (g.L.Look.looks) (g.L.Look.sees) c.args.writer.now c.args.look.now _ c.from_residual.result _
+    look_failed g.W.Sink.was_written (g.L.Look.is_clean) (g.L.Look.looks) (g.L.Look.fails) (g.L.Look.sees) c.args.writer.now c.args.look.now _ c.from_residual.result _
     (λ (rows : Rows) (bytes : List ℕ) (r : Result (Option ℕ) ShowFault). WritesPage rows c.args.dir c.args.after bytes r)
-    (g.met.L.Look.still _) (p.1 ∙ ap Err p.2) (λ rows. (part_none _, refl))
+    (g.met.L.Look.still _) c.in_err-entries.ensures.fails (p.1 ∙ ap Err p.2) (λ rows. (part_none _, refl))
 
 pub returns-then-not-is_higher-clause-page : goal.returns-then-not-is_higher-clause-page
 returns-then-not-is_higher-clause-page g c =
     puts_none g.W.Sink.was_written _ NotATree _ refl
-    (up_to_here (g.L.Look.is_clean) (g.L.Look.looks) (g.L.Look.sees) _ _ _ _ c.in_ok-entries.ensures.looks (λ clean rows is sees.
+    (up_to_here (g.L.Look.is_clean) (g.L.Look.looks) (g.L.Look.fails) (g.L.Look.sees) (λ s. g.met.L.Look.or_less s s (g.met.L.Look.still s)) _ _ _ _ c.in_ok-entries.ensures.looks (λ clean rows is sees.
     let same = c.as_slice.ensures.value ∙ c.in_ok-entries.ensures.rows clean rows is sees in
     let yes : is_higher (cookie_at 1023 c.as_slice.result.now) c.args.after ≡ true =
     page_higher rows c.args.dir c.args.after 1023 c.as_slice.result.now same in
@@ -41,7 +41,7 @@ returns-in-Ok-clause-page g c =
     let last : cookie_at 1023 page ≡ c.last_cookie-last.result =
     ap (cookie_at 1023) (c.as_slice-2.ensures.value ∙ sym c.as_slice.ensures.value) ∙ sym c.last_cookie-last.ensures in
     puts_ok g.W.Sink.was_written _ _ _ c.last_cookie-last.result _ _ c.in-Ok.ensures.lines (λ ys so.
-    up_to_after (g.L.Look.is_clean) (g.L.Look.looks) (g.L.Look.sees) g.met.L.Look.and_then g.met.L.Look.was_clean g.met.L.Look.kept _ _ _ _ _ _ _
+    up_to_after (g.L.Look.is_clean) (g.L.Look.looks) (g.L.Look.fails) (g.L.Look.sees) g.met.L.Look.and_then g.met.L.Look.was_clean g.met.L.Look.kept _ _ _ _ _ _ _
     first.looks first.rows so (λ rows is p q.
     let same = c.as_slice-2.ensures.value ∙ p in
     page_lines law rows c.args.dir c.args.after 1023 page is same
@@ -54,7 +54,7 @@ returns-clause-page g c =
     let first = c.in_ok-entries.ensures in
     let page = c.as_slice-2.result.now in
     puts_err g.W.Sink.was_written _ _ c.in-Err.fault _ _ c.in-Err.ensures.lines (λ ys so.
-    up_to_after (g.L.Look.is_clean) (g.L.Look.looks) (g.L.Look.sees) g.met.L.Look.and_then g.met.L.Look.was_clean g.met.L.Look.kept _ _ _ _ _ _ _
+    up_to_after (g.L.Look.is_clean) (g.L.Look.looks) (g.L.Look.fails) (g.L.Look.sees) g.met.L.Look.and_then g.met.L.Look.was_clean g.met.L.Look.kept _ _ _ _ _ _ _
     first.looks first.rows so (λ rows is p q.
     let same = c.as_slice-2.ensures.value ∙ p in
     let part = q (page_shown law rows c.args.dir c.args.after 1024 page is same) in (

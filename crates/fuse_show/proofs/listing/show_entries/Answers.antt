@@ -33,7 +33,7 @@ loop-entry-preserved g c =
       fault = one.looked.fault;
       looks = g.met.L.Look.and_then _ _ _ before.looks looks;
       lines = took_more g.W.Sink.was_written _ _ _ _ _ _ _ before.lines one.line (λ xs ys so is. λ clean rows rowed sees shown.
-          let now = read_off (g.L.Look.is_clean) (g.L.Look.looks) (g.L.Look.sees) g.met.L.Look.and_then g.met.L.Look.was_clean g.met.L.Look.kept _ _ _ is in
+          let now = read_off (g.L.Look.is_clean) (g.L.Look.looks) (g.L.Look.fails) (g.L.Look.sees) g.met.L.Look.and_then g.met.L.Look.was_clean g.met.L.Look.kept _ _ _ is in
           let clean_before = g.met.L.Look.was_clean _ _ looks clean in
           let sees_before = g.met.L.Look.kept _ _ before.looks clean_before rows sees in
           let here = all_at (LeadsToRow rows) es i e shown c.loop-entry-test.true at in
@@ -53,7 +53,7 @@ returns-in-Err g c =
     let e = c.entry-item.result in
     record {
       lines = took_stop g.W.Sink.was_written _ _ _ c.in-Err.fault _ _ _ before.lines one.line (λ xs ys so is.
-          up_to_after (g.L.Look.is_clean) (g.L.Look.looks) (g.L.Look.sees) g.met.L.Look.and_then g.met.L.Look.was_clean g.met.L.Look.kept _ _ _ _ _ _ _
+          up_to_after (g.L.Look.is_clean) (g.L.Look.looks) (g.L.Look.fails) (g.L.Look.sees) g.met.L.Look.and_then g.met.L.Look.was_clean g.met.L.Look.kept _ _ _ _ _ _ _
           before.looks so is (λ rows rowed p q shown.
           let here = all_at (LeadsToRow rows) es i e shown c.loop-entry-test.true at in
           let rest : List ℕ = flat_map (line_of_entry rows) (drop (i + 1) es) in
@@ -74,7 +74,7 @@ returns g c =
     let before = c.loop-entry.invariant in
     record {
       lines = took_all g.W.Sink.was_written _ _ _ _ _ before.lines (λ xs so.
-          up_to_here (g.L.Look.is_clean) (g.L.Look.looks) (g.L.Look.sees) _ _ _ _ before.looks (λ clean rows is sees shown.
+          up_to_here (g.L.Look.is_clean) (g.L.Look.looks) (g.L.Look.fails) (g.L.Look.sees) (λ s. g.met.L.Look.or_less s s (g.met.L.Look.still s)) _ _ _ _ before.looks (λ clean rows is sees shown.
           so clean rows is sees shown ∙ each_all (line_of_entry rows) c.args.entries.now c.loop-entry.entry-index c.loop-entry-test.false));
       written = took_all g.W.Sink.was_written _ _ _ _ _ before.any (λ xs p. p);
       looked = record { fault = before.fault; looks = λ _. before.looks; fails = tt };

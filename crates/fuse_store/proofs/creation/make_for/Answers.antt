@@ -1,42 +1,57 @@
-use Rattle.std.proofs.Common.{refl, sym, subst, ◌∙◌}
+use Rattle.std.proofs.Common.{ℕ, List, refl, sym, subst, ◌∙◌}
 use Rattle.sqlite.specs.Held.{state}
 use Rattle.sqlite.proofs.StateLemmas.{survives_weaker}
 use Rattle.fuse_store_tables.specs.Layout.{no_schema}
-use Rattle.fuse_tree.specs.State.{capacity_for}
 use Rattle.fuse_store_tables.specs.Making.{IsBare, IsNew}
 use Rattle.fuse_store_tables.specs.Moves.{ServesAs}
 use Rattle.fuse_store_tree.specs.Holding.{HeldFor}
-use Rattle.fuse_store.specs.Creating.{new_holding}
+use Rattle.fuse_store.specs.Creating.{IsDataOf, new_holding, volume_for}
 use Rattle.fuse_store.proofs.Retelling.{served_so}
-use Rattle.fuse_store.proofs.MadeNew.{made_new, made_open, was_bare, is_blank, known_ok, alone_serves, none_there, in_one}
+use Rattle.fuse_store.proofs.MadeNew.{made_new, made_over, lists_new, was_bare, is_blank, known_ok, alone_serves, none_there, in_one}
 use Rattle.fuse_store.proofs.creation.make_for.Goals as goal
 
 pub returns-clause-serves : goal.returns-clause-serves
-returns-clause-serves g c =
-    served_so (IsBare no_schema) (IsNew (capacity_for c.args.profile c.args.capacity) c.args.from) (IsBare no_schema) (λ _. HeldFor (new_holding c.args.profile c.args.capacity c.args.from))
-    (made_new c.new_store_is_tree.ensures c.args.profile c.args.capacity c.args.from c.requires c.law_of_root.ensures) (state g.S.Store c.args.conn.now) (state g.S.Store c.make_store.new.conn)
-    c.make_store.result
-    (subst (λ room. ServesAs (IsBare no_schema) (IsNew room c.args.from) (state g.S.Store c.args.conn.now) (state g.S.Store c.make_store.new.conn)
-    c.make_store.result) c.room_for.ensures.is c.make_store.ensures.serves)
+returns-clause-serves g c = λ file has.
+    served_so (IsBare no_schema) (IsNew (volume_for c.args.profile c.args.volume) c.args.from) (IsBare no_schema)
+    (λ _. HeldFor file (new_holding c.args.profile c.args.volume.capacity c.args.from))
+    (made_new c.new_store_is_tree.ensures c.args.profile c.args.volume c.args.from file c.requires (c.law_of_root.ensures _) has) (state g.S.Store c.args.conn.now)
+    (state g.S.Store c.make_store.new.conn) c.make_store.result
+    (subst (λ volume. ServesAs (IsBare no_schema) (IsNew volume c.args.from) (state g.S.Store c.args.conn.now) (state g.S.Store c.make_store.new.conn)
+    c.make_store.result) c.volume_for.ensures.is c.make_store.ensures.serves)
 
 pub returns-clause-done : goal.returns-clause-done
-returns-clause-done g c =
-    made_open (λ _. HeldFor (new_holding c.args.profile c.args.capacity c.args.from)) (state g.S.Store c.args.conn.now) (state g.S.Store c.make_store.new.conn) c.make_store.result
+returns-clause-done g c = λ clean.
+    made_over (λ (file : List ℕ). IsDataOf c.args.profile c.args.volume.number file) (λ file. HeldFor file (new_holding c.args.profile c.args.volume.capacity c.args.from))
+    (state g.S.Store c.args.conn.now) (state g.S.Store c.make_store.new.conn) c.make_store.result
     (returns-clause-serves g c)
     (was_bare (state g.S.Store c.args.conn.now) c.schema.result.now c.if-not-is_autocommit.ensures.value (c.if-not-is_autocommit.ensures.settled refl)
     c.schema.ensures.live c.schema.ensures.value
-    (c.if-not-is_empty.ensures.0 refl))
+    (c.if-not-is_empty.ensures.0 refl)) clean
 
 pub returns-clause-crash : goal.returns-clause-crash
 returns-clause-crash g c =
-    survives_weaker (state g.S.Store c.args.conn.now) (state g.S.Store c.make_store.new.conn) _ _
-    (λ _ db left. (
-      is_blank (state g.S.Store c.args.conn.now) c.schema.result.now c.if-not-is_autocommit.ensures.value c.schema.ensures.value
-          (c.if-not-is_empty.ensures.0 refl),
-      λ is_open. left tt (was_bare (state g.S.Store c.args.conn.now) c.schema.result.now c.if-not-is_autocommit.ensures.value
-          (c.if-not-is_autocommit.ensures.settled refl) c.schema.ensures.live c.schema.ensures.value
-          (c.if-not-is_empty.ensures.0 refl) is_open),
-    )) (returns-clause-serves g c).survives
+    let a = state g.S.Store c.args.conn.now in
+    let b = state g.S.Store c.make_store.new.conn in
+    let serves = subst (λ volume. ServesAs (IsBare no_schema) (IsNew volume c.args.from) a b c.make_store.result) c.volume_for.ensures.is c.make_store.ensures.serves in
+    survives_weaker a b _ _
+    (λ _ db left. record {
+      blank = is_blank a c.schema.result.now c.if-not-is_autocommit.ensures.value c.schema.ensures.value (c.if-not-is_empty.ensures.0 refl);
+      trees = λ is_open file has.
+          let bare = was_bare a c.schema.result.now c.if-not-is_autocommit.ensures.value (c.if-not-is_autocommit.ensures.settled refl) c.schema.ensures.live
+          c.schema.ensures.value (c.if-not-is_empty.ensures.0 refl) is_open in
+          let new = made_new c.new_store_is_tree.ensures c.args.profile c.args.volume c.args.from file c.requires (c.law_of_root.ensures _) has tt a.now bare.holds in
+          let it = left tt bare in
+          (it.0, new.made it.0 it.1, it.2);
+    }) serves.survives
+
+pub returns-clause-lists : goal.returns-clause-lists
+returns-clause-lists g c =
+    let a = state g.S.Store c.args.conn.now in
+    let b = state g.S.Store c.make_store.new.conn in
+    lists_new (volume_for c.args.profile c.args.volume) c.args.from a b c.make_store.result
+    (subst (λ volume. ServesAs (IsBare no_schema) (IsNew volume c.args.from) a b c.make_store.result) c.volume_for.ensures.is c.make_store.ensures.serves)
+    (was_bare a c.schema.result.now c.if-not-is_autocommit.ensures.value (c.if-not-is_autocommit.ensures.settled refl) c.schema.ensures.live
+    c.schema.ensures.value (c.if-not-is_empty.ensures.0 refl))
 
 pub returns-clause-blank : goal.returns-clause-blank
 returns-clause-blank g c =
@@ -55,8 +70,8 @@ returns-clause-taken g c = λ clean outside has.
 -- ---- a database that has tables
 
 pub returns-then-not-is_empty-clause-serves : goal.returns-then-not-is_empty-clause-serves
-returns-then-not-is_empty-clause-serves g c =
-    alone_serves (IsBare no_schema) (λ _. HeldFor (new_holding c.args.profile c.args.capacity c.args.from)) (state g.S.Store c.args.conn.now) (state g.S.Store c.refuse_store.new.conn)
+returns-then-not-is_empty-clause-serves g c = λ file has.
+    alone_serves (IsBare no_schema) (λ _. HeldFor file (new_holding c.args.profile c.args.volume.capacity c.args.from)) (state g.S.Store c.args.conn.now) (state g.S.Store c.refuse_store.new.conn)
     c.refuse_store.result c.refuse_store.ensures.alone
 
 pub returns-then-not-is_empty-clause-crash : goal.returns-then-not-is_empty-clause-crash

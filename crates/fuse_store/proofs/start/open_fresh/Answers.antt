@@ -1,5 +1,6 @@
 use Rattle.std.proofs.lemmas.Result.{IfOk-weaker, IfErr-weaker}
-use Rattle.sqlite.specs.Held.{state}
+use Rattle.fuse_store.specs.Opening.{seen_of}
+use Rattle.fuse_store.specs.TableKeeper.{parts_state}
 use Rattle.fuse_store.proofs.Blank.{no_refusal, fresh_made, fresh_begun}
 use Rattle.fuse_store.proofs.start.open_fresh.Goals as goal
 
@@ -11,15 +12,15 @@ returns-then-blank-clause-stands g c =
 
 pub returns-then-blank-clause-holds : goal.returns-then-blank-clause-holds
 returns-then-blank-clause-holds g c =
-    IfOk-weaker c.create.result _ _ (λ k going clean z was. absurd (c.is_blank-blank.ensures.none c.if-blank.true z was)) c.create.ensures.going
+    IfOk-weaker c.create.result _ _ (λ k going clean z was. absurd (c.is_blank-blank.ensures.none c.if-blank.true (seen_of z (parts_state g.S.Store g.D.Disk c.args.parts)) z was)) c.create.ensures.going
 
 pub returns-then-blank-clause-begins : goal.returns-then-blank-clause-begins
 returns-then-blank-clause-begins g c =
-    IfOk-weaker c.create.result _ _ (λ k going clean z was. absurd (c.is_blank-blank.ensures.none c.if-blank.true z was)) c.create.ensures.going
+    IfOk-weaker c.create.result _ _ (λ k going clean z was. absurd (c.is_blank-blank.ensures.none c.if-blank.true (seen_of z (parts_state g.S.Store g.D.Disk c.args.parts)) z was)) c.create.ensures.going
 
 pub returns-then-blank-clause-lots : goal.returns-then-blank-clause-lots
 returns-then-blank-clause-lots g c =
-    IfOk-weaker c.create.result _ _ (λ k going clean z was. absurd (c.is_blank-blank.ensures.none c.if-blank.true z was)) c.create.ensures.going
+    IfOk-weaker c.create.result _ _ (λ k going clean z was. absurd (c.is_blank-blank.ensures.none c.if-blank.true (seen_of z (parts_state g.S.Store g.D.Disk c.args.parts)) z was)) c.create.ensures.going
 
 pub returns-then-blank-clause-new_lots : goal.returns-then-blank-clause-new_lots
 returns-then-blank-clause-new_lots g c =
@@ -28,16 +29,16 @@ returns-then-blank-clause-new_lots g c =
 pub returns-then-blank-clause-crash : goal.returns-then-blank-clause-crash
 returns-then-blank-clause-crash g c =
     IfErr-weaker c.create.result _ _
-    (λ r left. fresh_made c.args.new (state g.S.Store c.args.conn) (state g.S.Store r.1) (c.is_blank-blank.ensures.none c.if-blank.true) left)
+    (λ r left. fresh_made c.args.new (parts_state g.S.Store g.D.Disk c.args.parts) (parts_state g.S.Store g.D.Disk r.1) (λ z was. c.is_blank-blank.ensures.none c.if-blank.true (seen_of z (parts_state g.S.Store g.D.Disk c.args.parts)) z was) left)
     c.create.ensures.crash
 
 pub returns-then-blank-clause-kept : goal.returns-then-blank-clause-kept
 returns-then-blank-clause-kept g c =
-    IfErr-weaker c.create.result _ _ (λ r left clean is_open z was. absurd (c.is_blank-blank.ensures.none c.if-blank.true z was)) c.create.ensures.crash
+    IfErr-weaker c.create.result _ _ (λ r left clean is_open z was. absurd (c.is_blank-blank.ensures.none c.if-blank.true (seen_of z (parts_state g.S.Store g.D.Disk c.args.parts)) z was)) c.create.ensures.crash
 
 pub returns-then-blank-clause-fault : goal.returns-then-blank-clause-fault
 returns-then-blank-clause-fault g c =
-    IfErr-weaker c.create.result _ _ (λ r left clean z was. absurd (c.is_blank-blank.ensures.none c.if-blank.true z was)) c.create.ensures.crash
+    IfErr-weaker c.create.result _ _ (λ r left z clean was. absurd (c.is_blank-blank.ensures.none c.if-blank.true (seen_of z (parts_state g.S.Store g.D.Disk c.args.parts)) z was)) c.create.ensures.crash
 
 pub returns-then-blank-clause-was : goal.returns-then-blank-clause-was
 returns-then-blank-clause-was g c =
@@ -84,7 +85,7 @@ returns-clause-medium g c = c.open_begun.ensures.medium
 pub returns-clause-crash : goal.returns-clause-crash
 returns-clause-crash g c =
     IfErr-weaker c.open_begun.result _ _
-    (λ r refused. fresh_begun c.args.new (state g.S.Store c.args.conn) (state g.S.Store r.1)
+    (λ r refused. fresh_begun c.args.new (parts_state g.S.Store g.D.Disk c.args.parts) (parts_state g.S.Store g.D.Disk r.1)
     (λ blank. let e = c.is_blank-blank.ensures.blank.1 blank in let n = c.if-blank.false in cc) refused.crash)
     c.open_begun.ensures.refused
 
@@ -92,7 +93,7 @@ pub returns-clause-kept : goal.returns-clause-kept
 returns-clause-kept g c = IfErr-weaker c.open_begun.result _ _ (λ r refused. refused.kept) c.open_begun.ensures.refused
 
 pub returns-clause-fault : goal.returns-clause-fault
-returns-clause-fault g c = IfErr-weaker c.open_begun.result _ _ (λ r refused clean z was. refused.outside clean z was tt) c.open_begun.ensures.refused
+returns-clause-fault g c = IfErr-weaker c.open_begun.result _ _ (λ r refused z clean was. refused.outside z clean was tt) c.open_begun.ensures.refused
 
 pub returns-clause-says : goal.returns-clause-says
 returns-clause-says g c = IfErr-weaker c.open_begun.result _ _ (λ r refused clean stored. refused.says clean) c.open_begun.ensures.refused
@@ -104,6 +105,11 @@ returns-clause-fault_blank g c =
 
 pub returns-clause-new_lots : goal.returns-clause-new_lots
 returns-clause-new_lots g c =
+    IfOk-weaker c.open_begun.result _ _
+    (λ k going clean blank. let e = c.is_blank-blank.ensures.blank.1 blank in let n = c.if-blank.false in cc) c.open_begun.ensures.going
+
+pub returns-clause-stands : goal.returns-clause-stands
+returns-clause-stands g c =
     IfOk-weaker c.open_begun.result _ _
     (λ k going clean blank. let e = c.is_blank-blank.ensures.blank.1 blank in let n = c.if-blank.false in cc) c.open_begun.ensures.going
 
@@ -135,7 +141,7 @@ returns-clause-rows g c = IfOk-weaker c.open_begun.result _ _ (λ k rows stored.
 
 pub returns-then-blank-clause-profile : goal.returns-then-blank-clause-profile
 returns-then-blank-clause-profile g c =
-    IfOk-weaker c.create.result _ _ (λ k going clean z was. absurd (c.is_blank-blank.ensures.none c.if-blank.true z was)) c.create.ensures.going
+    IfOk-weaker c.create.result _ _ (λ k going clean z was. absurd (c.is_blank-blank.ensures.none c.if-blank.true (seen_of z (parts_state g.S.Store g.D.Disk c.args.parts)) z was)) c.create.ensures.going
 
 pub returns-then-blank-clause-new_profile : goal.returns-then-blank-clause-new_profile
 returns-then-blank-clause-new_profile g c = IfOk-weaker c.create.result _ _ (λ k is blank. is) c.create.ensures.profile
@@ -155,3 +161,27 @@ returns-then-blank-clause-undone g c =
 
 pub returns-clause-undone : goal.returns-clause-undone
 returns-clause-undone g c = IfErr-weaker c.open_begun.result _ _ (λ r refused stored. refused.undone) c.open_begun.ensures.refused
+
+-- ---- the data file
+
+pub returns-then-blank-clause-contents : goal.returns-then-blank-clause-contents
+returns-then-blank-clause-contents g c =
+    IfErr-weaker c.create.result _ _ (λ r outside stored. absurd (stored (c.is_blank-blank.ensures.blank.0 c.if-blank.true))) c.create.ensures.outside
+
+pub returns-clause-contents : goal.returns-clause-contents
+returns-clause-contents g c = IfErr-weaker c.open_begun.result _ _ (λ r refused stored. refused.contents) c.open_begun.ensures.refused
+
+-- ---- its data file
+
+pub returns-then-blank-clause-new_number : goal.returns-then-blank-clause-new_number
+returns-then-blank-clause-new_number g c = IfOk-weaker c.create.result _ _ (λ k has blank. has) c.create.ensures.number
+
+pub returns-clause-new_number : goal.returns-clause-new_number
+returns-clause-new_number g c =
+    IfOk-weaker c.open_begun.result _ _ (λ k going blank. let e = c.is_blank-blank.ensures.blank.1 blank in let n = c.if-blank.false in cc) c.open_begun.ensures.going
+
+pub returns-then-blank-clause-untouched : goal.returns-then-blank-clause-untouched
+returns-then-blank-clause-untouched g c = IfErr-weaker c.create.result _ _ (λ r outside refused. no_refusal r.0 outside refused) c.create.ensures.outside
+
+pub returns-clause-untouched : goal.returns-clause-untouched
+returns-clause-untouched g c = IfErr-weaker c.open_begun.result _ _ (λ r refused. refused.untouched) c.open_begun.ensures.refused

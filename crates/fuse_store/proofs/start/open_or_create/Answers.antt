@@ -1,5 +1,6 @@
 use Rattle.std.proofs.lemmas.Result.{IfOk-weaker, IfErr-weaker}
-use Rattle.sqlite.specs.Held.{state}
+use Rattle.fuse_store.specs.Opening.{seen_of}
+use Rattle.fuse_store.specs.TableKeeper.{parts_state}
 use Rattle.fuse_store.proofs.Blank.{no_refusal, left_made, left_opened}
 use Rattle.fuse_store.proofs.start.open_or_create.Goals as goal
 
@@ -11,11 +12,11 @@ returns-then-is_blank-clause-stands g c =
 
 pub returns-then-is_blank-clause-holds : goal.returns-then-is_blank-clause-holds
 returns-then-is_blank-clause-holds g c =
-    IfOk-weaker c.create.result _ _ (λ k going clean z was. absurd (c.is_blank.ensures.none c.if-is_blank.true z was)) c.create.ensures.going
+    IfOk-weaker c.create.result _ _ (λ k going clean z was. absurd (c.is_blank.ensures.none c.if-is_blank.true (seen_of z (parts_state g.S.Store g.D.Disk c.args.parts)) z was)) c.create.ensures.going
 
 pub returns-then-is_blank-clause-lots : goal.returns-then-is_blank-clause-lots
 returns-then-is_blank-clause-lots g c =
-    IfOk-weaker c.create.result _ _ (λ k going clean z was. absurd (c.is_blank.ensures.none c.if-is_blank.true z was)) c.create.ensures.going
+    IfOk-weaker c.create.result _ _ (λ k going clean z was. absurd (c.is_blank.ensures.none c.if-is_blank.true (seen_of z (parts_state g.S.Store g.D.Disk c.args.parts)) z was)) c.create.ensures.going
 
 pub returns-then-is_blank-clause-new_lots : goal.returns-then-is_blank-clause-new_lots
 returns-then-is_blank-clause-new_lots g c =
@@ -24,16 +25,16 @@ returns-then-is_blank-clause-new_lots g c =
 pub returns-then-is_blank-clause-crash : goal.returns-then-is_blank-clause-crash
 returns-then-is_blank-clause-crash g c =
     IfErr-weaker c.create.result _ _
-    (λ r left. left_made c.args.new (state g.S.Store c.args.conn) (state g.S.Store r.1) (c.is_blank.ensures.none c.if-is_blank.true) left)
+    (λ r left. left_made c.args.new (parts_state g.S.Store g.D.Disk c.args.parts) (parts_state g.S.Store g.D.Disk r.1) (λ z was. c.is_blank.ensures.none c.if-is_blank.true (seen_of z (parts_state g.S.Store g.D.Disk c.args.parts)) z was) left)
     c.create.ensures.crash
 
 pub returns-then-is_blank-clause-kept : goal.returns-then-is_blank-clause-kept
 returns-then-is_blank-clause-kept g c =
-    IfErr-weaker c.create.result _ _ (λ r left clean is_open z was. absurd (c.is_blank.ensures.none c.if-is_blank.true z was)) c.create.ensures.crash
+    IfErr-weaker c.create.result _ _ (λ r left clean is_open z was. absurd (c.is_blank.ensures.none c.if-is_blank.true (seen_of z (parts_state g.S.Store g.D.Disk c.args.parts)) z was)) c.create.ensures.crash
 
 pub returns-then-is_blank-clause-fault : goal.returns-then-is_blank-clause-fault
 returns-then-is_blank-clause-fault g c =
-    IfErr-weaker c.create.result _ _ (λ r left clean z was. absurd (c.is_blank.ensures.none c.if-is_blank.true z was)) c.create.ensures.crash
+    IfErr-weaker c.create.result _ _ (λ r left z clean was. absurd (c.is_blank.ensures.none c.if-is_blank.true (seen_of z (parts_state g.S.Store g.D.Disk c.args.parts)) z was)) c.create.ensures.crash
 
 pub returns-then-is_blank-clause-was : goal.returns-then-is_blank-clause-was
 returns-then-is_blank-clause-was g c =
@@ -77,7 +78,7 @@ returns-then-is_blank-clause-rows g c = IfOk-weaker c.create.result _ _ (λ k go
 pub returns-else-is_blank-clause-crash : goal.returns-else-is_blank-clause-crash
 returns-else-is_blank-clause-crash g c =
     IfErr-weaker c.open.result _ _
-    (λ r refused. left_opened c.args.new (state g.S.Store c.args.conn) (state g.S.Store r.1)
+    (λ r refused. left_opened c.args.new (parts_state g.S.Store g.D.Disk c.args.parts) (parts_state g.S.Store g.D.Disk r.1)
     (λ blank. let e = c.is_blank.ensures.blank.1 blank in let n = c.if-is_blank.false in cc) refused.crash)
     c.open.ensures.refused
 
@@ -85,7 +86,7 @@ pub returns-else-is_blank-clause-kept : goal.returns-else-is_blank-clause-kept
 returns-else-is_blank-clause-kept g c = IfErr-weaker c.open.result _ _ (λ r refused. refused.kept) c.open.ensures.refused
 
 pub returns-else-is_blank-clause-fault : goal.returns-else-is_blank-clause-fault
-returns-else-is_blank-clause-fault g c = IfErr-weaker c.open.result _ _ (λ r refused clean z was. refused.outside clean z was tt) c.open.ensures.refused
+returns-else-is_blank-clause-fault g c = IfErr-weaker c.open.result _ _ (λ r refused z clean was. refused.outside z clean was tt) c.open.ensures.refused
 
 pub returns-else-is_blank-clause-says : goal.returns-else-is_blank-clause-says
 returns-else-is_blank-clause-says g c = IfErr-weaker c.open.result _ _ (λ r refused clean stored. refused.says clean) c.open.ensures.refused
@@ -136,7 +137,7 @@ returns-else-is_blank-clause-stands g c =
 
 pub returns-then-is_blank-clause-profile : goal.returns-then-is_blank-clause-profile
 returns-then-is_blank-clause-profile g c =
-    IfOk-weaker c.create.result _ _ (λ k going clean z was. absurd (c.is_blank.ensures.none c.if-is_blank.true z was)) c.create.ensures.going
+    IfOk-weaker c.create.result _ _ (λ k going clean z was. absurd (c.is_blank.ensures.none c.if-is_blank.true (seen_of z (parts_state g.S.Store g.D.Disk c.args.parts)) z was)) c.create.ensures.going
 
 pub returns-then-is_blank-clause-new_profile : goal.returns-then-is_blank-clause-new_profile
 returns-then-is_blank-clause-new_profile g c = IfOk-weaker c.create.result _ _ (λ k is blank. is) c.create.ensures.profile
@@ -156,3 +157,27 @@ returns-then-is_blank-clause-undone g c =
 
 pub returns-else-is_blank-clause-undone : goal.returns-else-is_blank-clause-undone
 returns-else-is_blank-clause-undone g c = IfErr-weaker c.open.result _ _ (λ r refused stored. refused.undone) c.open.ensures.refused
+
+-- ---- the data file
+
+pub returns-then-is_blank-clause-contents : goal.returns-then-is_blank-clause-contents
+returns-then-is_blank-clause-contents g c =
+    IfErr-weaker c.create.result _ _ (λ r outside stored. absurd (stored (c.is_blank.ensures.blank.0 c.if-is_blank.true))) c.create.ensures.outside
+
+pub returns-else-is_blank-clause-contents : goal.returns-else-is_blank-clause-contents
+returns-else-is_blank-clause-contents g c = IfErr-weaker c.open.result _ _ (λ r refused stored. refused.contents) c.open.ensures.refused
+
+-- ---- its data file
+
+pub returns-then-is_blank-clause-new_number : goal.returns-then-is_blank-clause-new_number
+returns-then-is_blank-clause-new_number g c = IfOk-weaker c.create.result _ _ (λ k has blank. has) c.create.ensures.number
+
+pub returns-else-is_blank-clause-new_number : goal.returns-else-is_blank-clause-new_number
+returns-else-is_blank-clause-new_number g c =
+    IfOk-weaker c.open.result _ _ (λ k going blank. let e = c.is_blank.ensures.blank.1 blank in let n = c.if-is_blank.false in cc) c.open.ensures.going
+
+pub returns-then-is_blank-clause-untouched : goal.returns-then-is_blank-clause-untouched
+returns-then-is_blank-clause-untouched g c = IfErr-weaker c.create.result _ _ (λ r outside refused. no_refusal r.0 outside refused) c.create.ensures.outside
+
+pub returns-else-is_blank-clause-untouched : goal.returns-else-is_blank-clause-untouched
+returns-else-is_blank-clause-untouched g c = IfErr-weaker c.open.result _ _ (λ r refused. refused.untouched) c.open.ensures.refused

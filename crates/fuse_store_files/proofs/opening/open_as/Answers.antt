@@ -1,28 +1,34 @@
 use Rattle.std.proofs.lemmas.Result.{IfOk-weaker, IfErr-weaker}
-use Rattle.sqlite.specs.Held.{state}
+use Rattle.fuse_store.specs.TableKeeper.{parts_state}
 use Rattle.fuse_store.specs.StoreKeeper.{own_profile, store_told}
-use Rattle.fuse_store_files.proofs.Opened.{over_existing, over_any, over_fresh, stored_is_not_blank, ok_of_4, ok_of_7}
+use Rattle.fuse_store_files.proofs.Opened.{over_existing, over_any, over_fresh, stored_is_not_blank, honest_conn, clean_kept, ok_of_4, ok_of_7}
 use Rattle.fuse_store_files.proofs.opening.open_as.Goals as goal
 
 pub returns-in-Existing-clause-opens : goal.returns-in-Existing-clause-opens
 returns-in-Existing-clause-opens g c =
     rw c.in-Existing.is (ok_of_4 c.open.result _ _ _ _ _
-    (λ k profile holds lots tabled clean. over_existing (state g.S.Store c.args.conn) (own_profile k) (store_told k) (profile clean) (holds clean) (lots clean) (tabled clean))
+    (λ k profile holds lots tabled clean. over_existing (parts_state g.S.Store g.D.Disk c.args.parts) (own_profile k) (store_told g.S.Store g.D.Disk k) (profile clean) c.in-Existing.number (holds clean) (lots clean) (tabled clean))
     c.open.ensures.profile c.open.ensures.holds c.open.ensures.lots c.open.ensures.tabled)
+
+pub returns-in-Existing-clause-clean : goal.returns-in-Existing-clause-clean
+returns-in-Existing-clause-clean g c = clean_kept g.S.Store g.D.Disk c.open.result
 
 pub returns-in-Existing-clause-crash : goal.returns-in-Existing-clause-crash
 returns-in-Existing-clause-crash g c = rw c.in-Existing.is (IfErr-weaker c.open.result _ _ (λ r refused. refused.crash) c.open.ensures.refused)
 
 pub returns-in-Existing-clause-fault : goal.returns-in-Existing-clause-fault
-returns-in-Existing-clause-fault g c = IfErr-weaker c.open.result _ _ (λ r refused clean z was. refused.outside clean z was tt) c.open.ensures.refused
+returns-in-Existing-clause-fault g c = IfErr-weaker c.open.result _ _ (λ r refused z honest was. refused.outside z honest was tt) c.open.ensures.refused
 
 pub returns-in-Any-clause-opens : goal.returns-in-Any-clause-opens
 returns-in-Any-clause-opens g c =
     rw c.in-Any.is (ok_of_7 c.open_or_create.result _ _ _ _ _ _ _ _
     (λ k profile holds lots stands new_lots made going clean.
-    over_any (state g.S.Store c.args.conn) (own_profile k) (store_told k) (profile clean) c.in-Any.new (holds clean) (lots clean) (stands clean) (new_lots clean) made)
+    over_any (parts_state g.S.Store g.D.Disk c.args.parts) (own_profile k) (store_told g.S.Store g.D.Disk k) (profile clean) c.in-Any.new (holds clean) (lots clean) (stands clean) (new_lots clean) made)
     c.open_or_create.ensures.profile c.open_or_create.ensures.holds c.open_or_create.ensures.lots c.open_or_create.ensures.stands c.open_or_create.ensures.new_lots
     c.open_or_create.ensures.new_profile c.open_or_create.ensures.going)
+
+pub returns-in-Any-clause-clean : goal.returns-in-Any-clause-clean
+returns-in-Any-clause-clean g c = clean_kept g.S.Store g.D.Disk c.open_or_create.result
 
 pub returns-in-Any-clause-crash : goal.returns-in-Any-clause-crash
 returns-in-Any-clause-crash g c = rw c.in-Any.is c.open_or_create.ensures.crash
@@ -31,10 +37,13 @@ pub returns-in-Fresh-clause-opens : goal.returns-in-Fresh-clause-opens
 returns-in-Fresh-clause-opens g c =
     rw c.in-Fresh.is (ok_of_7 c.open_fresh.result _ _ _ _ _ _ _ _
     (λ k profile holds lots begins stands new_lots made clean.
-    over_fresh (state g.S.Store c.args.conn) (own_profile k) (store_told k) (profile clean) c.in-Fresh.new (holds clean) (lots clean) (begins clean) (stands clean)
+    over_fresh (parts_state g.S.Store g.D.Disk c.args.parts) (own_profile k) (store_told g.S.Store g.D.Disk k) (profile clean) c.in-Fresh.new (holds clean) (lots clean) (begins clean) (stands clean)
     (new_lots clean) made)
     c.open_fresh.ensures.profile c.open_fresh.ensures.holds c.open_fresh.ensures.lots c.open_fresh.ensures.begins c.open_fresh.ensures.stands c.open_fresh.ensures.new_lots
     c.open_fresh.ensures.new_profile)
+
+pub returns-in-Fresh-clause-clean : goal.returns-in-Fresh-clause-clean
+returns-in-Fresh-clause-clean g c = clean_kept g.S.Store g.D.Disk c.open_fresh.result
 
 pub returns-in-Fresh-clause-crash : goal.returns-in-Fresh-clause-crash
 returns-in-Fresh-clause-crash g c = rw c.in-Fresh.is c.open_fresh.ensures.crash
@@ -44,17 +53,17 @@ returns-in-Existing-clause-refused g c = IfErr-weaker c.open.result _ _ (λ r re
 
 pub returns-in-Existing-clause-rows : goal.returns-in-Existing-clause-rows
 returns-in-Existing-clause-rows g c =
-    rw c.in-Existing.is (IfOk-weaker c.open.result _ _ (λ k rows clean content at. rows.opened clean content at) c.open.ensures.rows)
+    rw c.in-Existing.is (IfOk-weaker c.open.result _ _ (λ k rows clean content at. rows.opened (honest_conn g.S.Store g.D.Disk k clean) content at) c.open.ensures.rows)
 
 pub returns-in-Any-clause-rows : goal.returns-in-Any-clause-rows
 returns-in-Any-clause-rows g c =
     rw c.in-Any.is (IfOk-weaker c.open_or_create.result _ _
-    (λ k rows clean content at. (rows (stored_is_not_blank (state g.S.Store c.args.conn) content at)).opened clean content at) c.open_or_create.ensures.rows)
+    (λ k rows clean content at. (rows (stored_is_not_blank (parts_state g.S.Store g.D.Disk c.args.parts).tables content at)).opened (honest_conn g.S.Store g.D.Disk k clean) content at) c.open_or_create.ensures.rows)
 
 pub returns-in-Fresh-clause-rows : goal.returns-in-Fresh-clause-rows
 returns-in-Fresh-clause-rows g c =
     rw c.in-Fresh.is (IfOk-weaker c.open_fresh.result _ _
-    (λ k rows clean content at. (rows (stored_is_not_blank (state g.S.Store c.args.conn) content at)).begun clean content at) c.open_fresh.ensures.rows)
+    (λ k rows clean content at. (rows (stored_is_not_blank (parts_state g.S.Store g.D.Disk c.args.parts).tables content at)).begun (honest_conn g.S.Store g.D.Disk k clean) content at) c.open_fresh.ensures.rows)
 
 pub returns-in-Existing-clause-tabled : goal.returns-in-Existing-clause-tabled
 returns-in-Existing-clause-tabled g c = IfOk-weaker c.open.result _ _ (λ k tabled honest ours. tabled honest) c.open.ensures.tabled
@@ -141,3 +150,12 @@ returns-in-Any-clause-stays g c =
 pub returns-in-Fresh-clause-stays : goal.returns-in-Fresh-clause-stays
 returns-in-Fresh-clause-stays g c =
     rw c.in-Fresh.is (IfOk-weaker c.open_fresh.result _ _ (λ k tabled honest ours other. absurd (other (tabled honest (λ blank. ours blank.1)))) c.open_fresh.ensures.tabled)
+
+pub returns-in-Existing-clause-contents : goal.returns-in-Existing-clause-contents
+returns-in-Existing-clause-contents g c = rw c.in-Existing.is (IfErr-weaker c.open.result _ _ (λ r refused ours. refused.contents) c.open.ensures.refused)
+
+pub returns-in-Any-clause-contents : goal.returns-in-Any-clause-contents
+returns-in-Any-clause-contents g c = rw c.in-Any.is (IfErr-weaker c.open_or_create.result _ _ (λ r so ours. so (λ blank. ours blank.1)) c.open_or_create.ensures.contents)
+
+pub returns-in-Fresh-clause-contents : goal.returns-in-Fresh-clause-contents
+returns-in-Fresh-clause-contents g c = rw c.in-Fresh.is (IfErr-weaker c.open_fresh.result _ _ (λ r so ours. so (λ blank. ours blank.1)) c.open_fresh.ensures.contents)

@@ -3,6 +3,7 @@ use Rattle.sqlite.specs.Held.{state}
 use Rattle.fuse_store_tables.specs.Layout.{with_meta, store_schema}
 use Rattle.fuse_store_tables.specs.Making.{IsBare}
 use Rattle.fuse_store_tables.specs.inner.Steps.{HasCounters}
+use Rattle.fuse_store_tables.specs.declared.version.Layout.TheVariants.{Second}
 use Rattle.fuse_store_tables.proofs.Joining.{then_as}
 use Rattle.fuse_store_tables.proofs.MakingLemmas.{fill}
 use Rattle.fuse_store_tables.proofs.Within.{within_then, within_failed, edits_within, fill_edit}
@@ -10,9 +11,9 @@ use Rattle.fuse_store_tables.proofs.creation.fill_meta.Goals as goal
 
 pub returns-clause-made : goal.returns-clause-made
 returns-clause-made g c =
-    then_as (IsBare with_meta) (IsBare store_schema) HasCounters (state g.S.Store c.args.conn.now) (state g.S.Store c.make_entries_in_order.new.conn)
+    then_as (IsBare with_meta) (IsBare store_schema) (HasCounters Second) (state g.S.Store c.args.conn.now) (state g.S.Store c.make_entries_in_order.new.conn)
     (state g.S.Store c.run.new.conn) _ c.run.result c.in_ok-make_entries_in_order.ensures.made
-    (fill (state g.S.Store c.make_entries_in_order.new.conn) (state g.S.Store c.run.new.conn) c.run.result c.run.ensures.runs
+    (fill Second (state g.S.Store c.make_entries_in_order.new.conn) (state g.S.Store c.run.new.conn) c.run.result c.run.ensures.runs
     c.run.ensures.survives)
 
 pub returns-in_err-make_entries_in_order-clause-within : goal.returns-in_err-make_entries_in_order-clause-within
@@ -20,5 +21,5 @@ returns-in_err-make_entries_in_order-clause-within g c = within_failed _ _ _ _ c
 
 pub returns-clause-within : goal.returns-clause-within
 returns-clause-within g c =
-    within_then _ _ _ _ _ c.in_ok-make_entries_in_order.ensures.within (edits_within _ [] fill_edit (state g.S.Store c.make_entries_in_order.new.conn) (state g.S.Store c.run.new.conn) c.run.result
+    within_then _ _ _ _ _ c.in_ok-make_entries_in_order.ensures.within (edits_within _ [] (fill_edit Second) (state g.S.Store c.make_entries_in_order.new.conn) (state g.S.Store c.run.new.conn) c.run.result
     c.run.ensures.runs c.run.ensures.survives)

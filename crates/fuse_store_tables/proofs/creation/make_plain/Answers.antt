@@ -1,12 +1,16 @@
-use Rattle.std.specs.Prelude.{None, ⊤}
+use Rattle.std.specs.Prelude.{None}
+use Rattle.std.proofs.Common.{subst}
 use Rattle.sqlite.specs.Held.{state}
 use Rattle.fuse_store_tables.specs.Layout.{no_schema}
-use Rattle.fuse_store_tables.specs.Content.{Holds, with_node}
-use Rattle.fuse_store_tables.specs.Making.{IsBare, IsNew, root, counters_alone, new_content}
-use Rattle.fuse_store_tables.specs.inner.Steps.{HasCounters}
-use Rattle.fuse_store_tables.proofs.Joining.{then_as, taken_from}
+use Rattle.fuse_store_tables.specs.Content.{with_node}
+use Rattle.fuse_store_tables.specs.Moves.{Makes}
+use Rattle.fuse_store_tables.specs.declared.version.Layout.TheVariants.{Second}
+use Rattle.fuse_store_tables.specs.Making.{IsBare, IsNew, root}
+use Rattle.fuse_store_tables.specs.inner.Steps.{HasCounters, HasRoot}
+use Rattle.fuse_store_tables.proofs.Joining.{then_as}
 use Rattle.fuse_store_tables.proofs.Either.{narrowed_if}
 use Rattle.fuse_store_tables.proofs.Fitting.{fit_new}
+use Rattle.fuse_store_tables.proofs.Volumes.{roots}
 use Rattle.fuse_store_tables.proofs.Within.{within_then, within_failed}
 use Rattle.fuse_store_tables.specs.Refusing.{IsNameTaken}
 use Rattle.fuse_store_tables.specs.inner.Following.{earlier}
@@ -18,13 +22,12 @@ returns-clause-made g c =
     let a = state g.S.Store c.args.conn.now in
     let b = state g.S.Store c.make_tables.new.conn in
     let d = state g.S.Store c.write_node.new.conn in
-    let node = root c.args.from in
-    let last =
-    taken_from Holds (λ k. Holds (with_node node k)) (λ (_ : ⊤). counters_alone) b d c.write_node.result c.write_node.ensures.made in
+    let made : Makes (with_node (root Second c.args.from)) b d c.write_node.result =
+    subst (λ n. Makes (with_node n) b d c.write_node.result) c.root_row-root.ensures.value c.write_node.ensures.made in
     let all =
-    then_as (IsBare no_schema) HasCounters (λ _. Holds (new_content None c.args.from)) a b d _ c.write_node.result c.in_ok-make_tables.ensures.made
-    last in
-    narrowed_if (IsBare no_schema) (λ _. Holds (new_content None c.args.from)) (IsNew None c.args.from) a d c.write_node.result all
+    then_as (IsBare no_schema) (HasCounters Second) (HasRoot Second c.args.from) a b d _ c.write_node.result c.in_ok-make_tables.ensures.made
+    (roots Second c.args.from b d c.write_node.result made) in
+    narrowed_if (IsBare no_schema) (HasRoot Second c.args.from) (IsNew None c.args.from) a d c.write_node.result all
     (λ clean k at on. record {
       is_open = on.is_open;
       in_transaction = on.in_transaction;

@@ -8,7 +8,7 @@ use Rattle.fuse_store_tables.proofs.creation.make_store.Goals as goal
 
 pub returns-in-Err-clause-serves : goal.returns-in-Err-clause-serves
 returns-in-Err-clause-serves g c =
-    undone (IsBare no_schema) (IsNew c.args.room c.args.from) _ _ _ _ _ c.in-Err.ensures.performs c.undo.ensures
+    undone (IsBare no_schema) (IsNew c.args.volume c.args.from) _ _ _ _ _ c.in-Err.ensures.performs c.undo.ensures
 
 pub returns-in-Err-clause-fault : goal.returns-in-Err-clause-fault
 returns-in-Err-clause-fault g c clean =

@@ -3,6 +3,7 @@ use Rattle.fuse_store_tables.specs.Layout.{no_schema, with_meta}
 use Rattle.fuse_store_tables.specs.Making.{IsBare}
 use Rattle.fuse_store_tables.specs.Refusing.{IsNameTaken}
 use Rattle.fuse_store_tables.specs.inner.Steps.{HasCounters}
+use Rattle.fuse_store_tables.specs.declared.version.Layout.TheVariants.{Second}
 use Rattle.fuse_store_tables.specs.inner.Following.{earlier}
 use Rattle.fuse_store_tables.proofs.Joining.{then_as}
 use Rattle.fuse_store_tables.proofs.Within.{within_then, within_failed}
@@ -11,7 +12,7 @@ use Rattle.fuse_store_tables.proofs.creation.make_tables.Goals as goal
 
 pub returns-clause-made : goal.returns-clause-made
 returns-clause-made g c =
-    then_as (IsBare no_schema) (IsBare with_meta) HasCounters (state g.S.Store c.args.conn.now) (state g.S.Store c.make_meta.new.conn)
+    then_as (IsBare no_schema) (IsBare with_meta) (HasCounters Second) (state g.S.Store c.args.conn.now) (state g.S.Store c.make_meta.new.conn)
     (state g.S.Store c.fill_meta.new.conn) _ c.fill_meta.result c.in_ok-make_meta.ensures.made c.fill_meta.ensures.made
 
 pub returns-in_err-make_meta-clause-within : goal.returns-in_err-make_meta-clause-within

@@ -12,14 +12,14 @@ use Rattle.fuse_store_tables.proofs.creation.transact.Goals as goal
 pub returns-in_err-begin-clause-performs : goal.returns-in_err-begin-clause-performs
 returns-in_err-begin-clause-performs g c =
     let P = IsBare no_schema in
-    let Q = IsNew c.args.room c.args.from in
+    let Q = IsNew c.args.volume c.args.from in
     on_err (TransactsAs P Q (state g.S.Store c.args.conn.now) (state g.S.Store c.begin.new.conn)) c.from_residual.result c.from_residual.ensures.0
     (λ e. failed_first P Q _ _ _ e c.in_err-begin.ensures)
 
 pub returns-in_err-make_all-clause-performs : goal.returns-in_err-make_all-clause-performs
 returns-in_err-make_all-clause-performs g c =
     let P = IsBare no_schema in
-    let Q = IsNew c.args.room c.args.from in
+    let Q = IsNew c.args.volume c.args.from in
     on_err (TransactsAs P Q (state g.S.Store c.args.conn.now) (state g.S.Store c.make_all.new.conn)) c.from_residual-in_err-make_all.result
     c.from_residual-in_err-make_all.ensures.0
     (λ e. failed_inside P Q Q _ _ _ _ _ e c.in_ok-begin.ensures c.in_err-make_all.ensures.made)
@@ -27,14 +27,14 @@ returns-in_err-make_all-clause-performs g c =
 pub returns-in_err-commit-clause-performs : goal.returns-in_err-commit-clause-performs
 returns-in_err-commit-clause-performs g c =
     let P = IsBare no_schema in
-    let Q = IsNew c.args.room c.args.from in
+    let Q = IsNew c.args.volume c.args.from in
     on_err (TransactsAs P Q (state g.S.Store c.args.conn.now) (state g.S.Store c.commit.new.conn)) c.from_residual-in_err-commit.result
     c.from_residual-in_err-commit.ensures.0
     (λ e. failed_commit P Q _ _ _ _ _ _ _ e c.in_ok-begin.ensures c.in_ok-make_all.ensures.made c.in_err-commit.ensures)
 
 pub returns-clause-performs : goal.returns-clause-performs
 returns-clause-performs g c =
-    committed (IsBare no_schema) (IsNew c.args.room c.args.from) _ _ _ _ _ _ _ _ c.in_ok-begin.ensures c.in_ok-make_all.ensures.made c.in_ok-commit.ensures
+    committed (IsBare no_schema) (IsNew c.args.volume c.args.from) _ _ _ _ _ _ _ _ c.in_ok-begin.ensures c.in_ok-make_all.ensures.made c.in_ok-commit.ensures
 
 pub returns-clause-ended : goal.returns-clause-ended
 returns-clause-ended g c = λ clean. let on = c.in_ok-commit.ensures.ended clean in (on.1, sym on.3)
@@ -43,7 +43,7 @@ returns-clause-ended g c = λ clean. let on = c.in_ok-commit.ensures.ended clean
 
 pub returns-then-not-is_empty-clause-performs : goal.returns-then-not-is_empty-clause-performs
 returns-then-not-is_empty-clause-performs g c =
-    alone_performs (IsBare no_schema) (IsNew c.args.room c.args.from) _ _ _ (begins_nothing _ _ _ c.in_ok-begin.ensures)
+    alone_performs (IsBare no_schema) (IsNew c.args.volume c.args.from) _ _ _ (begins_nothing _ _ _ c.in_ok-begin.ensures)
 
 pub returns-in_err-begin-clause-alone : goal.returns-in_err-begin-clause-alone
 returns-in_err-begin-clause-alone g c = λ other. begins_nothing _ _ _ c.in_err-begin.ensures

@@ -9,34 +9,34 @@ use Rattle.fuse_store_tables.proofs.Renewed.{clears_opened, sure_cleared, same_s
 use Rattle.fuse_store_tables.proofs.fresh.clear_and_check.Goals as goal
 
 pub returns-in_err-clear-clause-begun : goal.returns-in_err-clear-clause-begun
-returns-in_err-clear-clause-begun g c =
-    fails_alone IsOpened IsBegun IsBegun _ _ _ c.from_residual.result (clears_opened _ _ _ c.in_err-clear.ensures.made) c.from_residual.ensures.0
+returns-in_err-clear-clause-begun g c number =
+    fails_alone (IsOpened number) (IsBegun number) (IsBegun number) _ _ _ c.from_residual.result (clears_opened number _ _ _ c.in_err-clear.ensures.made) c.from_residual.ensures.0
 
 pub returns-in_err-check_second-clause-begun : goal.returns-in_err-check_second-clause-begun
-returns-in_err-check_second-clause-begun g c =
-    fails_next IsOpened IsBegun IsBegun IsBegun _ _ _ _ _ c.from_residual-in_err-check_second.result (clears_opened _ _ _ c.in_ok-clear.ensures.made)
-    (begun_keeps _ _ _ c.in_err-check_second.ensures.checks) c.from_residual-in_err-check_second.ensures.0
+returns-in_err-check_second-clause-begun g c number =
+    fails_next (IsOpened number) (IsBegun number) (IsBegun number) (IsBegun number) _ _ _ _ _ c.from_residual-in_err-check_second.result (clears_opened number _ _ _ c.in_ok-clear.ensures.made)
+    (begun_keeps number _ _ _ c.in_err-check_second.ensures.checks) c.from_residual-in_err-check_second.ensures.0
 
 pub returns-clause-begun : goal.returns-clause-begun
-returns-clause-begun g c =
+returns-clause-begun g c number =
     let all =
-    then_as IsOpened IsBegun IsBegun (state g.S.Store c.args.conn.now) (state g.S.Store c.clear.new.conn) (state g.S.Store c.check_second.new.conn) _ (Ok _)
-    (clears_opened _ _ _ c.in_ok-clear.ensures.made) (begun_keeps _ _ _ c.in_ok-check_second.ensures.checks) in
+    then_as (IsOpened number) (IsBegun number) (IsBegun number) (state g.S.Store c.args.conn.now) (state g.S.Store c.clear.new.conn) (state g.S.Store c.check_second.new.conn) _ (Ok _)
+    (clears_opened number _ _ _ c.in_ok-clear.ensures.made) (begun_keeps number _ _ _ c.in_ok-check_second.ensures.checks) in
     record { stays = all.stays; within = all.within; turns = all.turns }
 
 pub returns-in_err-clear-clause-fault : goal.returns-in_err-clear-clause-fault
-returns-in_err-clear-clause-fault g c =
-    same_sure IsOpened (state g.S.Store c.args.conn.now) (state g.S.Store c.clear.new.conn) _ c.from_residual.result c.from_residual.ensures.1
-    (sure_cleared {X = Unit {0}} (state g.S.Store c.args.conn.now) (state g.S.Store c.clear.new.conn) (Err _) c.in_err-clear.ensures.fault)
+returns-in_err-clear-clause-fault g c number =
+    same_sure (IsOpened number) (state g.S.Store c.args.conn.now) (state g.S.Store c.clear.new.conn) _ c.from_residual.result c.from_residual.ensures.1
+    (sure_cleared {X = Unit {0}} number (state g.S.Store c.args.conn.now) (state g.S.Store c.clear.new.conn) (Err _) c.in_err-clear.ensures.fault)
 
 pub returns-in_err-check_second-clause-fault : goal.returns-in_err-check_second-clause-fault
-returns-in_err-check_second-clause-fault g c =
+returns-in_err-check_second-clause-fault g c number =
     let a = state g.S.Store c.args.conn.now in
     let b = state g.S.Store c.clear.new.conn in
     let d = state g.S.Store c.check_second.new.conn in
-    same_sure IsOpened a d _ c.from_residual-in_err-check_second.result c.from_residual-in_err-check_second.ensures.1
-    (sure_next {Y = Unit {0}} IsOpened IsBegun a b d _ (Err _) (clears_opened _ _ _ c.in_ok-clear.ensures.made)
-    c.in_err-check_second.ensures.checks.reads.commits.survives (begun_sure b d _ c.in_err-check_second.ensures.checks))
+    same_sure (IsOpened number) a d _ c.from_residual-in_err-check_second.result c.from_residual-in_err-check_second.ensures.1
+    (sure_next {Y = Unit {0}} (IsOpened number) (IsBegun number) a b d _ (Err _) (clears_opened number _ _ _ c.in_ok-clear.ensures.made)
+    c.in_err-check_second.ensures.checks.reads.commits.survives (begun_sure number b d _ c.in_err-check_second.ensures.checks))
 
 pub returns-in_err-check_second-clause-plain : goal.returns-in_err-check_second-clause-plain
 returns-in_err-check_second-clause-plain g c =

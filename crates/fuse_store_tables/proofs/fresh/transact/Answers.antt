@@ -1,34 +1,37 @@
 use Rattle.sqlite.specs.Held.{state}
-use Rattle.std.proofs.Common.{OnErr, subst, sym}
-use Rattle.sqlite.specs.State.{HasCleanDisk, KeepsCommit}
+use Rattle.std.proofs.Common.{◌≡◌, OnErr, subst, sym}
+use Rattle.sqlite.specs.Effect.{Database}
+use Rattle.fuse_store_tables.specs.Layout.{third_schema}
+use Rattle.sqlite.specs.State.{HasCleanDisk, KeepsCommit, Survives}
 use Rattle.fuse_store_tables.specs.inner.Following.{earlier}
-use Rattle.fuse_store_tables.specs.Opening.{IsStored, IsLaid}
+use Rattle.fuse_store_tables.specs.Opening.{IsStored, IsSound, IsLaid}
 use Rattle.fuse_store_tables.specs.Clearing.{IsBegun}
 use Rattle.fuse_store_tables.specs.Saying.{IsTabled, Says}
 use Rattle.fuse_store_tables.specs.Moves.{RestsAs, CommitsOnce}
 use Rattle.fuse_store_tables.specs.inner.Performing.{TransactsAs}
 use Rattle.fuse_store_tables.proofs.Alone.{commits_then, begins_nothing, failed_same, committed_same, on_refusal, outside_err, once_none, once_failed, once_committed}
 use Rattle.fuse_store_tables.proofs.Joining.{failed_first, failed_inside, failed_commit, committed, on_err}
+use Rattle.fuse_store_tables.proofs.Readied.{readied_none, readied_tested, readied_made}
 use Rattle.fuse_store_tables.proofs.Within.{nothing_within, keeps_within, keeps_commit}
 use Rattle.fuse_store_tables.proofs.fresh.transact.Goals as goal
 
 pub returns-in_err-begin-clause-performs : goal.returns-in_err-begin-clause-performs
 returns-in_err-begin-clause-performs g c =
-    on_err (TransactsAs IsStored IsBegun (state g.S.Store c.args.conn.now) (state g.S.Store c.begin.new.conn)) c.from_residual.result c.from_residual.ensures.0
-    (λ e. failed_first IsStored IsBegun _ _ _ e c.in_err-begin.ensures)
+    on_err (TransactsAs IsStored (IsBegun c.args.number) (state g.S.Store c.args.conn.now) (state g.S.Store c.begin.new.conn)) c.from_residual.result c.from_residual.ensures.0
+    (λ e. failed_first IsStored (IsBegun c.args.number) _ _ _ e c.in_err-begin.ensures)
 
 pub returns-in-Err-clause-performs : goal.returns-in-Err-clause-performs
 returns-in-Err-clause-performs g c =
-    failed_inside IsStored IsBegun IsBegun _ _ _ _ _ c.in-Err.fault c.in_ok-begin.ensures c.in-Err.ensures.begun
+    failed_inside IsStored (IsBegun c.args.number) (IsBegun c.args.number) _ _ _ _ _ c.in-Err.fault c.in_ok-begin.ensures c.in-Err.ensures.begun
 
 pub returns-in_err-commit-in-Ok-clause-performs : goal.returns-in_err-commit-in-Ok-clause-performs
 returns-in_err-commit-in-Ok-clause-performs g c =
-    on_err (TransactsAs IsStored IsBegun (state g.S.Store c.args.conn.now) (state g.S.Store c.commit.new.conn)) c.from_residual-in_err-commit-in-Ok.result
+    on_err (TransactsAs IsStored (IsBegun c.args.number) (state g.S.Store c.args.conn.now) (state g.S.Store c.commit.new.conn)) c.from_residual-in_err-commit-in-Ok.result
     c.from_residual-in_err-commit-in-Ok.ensures.0
-    (λ e. failed_commit IsStored IsBegun _ _ _ _ _ _ _ e c.in_ok-begin.ensures c.in-Ok.ensures.begun c.in_err-commit-in-Ok.ensures)
+    (λ e. failed_commit IsStored (IsBegun c.args.number) _ _ _ _ _ _ _ e c.in_ok-begin.ensures c.in-Ok.ensures.begun c.in_err-commit-in-Ok.ensures)
 
 pub returns-in_ok-commit-in-Ok-clause-performs : goal.returns-in_ok-commit-in-Ok-clause-performs
-returns-in_ok-commit-in-Ok-clause-performs g c = committed IsStored IsBegun _ _ _ _ _ _ _ _ c.in_ok-begin.ensures c.in-Ok.ensures.begun c.in_ok-commit-in-Ok.ensures
+returns-in_ok-commit-in-Ok-clause-performs g c = committed IsStored (IsBegun c.args.number) _ _ _ _ _ _ _ _ c.in_ok-begin.ensures c.in-Ok.ensures.begun c.in_ok-commit-in-Ok.ensures
 
 pub returns-in_ok-commit-in-Ok-clause-tabled : goal.returns-in_ok-commit-in-Ok-clause-tabled
 returns-in_ok-commit-in-Ok-clause-tabled g c = λ clean.
@@ -80,7 +83,7 @@ returns-in_ok-commit-in-Ok-clause-ended g c = λ clean. let on = c.in_ok-commit-
 
 pub returns-in_err-commit-in-Ok-clause-fault : goal.returns-in_err-commit-in-Ok-clause-fault
 returns-in_err-commit-in-Ok-clause-fault g c = λ clean.
-    outside_err (λ k. RestsAs (IsStored k) (state g.S.Store c.args.conn.now)) _ c.from_residual-in_err-commit-in-Ok.result c.from_residual-in_err-commit-in-Ok.ensures.1
+    outside_err (λ k. RestsAs (IsSound k) (state g.S.Store c.args.conn.now)) _ c.from_residual-in_err-commit-in-Ok.result c.from_residual-in_err-commit-in-Ok.ensures.1
 
 pub returns-in-Err-clause-says : goal.returns-in-Err-clause-says
 returns-in-Err-clause-says g c = λ clean.
@@ -92,7 +95,7 @@ pub returns-in-Err-clause-fault : goal.returns-in-Err-clause-fault
 returns-in-Err-clause-fault g c = λ clean k at.
     let mid = earlier (state g.S.Store c.begin.new.conn) (state g.S.Store c.renew.new.conn) _ c.in-Err.ensures.begun.stays.survives clean in
     let on = c.in_ok-begin.ensures.begun mid in
-    c.in-Err.ensures.fault clean (k, record { is_open = on.0; in_transaction = on.1; holds = subst (IsStored k) (sym on.2) at.holds })
+    c.in-Err.ensures.fault clean (k, record { is_open = on.0; in_transaction = on.1; holds = subst (IsSound k) (sym on.2) at.holds })
 
 -- ---- what was committed is kept
 
@@ -161,3 +164,30 @@ returns-in_ok-commit-in-Ok-clause-left g c = λ clean k at.
       in_transaction = c.in-Ok.ensures.within.within late inside;
       holds = subst (IsLaid k) on.2 at.holds;
     })
+
+pub returns-in_ok-commit-in-Ok-clause-numbered : goal.returns-in_ok-commit-in-Ok-clause-numbered
+returns-in_ok-commit-in-Ok-clause-numbered g c = λ clean none everyday.
+    let b = state g.S.Store c.begin.new.conn in
+    let d = state g.S.Store c.renew.new.conn in
+    let late = earlier d (state g.S.Store c.commit.new.conn) _ c.in_ok-commit-in-Ok.ensures.survives clean in
+    subst (λ (e : Database). e.schema ≡ third_schema) (c.in_ok-begin.ensures.begun (earlier b d _ c.in-Ok.ensures.begun.stays.survives late)).2
+    (c.in-Ok.ensures.numbered late none everyday)
+
+-- ---- what was made ready
+
+pub returns-in_err-begin-clause-left_of : goal.returns-in_err-begin-clause-left_of
+returns-in_err-begin-clause-left_of g c =
+    readied_none g.B.BeforeCommit.makes g.B.BeforeCommit.leaves (Survives (state g.S.Store c.args.conn.now) (state g.S.Store c.begin.new.conn) (λ _. ⊥)) c.args.before.now
+    c.from_residual.result (begins_nothing _ _ _ c.in_err-begin.ensures).survives
+
+pub returns-in-Err-clause-left_of : goal.returns-in-Err-clause-left_of
+returns-in-Err-clause-left_of g c =
+    readied_tested g.B.BeforeCommit.makes g.B.BeforeCommit.leaves (Survives (state g.S.Store c.args.conn.now) (state g.S.Store c.renew.new.conn) (λ _. ⊥))
+    c.args.before.now c.renew.new.before c.in-Err.fault
+    (commits_then _ _ _ (begins_nothing _ _ _ c.in_ok-begin.ensures)
+    (nothing_within _ _ _ (λ clean. (c.in_ok-begin.ensures.begun clean).1) c.in-Err.ensures.within)).survives c.in-Err.ensures.left_of
+
+pub returns-in_err-commit-in-Ok-clause-left_of : goal.returns-in_err-commit-in-Ok-clause-left_of
+returns-in_err-commit-in-Ok-clause-left_of g c =
+    readied_made g.B.BeforeCommit.makes g.B.BeforeCommit.leaves (Survives (state g.S.Store c.args.conn.now) (state g.S.Store c.commit.new.conn) (λ _. ⊥))
+    c.args.before.now c.renew.new.before _ c.from_residual-in_err-commit-in-Ok.result c.from_residual-in_err-commit-in-Ok.ensures.1 c.in-Ok.ensures.made

@@ -1,8 +1,7 @@
 use Rattle.std.proofs.Common.{[]}
 use Rattle.sqlite.specs.Held.{state}
-use Rattle.fuse_store_tables.specs.Layout.{with_answers}
-use Rattle.fuse_store_tables.specs.Content.{Holds, HoldsAs, stored}
-use Rattle.fuse_store_tables.specs.Opening.{IsFirst, IsSecond, IsUnindexed, HoldsUnindexed}
+use Rattle.fuse_store_tables.specs.Content.{Holds}
+use Rattle.fuse_store_tables.specs.Opening.{IsFirst, IsSecond, IsUnindexed, HoldsFirst, HoldsUnindexed}
 use Rattle.fuse_store_tables.proofs.OpenLemmas.{version_looks, version_found, in_order, any_rows}
 use Rattle.fuse_store_tables.proofs.Sayings.{says_version}
 use Rattle.fuse_store_tables.proofs.Selects.{only_reads, reads_within, version_select}
@@ -25,12 +24,12 @@ returns-clause-reports g c = says_version (λ rows. rows.items) (state g.S.Store
 
 pub returns-clause-laid : goal.returns-clause-laid
 returns-clause-laid g c =
-    version_looks (λ k. HoldsAs with_answers (stored k)) Holds HoldsUnindexed any_rows (λ rows. rows.items) (state g.S.Store c.args.conn.now)
+    version_looks HoldsFirst Holds HoldsUnindexed any_rows (λ rows. rows.items) (state g.S.Store c.args.conn.now)
     (state g.S.Store c.query_all.new.self) c.query_all.result c.query_all.ensures.ok c.query_all.ensures.err c.query_all.ensures.survives
 
 pub returns-clause-shows : goal.returns-clause-shows
 returns-clause-shows g c =
-    version_found (λ k. HoldsAs with_answers (stored k)) Holds HoldsUnindexed any_rows (λ rows. rows.items) (state g.S.Store c.args.conn.now)
+    version_found HoldsFirst Holds HoldsUnindexed any_rows (λ rows. rows.items) (state g.S.Store c.args.conn.now)
     (state g.S.Store c.query_all.new.self) c.query_all.result c.query_all.ensures.ok
 
 pub returns-clause-reads : goal.returns-clause-reads

@@ -1,17 +1,15 @@
+use Rattle.std.proofs.Common.{◌≡◌, None}
 use Rattle.sqlite.specs.Held.{state}
-use Rattle.fuse_store_tables.proofs.NodeRows.{adds, adds_new}
-use Rattle.fuse_store_tables.proofs.Within.{edits_within, node_edit}
+use Rattle.fuse_store_tables.specs.Content.{Holds, at_by, node_key, with_node}
+use Rattle.fuse_store_tables.proofs.Laid.{known_takes, known_told}
 use Rattle.fuse_store_tables.proofs.nodes.write_node.Goals as goal
 
 pub returns-clause-made : goal.returns-clause-made
 returns-clause-made g c =
-    adds c.args.row.now (state g.S.Store c.args.conn.now) (state g.S.Store c.run.new.conn) c.run.result (rw c.node_values-values.ensures at
-    c.run.ensures.runs)
-    (rw c.node_values-values.ensures at c.run.ensures.survives)
-
-pub returns-clause-within : goal.returns-clause-within
-returns-clause-within g c =
-    edits_within _ _ node_edit (state g.S.Store c.args.conn.now) (state g.S.Store c.run.new.conn) c.run.result c.run.ensures.runs c.run.ensures.survives
+    known_takes c.layout_of-layout.result (λ k. Holds (with_node c.args.row.now k)) (state g.S.Store c.args.conn.now) (state g.S.Store c.insert_in.new.conn)
+    c.insert_in.result c.layout_of-layout.ensures.value c.insert_in.ensures.made
 
 pub returns-clause-fresh : goal.returns-clause-fresh
-returns-clause-fresh g c = adds_new c.args.row.now (state g.S.Store c.args.conn.now) (state g.S.Store c.run.new.conn) c.run.result (rw c.node_values-values.ensures at c.run.ensures.runs)
+returns-clause-fresh g c = λ clean.
+    known_told c.layout_of-layout.result (state g.S.Store c.args.conn.now) c.insert_in.result
+    (λ k. at_by node_key c.args.row.now.node k.nodes ≡ None) c.layout_of-layout.ensures.value (c.insert_in.ensures.fresh clean)

@@ -1,4 +1,4 @@
-use Rattle.std.proofs.Common.{◌≡◌, Ok, Err, length, ap, arith, ◌∙◌}
+use Rattle.std.proofs.Common.{◌≡◌, Ok, Err, length, sym, ap, arith, ◌∙◌}
 use Rattle.std.specs.Prelude.{⊤}
 use Rattle.sqlite.specs.Held.{state}
 use Rattle.fuse_store_tables.specs.Content.{Content}
@@ -69,5 +69,17 @@ returns-clause-profile g c = λ clean k at.
     let e = state g.S.Store c.check_lots.new.conn in
     let long : c.in_ok-meta.meta.len ≡ length c.in_ok-meta.meta.items = omega (arith, c.in_ok-meta.meta.ok) in
     let first = earlier b d _ c.in_ok-check_numbers.ensures.reads.commits.survives (earlier d e _ c.in_ok-check_lots.ensures.reads.commits.survives clean) in
-    c.profile_by.ensures ∙ ap profile_by (c.len.ensures ∙ long) ∙ counted_by c.in_ok-meta.meta.items k (profile_in k) (c.in_ok-meta.ensures.shows first k at)
+    c.profile_by.ensures ∙ ap profile_by (c.len.ensures ∙ long) ∙ counted_by c.in_ok-meta.meta.items k (c.in_ok-meta.ensures.shows first k at)
     (c.in_ok-meta.ensures.checks.whole first k at tt)
+
+pub returns-clause-more : goal.returns-clause-more
+returns-clause-more g c = λ clean everyday.
+    let b = state g.S.Store c.check_second_meta.new.conn in
+    let d = state g.S.Store c.check_numbers.new.conn in
+    let e = state g.S.Store c.check_lots.new.conn in
+    let long : c.in_ok-meta.meta.len ≡ length c.in_ok-meta.meta.items = omega (arith, c.in_ok-meta.meta.ok) in
+    let first = earlier b d _ c.in_ok-check_numbers.ensures.reads.commits.survives (earlier d e _ c.in_ok-check_lots.ensures.reads.commits.survives clean) in (
+      c.in_ok-meta.meta.items,
+      c.in_ok-meta.ensures.tells first,
+      λ eleven. absurd (let clash = sym (c.profile_by.ensures ∙ ap profile_by (c.len.ensures ∙ long ∙ eleven)) ∙ everyday in cc),
+    )

@@ -7,16 +7,16 @@ use Rattle.fuse_store_tables.proofs.Within.{within_then, within_fails, within_fa
 use Rattle.fuse_store_tables.proofs.setup.open_first.Goals as goal
 
 pub returns-in_err-migrate-clause-made : goal.returns-in_err-migrate-clause-made
-returns-in_err-migrate-clause-made g c =
-    fails_next IsFirst IsFirst IsOpened IsOpened _ _ _ _ _ _ (checks_keep IsFirst first_laid HasFirstMeta _ _ _ c.in_ok-check_first.ensures) c.in_err-migrate.ensures.made
+returns-in_err-migrate-clause-made g c number =
+    fails_next IsFirst IsFirst (IsOpened number) (IsOpened number) _ _ _ _ _ _ (checks_keep IsFirst first_laid HasFirstMeta _ _ _ c.in_ok-check_first.ensures) (c.in_err-migrate.ensures.made number)
     c.from_residual-in_err-migrate.ensures.0
 
 pub returns-clause-made : goal.returns-clause-made
-returns-clause-made g c =
+returns-clause-made g c number =
     let all =
-    then_as IsFirst IsFirst IsOpened (state g.S.Store c.args.conn.now) (state g.S.Store c.check_first.new.conn) (state g.S.Store c.migrate.new.conn) _
+    then_as IsFirst IsFirst (IsOpened number) (state g.S.Store c.args.conn.now) (state g.S.Store c.check_first.new.conn) (state g.S.Store c.migrate.new.conn) _
     (Ok _) (checks_keep IsFirst first_laid HasFirstMeta _ _ _ c.in_ok-check_first.ensures)
-    c.in_ok-migrate.ensures.made in
+    (c.in_ok-migrate.ensures.made number) in
     record { stays = all.stays; within = all.within; turns = all.turns }
 
 pub returns-in_err-check_first-clause-within : goal.returns-in_err-check_first-clause-within

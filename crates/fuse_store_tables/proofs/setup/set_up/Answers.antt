@@ -1,5 +1,6 @@
 use Rattle.sqlite.specs.Held.{state}
 use Rattle.fuse_store_tables.proofs.Alone.{left_alone, undone_alone, undone_kept, once_undone}
+use Rattle.fuse_store_tables.proofs.Readied.{readied_undone}
 use Rattle.fuse_store_tables.proofs.setup.set_up.Goals as goal
 
 pub returns-in-Ok-clause-alone : goal.returns-in-Ok-clause-alone
@@ -31,3 +32,8 @@ pub returns-in-Err-clause-once : goal.returns-in-Err-clause-once
 returns-in-Err-clause-once g c =
     once_undone (state g.S.Store c.args.conn.now) (state g.S.Store c.transact.new.conn) (state g.S.Store c.undo.new.conn) c.in-Err.fault c.in-Err.fault
     c.in-Err.ensures.once c.undo.ensures
+
+pub returns-in-Err-clause-left_of : goal.returns-in-Err-clause-left_of
+returns-in-Err-clause-left_of g c =
+    readied_undone g.B.BeforeCommit.makes g.B.BeforeCommit.leaves (state g.S.Store c.args.conn.now) (state g.S.Store c.transact.new.conn) (state g.S.Store c.undo.new.conn)
+    c.args.before.now c.transact.new.before c.in-Err.fault c.in-Err.ensures.left_of c.undo.ensures

@@ -1,6 +1,8 @@
 use Rattle.sqlite.specs.Held.{state}
-use Rattle.std.proofs.Common.{OnErr, subst, sym}
-use Rattle.sqlite.specs.State.{HasCleanDisk, KeepsCommit}
+use Rattle.std.proofs.Common.{◌≡◌, OnErr, subst, sym}
+use Rattle.sqlite.specs.Effect.{Database}
+use Rattle.fuse_store_tables.specs.Layout.{third_schema}
+use Rattle.sqlite.specs.State.{HasCleanDisk, KeepsCommit, Survives}
 use Rattle.fuse_store_tables.specs.inner.Following.{earlier}
 use Rattle.fuse_store_tables.specs.Opening.{IsStored, IsOpened, IsLaid, IsWantedStore}
 use Rattle.fuse_store_tables.specs.Saying.{IsTabled, IsToMigrate, Says}
@@ -8,26 +10,27 @@ use Rattle.fuse_store_tables.specs.Moves.{RestsAs, CommitsOnce}
 use Rattle.fuse_store_tables.specs.inner.Performing.{TransactsAs}
 use Rattle.fuse_store_tables.proofs.Alone.{commits_then, begins_nothing, failed_same, committed_same, on_refusal, outside_err, once_none, once_failed, once_committed}
 use Rattle.fuse_store_tables.proofs.Joining.{failed_first, failed_inside, failed_commit, committed, on_err}
+use Rattle.fuse_store_tables.proofs.Readied.{readied_none, readied_tested, readied_made}
 use Rattle.fuse_store_tables.proofs.Within.{nothing_within, keeps_within, keeps_commit}
 use Rattle.fuse_store_tables.proofs.setup.transact.Goals as goal
 
 pub returns-in_err-begin-clause-performs : goal.returns-in_err-begin-clause-performs
 returns-in_err-begin-clause-performs g c =
-    on_err (TransactsAs IsStored IsOpened (state g.S.Store c.args.conn.now) (state g.S.Store c.begin.new.conn)) c.from_residual.result c.from_residual.ensures.0
-    (λ e. failed_first IsStored IsOpened _ _ _ e c.in_err-begin.ensures)
+    on_err (TransactsAs IsStored (IsOpened c.args.number) (state g.S.Store c.args.conn.now) (state g.S.Store c.begin.new.conn)) c.from_residual.result c.from_residual.ensures.0
+    (λ e. failed_first IsStored (IsOpened c.args.number) _ _ _ e c.in_err-begin.ensures)
 
 pub returns-in-Err-clause-performs : goal.returns-in-Err-clause-performs
 returns-in-Err-clause-performs g c =
-    failed_inside IsStored IsOpened IsOpened _ _ _ _ _ c.in-Err.fault c.in_ok-begin.ensures c.in-Err.ensures.opened
+    failed_inside IsStored (IsOpened c.args.number) (IsOpened c.args.number) _ _ _ _ _ c.in-Err.fault c.in_ok-begin.ensures c.in-Err.ensures.opened
 
 pub returns-in_err-commit-in-Ok-clause-performs : goal.returns-in_err-commit-in-Ok-clause-performs
 returns-in_err-commit-in-Ok-clause-performs g c =
-    on_err (TransactsAs IsStored IsOpened (state g.S.Store c.args.conn.now) (state g.S.Store c.commit.new.conn)) c.from_residual-in_err-commit-in-Ok.result
+    on_err (TransactsAs IsStored (IsOpened c.args.number) (state g.S.Store c.args.conn.now) (state g.S.Store c.commit.new.conn)) c.from_residual-in_err-commit-in-Ok.result
     c.from_residual-in_err-commit-in-Ok.ensures.0
-    (λ e. failed_commit IsStored IsOpened _ _ _ _ _ _ _ e c.in_ok-begin.ensures c.in-Ok.ensures.opened c.in_err-commit-in-Ok.ensures)
+    (λ e. failed_commit IsStored (IsOpened c.args.number) _ _ _ _ _ _ _ e c.in_ok-begin.ensures c.in-Ok.ensures.opened c.in_err-commit-in-Ok.ensures)
 
 pub returns-in_ok-commit-in-Ok-clause-performs : goal.returns-in_ok-commit-in-Ok-clause-performs
-returns-in_ok-commit-in-Ok-clause-performs g c = committed IsStored IsOpened _ _ _ _ _ _ _ _ c.in_ok-begin.ensures c.in-Ok.ensures.opened c.in_ok-commit-in-Ok.ensures
+returns-in_ok-commit-in-Ok-clause-performs g c = committed IsStored (IsOpened c.args.number) _ _ _ _ _ _ _ _ c.in_ok-begin.ensures c.in-Ok.ensures.opened c.in_ok-commit-in-Ok.ensures
 
 pub returns-in_ok-commit-in-Ok-clause-tabled : goal.returns-in_ok-commit-in-Ok-clause-tabled
 returns-in_ok-commit-in-Ok-clause-tabled g c = λ clean.
@@ -147,3 +150,30 @@ returns-in_ok-commit-in-Ok-clause-once g c =
     once_committed (state g.S.Store c.args.conn.now) (state g.S.Store c.work_for.new.conn) (state g.S.Store c.commit.new.conn) _ _
     (commits_then _ _ _ (begins_nothing _ _ _ c.in_ok-begin.ensures) (nothing_within _ _ _ (λ clean. (c.in_ok-begin.ensures.begun clean).1) c.in-Ok.ensures.within))
     c.in_ok-commit-in-Ok.ensures
+
+pub returns-in_ok-commit-in-Ok-clause-numbered : goal.returns-in_ok-commit-in-Ok-clause-numbered
+returns-in_ok-commit-in-Ok-clause-numbered g c = λ clean none everyday.
+    let b = state g.S.Store c.begin.new.conn in
+    let d = state g.S.Store c.work_for.new.conn in
+    let late = earlier d (state g.S.Store c.commit.new.conn) _ c.in_ok-commit-in-Ok.ensures.survives clean in
+    subst (λ (e : Database). e.schema ≡ third_schema) (c.in_ok-begin.ensures.begun (earlier b d _ c.in-Ok.ensures.opened.stays.survives late)).2
+    (c.in-Ok.ensures.numbered none everyday)
+
+-- ---- what was made ready
+
+pub returns-in_err-begin-clause-left_of : goal.returns-in_err-begin-clause-left_of
+returns-in_err-begin-clause-left_of g c =
+    readied_none g.B.BeforeCommit.makes g.B.BeforeCommit.leaves (Survives (state g.S.Store c.args.conn.now) (state g.S.Store c.begin.new.conn) (λ _. ⊥)) c.args.before.now
+    c.from_residual.result (begins_nothing _ _ _ c.in_err-begin.ensures).survives
+
+pub returns-in-Err-clause-left_of : goal.returns-in-Err-clause-left_of
+returns-in-Err-clause-left_of g c =
+    readied_tested g.B.BeforeCommit.makes g.B.BeforeCommit.leaves (Survives (state g.S.Store c.args.conn.now) (state g.S.Store c.work_for.new.conn) (λ _. ⊥))
+    c.args.before.now c.work_for.new.before c.in-Err.fault
+    (commits_then _ _ _ (begins_nothing _ _ _ c.in_ok-begin.ensures)
+    (nothing_within _ _ _ (λ clean. (c.in_ok-begin.ensures.begun clean).1) c.in-Err.ensures.within)).survives c.in-Err.ensures.left_of
+
+pub returns-in_err-commit-in-Ok-clause-left_of : goal.returns-in_err-commit-in-Ok-clause-left_of
+returns-in_err-commit-in-Ok-clause-left_of g c =
+    readied_made g.B.BeforeCommit.makes g.B.BeforeCommit.leaves (Survives (state g.S.Store c.args.conn.now) (state g.S.Store c.commit.new.conn) (λ _. ⊥))
+    c.args.before.now c.work_for.new.before _ c.from_residual-in_err-commit-in-Ok.result c.from_residual-in_err-commit-in-Ok.ensures.1 c.in-Ok.ensures.made

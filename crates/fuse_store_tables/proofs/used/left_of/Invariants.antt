@@ -2,8 +2,8 @@ use Rattle.std.proofs.Common.{length, take, ◌-◌, ◌≡◌, ◌≤◌}
 use Rattle.fuse_store_tables.specs.inner.Steps.{read_blocks}
 use Rattle.fuse_store_tables.proofs.used.left_of.Given as goal
 
-abbrev pub invariant-sizes : goal.invariant-sizes
-invariant-sizes l = (l.used ≡ l.fn.used) × (l.sizes ≡ l.fn.sizes) × (l.at ≤ length l.sizes) × (l.left ≡ l.fn.used - read_blocks (take l.at l.sizes))
+abbrev pub invariant-extents : goal.invariant-extents
+invariant-extents l = (l.used ≡ l.fn.used) × (l.extents ≡ l.fn.extents) × (l.at ≤ length l.extents) × (l.left ≡ l.fn.used - read_blocks l.fn.layout (take l.at l.extents))
 
-abbrev pub decreases-sizes : goal.decreases-sizes
-decreases-sizes l = length l.sizes - l.at
+abbrev pub decreases-extents : goal.decreases-extents
+decreases-extents l = length l.extents - l.at

@@ -10,28 +10,28 @@ use Rattle.fuse_store_tree.proofs.OnlyReading.{reads_told, reads_failed, reads_n
 use Rattle.fuse_store_tree.proofs.reads.answer_at_rest.Goals as goal
 
 pub returns-then-id-ge-END-clause-value : goal.returns-then-id-ge-END-clause-value
-returns-then-id-ge-END-clause-value g c clean y at = none_kept c.args.id y (state g.S.Store c.args.conn.now) (omega (arith, c.if-id-ge-END.true)) at
+returns-then-id-ge-END-clause-value g c file clean y at = none_kept file c.args.id y (state g.S.Store c.args.conn.now) (omega (arith, c.if-id-ge-END.true)) at
 
 pub returns-in_err-rows-clause-serves : goal.returns-in_err-rows-clause-serves
-returns-in_err-rows-clause-serves g c =
-    failed_for (state g.S.Store c.args.conn.now) (state g.S.Store c.select_kept.new.conn) _ c.from_residual.result c.from_residual.ensures.0
+returns-in_err-rows-clause-serves g c file =
+    failed_for file (state g.S.Store c.args.conn.now) (state g.S.Store c.select_kept.new.conn) _ c.from_residual.result c.from_residual.ensures.0
     c.in_err-rows.ensures.rests
 
 pub returns-clause-serves : goal.returns-clause-serves
-returns-clause-serves g c =
-    read_for (state g.S.Store c.args.conn.now) (state g.S.Store c.select_kept.new.conn) c.in_ok-rows.rows c.read_answer.result c.in_ok-rows.ensures.rests
+returns-clause-serves g c file =
+    read_for file (state g.S.Store c.args.conn.now) (state g.S.Store c.select_kept.new.conn) c.in_ok-rows.rows c.read_answer.result c.in_ok-rows.ensures.rests
 
 pub returns-clause-value : goal.returns-clause-value
 returns-clause-value g c =
-    map_ok c.read_answer.result _ _ (λ r told clean y at. told (at_by kept_key c.args.id at.holds.held.0.kept) (c.as_slice.ensures.value
-    ∙ c.in_ok-rows.ensures.found_at_rest clean at.holds.held.0 (content_at y (state g.S.Store c.args.conn.now) at))
+    map_ok c.read_answer.result _ _ (λ r told file clean y at. told (at_by kept_key c.args.id at.holds.held.0.kept) (c.as_slice.ensures.value
+    ∙ c.in_ok-rows.ensures.found_at_rest clean at.holds.held.0 (content_at file y (state g.S.Store c.args.conn.now) at))
     ∙ ap (λ ks. records_of ks c.args.id) at.holds.held.2.kept) c.read_answer.ensures.value
 
 pub returns-clause-fault : goal.returns-clause-fault
-returns-clause-fault g c clean =
+returns-clause-fault g c file clean =
     map_err c.read_answer.result _ _ (λ f told y at. told (at_by kept_key c.args.id at.holds.held.0.kept)
     (drop_second _ _ (at_by kept_key c.args.id at.holds.held.0.kept) (found_is kept_key c.args.id KeepsRecord at.holds.held.0.kept at.holds.held.2.fits.kept))
-    (c.as_slice.ensures.value ∙ c.in_ok-rows.ensures.found_at_rest clean at.holds.held.0 (content_at y (state g.S.Store c.args.conn.now) at)))
+    (c.as_slice.ensures.value ∙ c.in_ok-rows.ensures.found_at_rest clean at.holds.held.0 (content_at file y (state g.S.Store c.args.conn.now) at)))
     c.read_answer.ensures.fault
 
 pub returns-then-id-ge-END-clause-open : goal.returns-then-id-ge-END-clause-open

@@ -9,23 +9,23 @@ use Rattle.fuse_store_tree.proofs.OnlyReading.{reads_told, reads_failed}
 use Rattle.fuse_store_tree.proofs.reads.settings_at_rest.Goals as goal
 
 pub returns-in_err-rows-clause-serves : goal.returns-in_err-rows-clause-serves
-returns-in_err-rows-clause-serves g c =
-    failed_for (state g.S.Store c.args.conn.now) (state g.S.Store c.select_counters.new.conn) _ c.from_residual.result c.from_residual.ensures.0
+returns-in_err-rows-clause-serves g c file =
+    failed_for file (state g.S.Store c.args.conn.now) (state g.S.Store c.select_counters.new.conn) _ c.from_residual.result c.from_residual.ensures.0
     c.in_err-rows.ensures.rests
 
 pub returns-clause-serves : goal.returns-clause-serves
-returns-clause-serves g c =
-    read_for (state g.S.Store c.args.conn.now) (state g.S.Store c.select_counters.new.conn) c.in_ok-rows.rows c.read_settings.result c.in_ok-rows.ensures.rests
+returns-clause-serves g c file =
+    read_for file (state g.S.Store c.args.conn.now) (state g.S.Store c.select_counters.new.conn) c.in_ok-rows.rows c.read_settings.result c.in_ok-rows.ensures.rests
 
 pub returns-clause-value : goal.returns-clause-value
 returns-clause-value g c =
-    map_ok c.read_settings.result _ _ (λ r told clean y at. told (counters_held y) (counters_shown y (state g.S.Store c.args.conn.now) c.as_slice.result.now
+    map_ok c.read_settings.result _ _ (λ r told file clean y at. told (counters_held y at.holds.held.2.number) (counters_shown file y (state g.S.Store c.args.conn.now) c.as_slice.result.now
     (λ k here. c.as_slice.ensures.value ∙ c.in_ok-rows.ensures.found_at_rest clean k here) at)
-    ∙ agreed_back (rowed y.tree).counters (rowed y.tree).settings y.next_lot) c.read_settings.ensures.value
+    ∙ agreed_back (rowed y.tree).counters (rowed y.tree).settings y.next_lot at.holds.held.2.number) c.read_settings.ensures.value
 
 pub returns-clause-fault : goal.returns-clause-fault
-returns-clause-fault g c clean =
-    map_err c.read_settings.result _ _ (λ f told y at. told (counters_held y) (counters_shown y (state g.S.Store c.args.conn.now) c.as_slice.result.now
+returns-clause-fault g c file clean =
+    map_err c.read_settings.result _ _ (λ f told y at. told (counters_held y at.holds.held.2.number) (counters_shown file y (state g.S.Store c.args.conn.now) c.as_slice.result.now
     (λ k here. c.as_slice.ensures.value ∙ c.in_ok-rows.ensures.found_at_rest clean k here) at)
     (omega arith) at.holds.held.2.settings.minor at.holds.held.2.settings.readahead) c.read_settings.ensures.fault
 

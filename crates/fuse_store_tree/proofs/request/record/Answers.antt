@@ -4,7 +4,7 @@ use Rattle.fuse_store_tree.proofs.request.record.Goals as goal
 
 pub returns-in-Ok-clause-turned : goal.returns-in-Ok-clause-turned
 returns-in-Ok-clause-turned g c =
-    recorded c.args.id c.args.lot c.args.answer.now (state g.S.Store c.args.conn.now) (state g.S.Store c.insert_kept.new.conn) _ c.requires.id
+    λ file. recorded file c.args.id c.args.lot c.args.answer.now (state g.S.Store c.args.conn.now) (state g.S.Store c.insert_kept.new.conn) _ c.requires.id
     c.requires.fits c.law_of_errno.ensures
     c.in-Ok.ensures.made
 

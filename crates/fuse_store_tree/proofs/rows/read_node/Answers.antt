@@ -7,10 +7,10 @@ use Rattle.fuse_store_tree.proofs.rows.read_node.Goals as goal
 
 pub returns-in-Err-clause-fault : goal.returns-in-Err-clause-fault
 returns-in-Err-clause-fault c o keeps is =
-    first_is (λ p. IfSome p KeepsNode → IsOutside c.in-Err.fault) c.args.rows.now c.in-Some.row.now c.in-Some.ensures.value o is
+    first_is c.args.layout (λ p. IfSome p (KeepsNode c.args.layout) → IsOutside c.in-Err.fault) c.args.rows.now c.in-Some.row.now c.in-Some.ensures.value o is
     (λ n row known. c.in-Err.ensures.fault n [] known.widths row) keeps
 
 pub returns-in-Ok-clause-value : goal.returns-in-Ok-clause-value
 returns-in-Ok-clause-value c o keeps is =
-    first_is (λ p. IfSome p (λ n. KeepsNode n × (n.node ≡ c.args.number)) → ◌≡◌ {A = Option NodeRow} (Some c.in-Ok.found) p) c.args.rows.now c.in-Some.row.now
-    c.in-Some.ensures.value o is (λ n row known. ap Some (c.in-Ok.ensures.value n [] known.0.widths known.1 row)) keeps
+    first_is c.args.layout (λ p. IfSome p (λ n. KeepsNode c.args.layout n × (n.node ≡ c.args.number)) → ◌≡◌ {A = Option NodeRow} (Some c.in-Ok.found) p) c.args.rows.now c.in-Some.row.now
+    c.in-Some.ensures.value o is (λ n row known. ap Some (c.in-Ok.ensures.value n [] known.0.widths known.0.count known.1 row)) keeps

@@ -1,4 +1,4 @@
-use Rattle.std.proofs.Common.{◌∙◌, refl, sym, ap, subst, ◌≡◌, ◌≤◌, length, [], true, false}
+use Rattle.std.proofs.Common.{◌∙◌, refl, sym, ap, subst, ◌≡◌, ◌≤◌, length, []}
 use Rattle.std.proofs.lemmas.List.{take_all}
 use Rattle.fuse_keeper.specs.Group.{entries_of}
 use Rattle.fuse_keeper.specs.History.{kept_of}

@@ -6,18 +6,20 @@ use Rattle.fuse_store_tree.proofs.Whole.{rolled_back, serves_nothing}
 use Rattle.fuse_store_tree.proofs.seeing.see_at_rest.Goals as goal
 
 pub returns-in-Ok-clause-serves : goal.returns-in-Ok-clause-serves
-returns-in-Ok-clause-serves g c =
-    served (HeldForKnown c.args.look.now.known) (HeldForKnown c.see_inside.new.look.known) (state g.S.Store c.args.look.now.conn)
-    (state g.S.Store c.see_inside.new.look.conn) c.in-Ok.dones c.in-Ok.dones c.in-Ok.ensures.performs
+returns-in-Ok-clause-serves g c = λ read.
+    let bytes = (g.C.Contents.file c.see_inside.new.look.contents).bytes in
+    served (HeldForKnown bytes c.args.look.now.known) (HeldForKnown bytes c.see_inside.new.look.known) (state g.S.Store c.args.look.now.conn)
+    (state g.S.Store c.see_inside.new.look.conn) c.in-Ok.dones c.in-Ok.dones (c.in-Ok.ensures.performs read)
 
 pub returns-in-Err-clause-serves : goal.returns-in-Err-clause-serves
-returns-in-Err-clause-serves g c =
+returns-in-Err-clause-serves g c = λ read.
+    let w = (g.C.Contents.file c.see_inside.new.look.contents) in
     let a = state g.S.Store c.args.look.now.conn in
     let d = state g.S.Store c.undo.new.conn in
     let m = c.args.look.now.known in
     let n = c.see_inside.new.look.known in
-    serves_nothing m n a d c.in-Err.fault
-    (undone (HeldForKnown m) (HeldForKnown n) a (state g.S.Store c.see_inside.new.look.conn) d c.in-Err.fault c.in-Err.fault c.in-Err.ensures.performs
+    serves_nothing w m n a d c.in-Err.fault
+    (undone (HeldForKnown w.bytes m) (HeldForKnown w.bytes n) a (state g.S.Store c.see_inside.new.look.conn) d c.in-Err.fault c.in-Err.fault (c.in-Err.ensures.performs read)
     c.undo.ensures)
 
 pub returns-in-Ok-clause-open : goal.returns-in-Ok-clause-open
@@ -37,5 +39,5 @@ returns-in-Err-clause-alone g c =
     c.undo.ensures
 
 pub returns-in-Err-clause-fault : goal.returns-in-Err-clause-fault
-returns-in-Err-clause-fault g c clean =
-    c.in-Err.ensures.fault (earlier (state g.S.Store c.see_inside.new.look.conn) (state g.S.Store c.undo.new.conn) _ c.undo.ensures.survives clean)
+returns-in-Err-clause-fault g c read clean =
+    c.in-Err.ensures.fault read (earlier (state g.S.Store c.see_inside.new.look.conn) (state g.S.Store c.undo.new.conn) _ c.undo.ensures.survives clean)

@@ -1,4 +1,4 @@
-use Rattle.std.proofs.Common.{◌-◌, ◌≡◌, ◌≤◌, length, take}
+use Rattle.std.proofs.Common.{◌-◌, ◌≡◌, ◌≤◌, ℕ, List, length, take}
 use Rattle.sqlite.specs.Held.{state}
 use Rattle.fuse_keeper.specs.Group.{ids_of}
 use Rattle.fuse_store_tree.specs.inner.Changing.{Turned}
@@ -9,7 +9,7 @@ abbrev pub invariant-rest : goal.invariant-rest
 invariant-rest g l = record {
   ids : l.ids ≡ l.fn.ids;
   done : l.done ≤ length l.fn.ids;
-  turned : Turned (without_settled (ids_of (take l.done l.fn.ids))) (state g.S.Store l.fn.conn) (state g.S.Store l.conn);
+  turned : (file : List ℕ) → Turned file (without_settled (ids_of (take l.done l.fn.ids))) (state g.S.Store l.fn.conn) (state g.S.Store l.conn);
 }
 
 abbrev pub decreases-rest : goal.decreases-rest

@@ -1,115 +1,124 @@
-use Rattle.std.proofs.Common.{None, false, sym, ◌∙◌}
-use Rattle.sqlite.specs.Held.{state}
-use Rattle.fuse_tree.specs.Rowed.{rowed}
+use Rattle.std.proofs.Common.{None, false, subst}
+use Rattle.fuse_init.specs.declared.profile.Profile.{Profile}
 use Rattle.fuse_init.specs.declared.profile.Profile.TheVariants as profiles
-use Rattle.fuse_store_tables.specs.inner.Following.{earlier}
+use Rattle.fuse_tree.specs.Rowed.{rowed}
 use Rattle.fuse_store_tree.specs.Store.{records_of}
+use Rattle.fuse_store_tree.specs.StoreState.{store_in}
 use Rattle.fuse_store.specs.Opening.{opened_for}
-use Rattle.fuse_store.proofs.Serving.{holds_at, firm, rests_unknown}
+use Rattle.fuse_store.specs.TableKeeper.{parts_state}
+use Rattle.fuse_store.specs.inner.Opened.{Opens}
+use Rattle.fuse_store.proofs.Serving.{holds_at, firm}
 use Rattle.fuse_store.proofs.Grouping.{its_own}
-use Rattle.fuse_store.proofs.Reopening.{not_busy, is_undone, once_seen}
 use Rattle.fuse_store.proofs.store_keeper.StoreKeeper.open.Goals as goal
 
-pub returns-in-Ok-Plain-clause-whole : goal.returns-in-Ok-Plain-clause-whole
-returns-in-Ok-Plain-clause-whole g c = λ clean content at.
-    let so = c.in-Ok-Plain.ensures.whole clean content at in
-    record { whole = so.whole; profile = so.profile ∙ c.in-Ok-Plain.field-0-is }
+-- ---- plain
 
-pub returns-in-Ok-Everyday-clause-whole : goal.returns-in-Ok-Everyday-clause-whole
-returns-in-Ok-Everyday-clause-whole g c = λ clean content at.
-    let so = c.in-Ok-Everyday.ensures.whole clean content at in
-    record { whole = so.whole; profile = so.profile ∙ c.in-Ok-Everyday.field-0-is }
+pub returns-in-Plain-clause-profile : goal.returns-in-Plain-clause-profile
+returns-in-Plain-clause-profile g c = (subst (λ (p : Profile). Opens p opened_for c.in-Ok.opened.look.known (parts_state g.S.Store g.D.Disk c.args.parts) (store_in g.S.Store g.D.Disk c.in-Ok.opened.look.conn c.in-Ok.opened.look.contents.file)) c.in-Plain.is
+    c.in-Ok.ensures.opens).profile
 
-pub returns-in-Ok-Plain-clause-profile : goal.returns-in-Ok-Plain-clause-profile
-returns-in-Ok-Plain-clause-profile g c = λ clean z was. sym (c.in-Ok-Plain.ensures.profile clean z was) ∙ c.in-Ok-Plain.field-0-is
+pub returns-in-Plain-clause-was : goal.returns-in-Plain-clause-was
+returns-in-Plain-clause-was g c = (subst (λ (p : Profile). Opens p opened_for c.in-Ok.opened.look.known (parts_state g.S.Store g.D.Disk c.args.parts) (store_in g.S.Store g.D.Disk c.in-Ok.opened.look.conn c.in-Ok.opened.look.contents.file)) c.in-Plain.is
+    c.in-Ok.ensures.opens).was
 
-pub returns-in-Ok-Everyday-clause-profile : goal.returns-in-Ok-Everyday-clause-profile
-returns-in-Ok-Everyday-clause-profile g c = λ clean z was. sym (c.in-Ok-Everyday.ensures.profile clean z was) ∙ c.in-Ok-Everyday.field-0-is
+pub returns-in-Plain-clause-honest : goal.returns-in-Plain-clause-honest
+returns-in-Plain-clause-honest g c = (subst (λ (p : Profile). Opens p opened_for c.in-Ok.opened.look.known (parts_state g.S.Store g.D.Disk c.args.parts) (store_in g.S.Store g.D.Disk c.in-Ok.opened.look.conn c.in-Ok.opened.look.contents.file)) c.in-Plain.is
+    c.in-Ok.ensures.opens).honest
 
-pub returns-in-Ok-Plain-clause-holds : goal.returns-in-Ok-Plain-clause-holds
-returns-in-Ok-Plain-clause-holds g c = λ clean z was.
-    holds_at c.one_holding.ensures None (state g.S.Store c.set_up_for.new.conn) (opened_for z) (rowed (opened_for z).tree) (records_of (opened_for z).kept)
-    (returns-in-Ok-Plain-clause-profile g c clean z was) (rests_unknown (opened_for z) (state g.S.Store c.set_up_for.new.conn) (c.in-Ok-Plain.ensures.ok clean z was)) (its_own (opened_for z))
+pub returns-in-Plain-clause-whole : goal.returns-in-Plain-clause-whole
+returns-in-Plain-clause-whole g c = (subst (λ (p : Profile). Opens p opened_for c.in-Ok.opened.look.known (parts_state g.S.Store g.D.Disk c.args.parts) (store_in g.S.Store g.D.Disk c.in-Ok.opened.look.conn c.in-Ok.opened.look.contents.file)) c.in-Plain.is
+    c.in-Ok.ensures.opens).whole
 
-pub returns-in-Ok-Everyday-clause-holds : goal.returns-in-Ok-Everyday-clause-holds
-returns-in-Ok-Everyday-clause-holds g c = λ clean z was.
-    holds_at c.one_holding.ensures None (state g.S.Store c.set_up_for.new.conn) (opened_for z) (rowed (opened_for z).tree) (records_of (opened_for z).kept)
-    (returns-in-Ok-Everyday-clause-profile g c clean z was) (rests_unknown (opened_for z) (state g.S.Store c.set_up_for.new.conn) (c.in-Ok-Everyday.ensures.ok clean z was)) (its_own (opened_for z))
+pub returns-in-Plain-clause-tabled : goal.returns-in-Plain-clause-tabled
+returns-in-Plain-clause-tabled g c = (subst (λ (p : Profile). Opens p opened_for c.in-Ok.opened.look.known (parts_state g.S.Store g.D.Disk c.args.parts) (store_in g.S.Store g.D.Disk c.in-Ok.opened.look.conn c.in-Ok.opened.look.contents.file)) c.in-Plain.is
+    c.in-Ok.ensures.opens).tabled
 
-pub returns-in-Ok-Plain-clause-lots : goal.returns-in-Ok-Plain-clause-lots
-returns-in-Ok-Plain-clause-lots g c = λ clean z was.
-    c.lots_are_read.ensures.same None (opened_for z) (state g.S.Store c.set_up_for.new.conn).now (c.in-Ok-Plain.ensures.ok clean z was).holds
+pub returns-in-Plain-clause-holds : goal.returns-in-Plain-clause-holds
+returns-in-Plain-clause-holds g c = λ clean z was.
+    holds_at c.one_holding.ensures c.in-Ok.opened.look.known (store_in g.S.Store g.D.Disk c.in-Ok.opened.look.conn c.in-Ok.opened.look.contents.file) (opened_for z)
+    (rowed (opened_for z).tree) (records_of (opened_for z).kept) (returns-in-Plain-clause-profile g c clean z was)
+    ((subst (λ (p : Profile). Opens p opened_for c.in-Ok.opened.look.known (parts_state g.S.Store g.D.Disk c.args.parts) (store_in g.S.Store g.D.Disk c.in-Ok.opened.look.conn c.in-Ok.opened.look.contents.file)) c.in-Plain.is
+    c.in-Ok.ensures.opens).held clean z was) (its_own (opened_for z))
 
-pub returns-in-Ok-Everyday-clause-lots : goal.returns-in-Ok-Everyday-clause-lots
-returns-in-Ok-Everyday-clause-lots g c = λ clean z was.
-    c.lots_are_read.ensures.same None (opened_for z) (state g.S.Store c.set_up_for.new.conn).now (c.in-Ok-Everyday.ensures.ok clean z was).holds
+pub returns-in-Plain-clause-lots : goal.returns-in-Plain-clause-lots
+returns-in-Plain-clause-lots g c = λ clean z was.
+    let b = store_in g.S.Store g.D.Disk c.in-Ok.opened.look.conn c.in-Ok.opened.look.contents.file in
+    c.lots_are_read.ensures.same None b.contents.seen (opened_for z) b.tables.now ((subst (λ (p : Profile). Opens p opened_for c.in-Ok.opened.look.known (parts_state g.S.Store g.D.Disk c.args.parts) (store_in g.S.Store g.D.Disk c.in-Ok.opened.look.conn c.in-Ok.opened.look.contents.file)) c.in-Plain.is
+    c.in-Ok.ensures.opens).held clean z was).rests.holds.0
 
-pub returns-in-Ok-Plain-clause-honest : goal.returns-in-Ok-Plain-clause-honest
-returns-in-Ok-Plain-clause-honest g c = λ clean.
-    earlier (state g.S.Store c.args.conn) (state g.S.Store c.set_up_for.new.conn) _ c.in-Ok-Plain.ensures.crash clean
+pub returns-in-Plain-clause-firm : goal.returns-in-Plain-clause-firm
+returns-in-Plain-clause-firm g c = λ clean.
+    firm profiles.Plain c.one_holding.ensures c.in-Ok.opened.look.known (store_in g.S.Store g.D.Disk c.in-Ok.opened.look.conn c.in-Ok.opened.look.contents.file) None false
+    (g.met.S.Store.settled c.in-Ok.opened.look.conn.store)
 
-pub returns-in-Ok-Everyday-clause-honest : goal.returns-in-Ok-Everyday-clause-honest
-returns-in-Ok-Everyday-clause-honest g c = λ clean.
-    earlier (state g.S.Store c.args.conn) (state g.S.Store c.set_up_for.new.conn) _ c.in-Ok-Everyday.ensures.crash clean
+pub returns-in-Plain-clause-medium : goal.returns-in-Plain-clause-medium
+returns-in-Plain-clause-medium g c = record { honest = (λ honest. honest, λ clean. clean); memory = (λ memory. memory, λ memory. memory) }
 
-pub returns-in-Ok-Plain-clause-firm : goal.returns-in-Ok-Plain-clause-firm
-returns-in-Ok-Plain-clause-firm g c = λ clean.
-    firm profiles.Plain c.one_holding.ensures None (state g.S.Store c.set_up_for.new.conn) None false (g.met.S.Store.settled c.set_up_for.new.conn.store)
+pub returns-in-Plain-clause-rows : goal.returns-in-Plain-clause-rows
+returns-in-Plain-clause-rows g c = c.in-Ok.ensures.rows
 
-pub returns-in-Ok-Everyday-clause-firm : goal.returns-in-Ok-Everyday-clause-firm
-returns-in-Ok-Everyday-clause-firm g c = λ clean.
-    firm profiles.Everyday c.one_holding.ensures None (state g.S.Store c.set_up_for.new.conn) None false (g.met.S.Store.settled c.set_up_for.new.conn.store)
+pub returns-in-Plain-clause-absent : goal.returns-in-Plain-clause-absent
+returns-in-Plain-clause-absent g c = λ settled none. absurd (c.in-Ok.ensures.absent settled none)
 
-pub returns-in-Ok-Plain-clause-absent : goal.returns-in-Ok-Plain-clause-absent
-returns-in-Ok-Plain-clause-absent g c = λ settled none. absurd (c.in-Ok-Plain.ensures.absent settled none)
+pub returns-in-Plain-clause-busy : goal.returns-in-Plain-clause-busy
+returns-in-Plain-clause-busy g c = λ busy. absurd (c.in-Ok.ensures.busy busy)
 
-pub returns-in-Ok-Everyday-clause-absent : goal.returns-in-Ok-Everyday-clause-absent
-returns-in-Ok-Everyday-clause-absent g c = λ settled none. absurd (c.in-Ok-Everyday.ensures.absent settled none)
+-- ---- everyday
 
-pub returns-in-Ok-Plain-clause-medium : goal.returns-in-Ok-Plain-clause-medium
-returns-in-Ok-Plain-clause-medium g c = record { honest = (λ honest. honest, λ clean. clean); memory = (λ memory. memory, λ memory. memory) }
+pub returns-in-Everyday-clause-profile : goal.returns-in-Everyday-clause-profile
+returns-in-Everyday-clause-profile g c = (subst (λ (p : Profile). Opens p opened_for c.in-Ok.opened.look.known (parts_state g.S.Store g.D.Disk c.args.parts) (store_in g.S.Store g.D.Disk c.in-Ok.opened.look.conn c.in-Ok.opened.look.contents.file)) c.in-Everyday.is
+    c.in-Ok.ensures.opens).profile
 
-pub returns-in-Ok-Everyday-clause-medium : goal.returns-in-Ok-Everyday-clause-medium
-returns-in-Ok-Everyday-clause-medium g c = record { honest = (λ honest. honest, λ clean. clean); memory = (λ memory. memory, λ memory. memory) }
+pub returns-in-Everyday-clause-was : goal.returns-in-Everyday-clause-was
+returns-in-Everyday-clause-was g c = (subst (λ (p : Profile). Opens p opened_for c.in-Ok.opened.look.known (parts_state g.S.Store g.D.Disk c.args.parts) (store_in g.S.Store g.D.Disk c.in-Ok.opened.look.conn c.in-Ok.opened.look.contents.file)) c.in-Everyday.is
+    c.in-Ok.ensures.opens).was
 
-pub returns-in-Ok-Plain-clause-rows : goal.returns-in-Ok-Plain-clause-rows
-returns-in-Ok-Plain-clause-rows g c =
-    let a = state g.S.Store c.args.conn in
-    record {
-      alone = λ other. c.in-Ok-Plain.ensures.alone (not_busy a.in_transaction c.in-Ok-Plain.ensures.busy) other;
-      opened = c.in-Ok-Plain.ensures.rows.done;
-      ended = λ clean. c.in-Ok-Plain.ensures.ended clean (c.in-Ok-Plain.ensures.was clean).1;
-      once = once_seen a (state g.S.Store c.set_up_for.new.conn) _ c.in-Ok-Plain.ensures.once;
-    }
+pub returns-in-Everyday-clause-honest : goal.returns-in-Everyday-clause-honest
+returns-in-Everyday-clause-honest g c = (subst (λ (p : Profile). Opens p opened_for c.in-Ok.opened.look.known (parts_state g.S.Store g.D.Disk c.args.parts) (store_in g.S.Store g.D.Disk c.in-Ok.opened.look.conn c.in-Ok.opened.look.contents.file)) c.in-Everyday.is
+    c.in-Ok.ensures.opens).honest
 
-pub returns-in-Ok-Everyday-clause-rows : goal.returns-in-Ok-Everyday-clause-rows
-returns-in-Ok-Everyday-clause-rows g c =
-    let a = state g.S.Store c.args.conn in
-    record {
-      alone = λ other. c.in-Ok-Everyday.ensures.alone (not_busy a.in_transaction c.in-Ok-Everyday.ensures.busy) other;
-      opened = c.in-Ok-Everyday.ensures.rows.done;
-      ended = λ clean. c.in-Ok-Everyday.ensures.ended clean (c.in-Ok-Everyday.ensures.was clean).1;
-      once = once_seen a (state g.S.Store c.set_up_for.new.conn) _ c.in-Ok-Everyday.ensures.once;
-    }
+pub returns-in-Everyday-clause-whole : goal.returns-in-Everyday-clause-whole
+returns-in-Everyday-clause-whole g c = (subst (λ (p : Profile). Opens p opened_for c.in-Ok.opened.look.known (parts_state g.S.Store g.D.Disk c.args.parts) (store_in g.S.Store g.D.Disk c.in-Ok.opened.look.conn c.in-Ok.opened.look.contents.file)) c.in-Everyday.is
+    c.in-Ok.ensures.opens).whole
 
-pub returns-in-Ok-Plain-clause-busy : goal.returns-in-Ok-Plain-clause-busy
-returns-in-Ok-Plain-clause-busy g c = λ busy. absurd (c.in-Ok-Plain.ensures.busy busy)
+pub returns-in-Everyday-clause-tabled : goal.returns-in-Everyday-clause-tabled
+returns-in-Everyday-clause-tabled g c = (subst (λ (p : Profile). Opens p opened_for c.in-Ok.opened.look.known (parts_state g.S.Store g.D.Disk c.args.parts) (store_in g.S.Store g.D.Disk c.in-Ok.opened.look.conn c.in-Ok.opened.look.contents.file)) c.in-Everyday.is
+    c.in-Ok.ensures.opens).tabled
 
-pub returns-in-Ok-Everyday-clause-busy : goal.returns-in-Ok-Everyday-clause-busy
-returns-in-Ok-Everyday-clause-busy g c = λ busy. absurd (c.in-Ok-Everyday.ensures.busy busy)
+pub returns-in-Everyday-clause-holds : goal.returns-in-Everyday-clause-holds
+returns-in-Everyday-clause-holds g c = λ clean z was.
+    holds_at c.one_holding.ensures c.in-Ok.opened.look.known (store_in g.S.Store g.D.Disk c.in-Ok.opened.look.conn c.in-Ok.opened.look.contents.file) (opened_for z)
+    (rowed (opened_for z).tree) (records_of (opened_for z).kept) (returns-in-Everyday-clause-profile g c clean z was)
+    ((subst (λ (p : Profile). Opens p opened_for c.in-Ok.opened.look.known (parts_state g.S.Store g.D.Disk c.args.parts) (store_in g.S.Store g.D.Disk c.in-Ok.opened.look.conn c.in-Ok.opened.look.contents.file)) c.in-Everyday.is
+    c.in-Ok.ensures.opens).held clean z was) (its_own (opened_for z))
+
+pub returns-in-Everyday-clause-lots : goal.returns-in-Everyday-clause-lots
+returns-in-Everyday-clause-lots g c = λ clean z was.
+    let b = store_in g.S.Store g.D.Disk c.in-Ok.opened.look.conn c.in-Ok.opened.look.contents.file in
+    c.lots_are_read.ensures.same None b.contents.seen (opened_for z) b.tables.now ((subst (λ (p : Profile). Opens p opened_for c.in-Ok.opened.look.known (parts_state g.S.Store g.D.Disk c.args.parts) (store_in g.S.Store g.D.Disk c.in-Ok.opened.look.conn c.in-Ok.opened.look.contents.file)) c.in-Everyday.is
+    c.in-Ok.ensures.opens).held clean z was).rests.holds.0
+
+pub returns-in-Everyday-clause-firm : goal.returns-in-Everyday-clause-firm
+returns-in-Everyday-clause-firm g c = λ clean.
+    firm profiles.Everyday c.one_holding.ensures c.in-Ok.opened.look.known (store_in g.S.Store g.D.Disk c.in-Ok.opened.look.conn c.in-Ok.opened.look.contents.file) None false
+    (g.met.S.Store.settled c.in-Ok.opened.look.conn.store)
+
+pub returns-in-Everyday-clause-medium : goal.returns-in-Everyday-clause-medium
+returns-in-Everyday-clause-medium g c = record { honest = (λ honest. honest, λ clean. clean); memory = (λ memory. memory, λ memory. memory) }
+
+pub returns-in-Everyday-clause-rows : goal.returns-in-Everyday-clause-rows
+returns-in-Everyday-clause-rows g c = c.in-Ok.ensures.rows
+
+pub returns-in-Everyday-clause-absent : goal.returns-in-Everyday-clause-absent
+returns-in-Everyday-clause-absent g c = λ settled none. absurd (c.in-Ok.ensures.absent settled none)
+
+pub returns-in-Everyday-clause-busy : goal.returns-in-Everyday-clause-busy
+returns-in-Everyday-clause-busy g c = λ busy. absurd (c.in-Ok.ensures.busy busy)
+
+-- ---- nothing was opened
 
 pub returns-in-Err-clause-busy : goal.returns-in-Err-clause-busy
 returns-in-Err-clause-busy g c = c.in-Err.ensures.busy
 
 pub returns-in-Err-clause-refused : goal.returns-in-Err-clause-refused
-returns-in-Err-clause-refused g c = record {
-  crash = c.in-Err.ensures.crash;
-  kept = c.in-Err.ensures.kept;
-  outside = c.in-Err.ensures.sure;
-  says = c.in-Err.ensures.says;
-  refused = c.in-Err.ensures.refused;
-  alone = c.in-Err.ensures.alone;
-  ended = c.in-Err.ensures.ended;
-  undone =
-      is_undone (state g.S.Store c.args.conn) (state g.S.Store c.set_up_for.new.conn) c.in-Err.fault c.in-Err.ensures.undone c.in-Err.ensures.once;
-}
+returns-in-Err-clause-refused g c = c.in-Err.ensures.refused

@@ -1,7 +1,7 @@
 use Rattle.std.proofs.Common.{◌≡◌, ◌==◌, ◌∙◌, Some, None, refl, map, sym, ap}
 use Rattle.std.specs.Prelude.{position}
 use Rattle.std.proofs.lemmas.Result.{on_ok_weaker}
-use Rattle.fuse_rows.specs.Rows.{at_node, written}
+use Rattle.fuse_rows.specs.Rows.{at_node, body_written}
 use Rattle.fuse_lists.proofs.Placed.{content_in_place, no_content}
 use Rattle.fuse_lists.proofs.plain.nodes.NodeList.write.Goals as goal
 
@@ -9,15 +9,15 @@ pub returns-in_default-clause-ok : goal.returns-in_default-clause-ok
 returns-in_default-clause-ok c =
     let none : position (λ f. f.row.node == c.args.number) c.self.inside.nodes.items ≡ None =
     ap (position (λ f. f.row.node == c.args.number)) (sym c.as_slice.ensures.value) ∙ sym c.in_default.ensures in
-    sym c.self.view_is ∙ no_content c.args.number (written c.args.offset c.args.bytes.now) c.self.inside.nodes.items none
-    ∙ ap (map (at_node c.args.number (written c.args.offset c.args.bytes.now))) c.self.view_is
+    sym c.self.view_is ∙ no_content c.args.number (body_written c.args.offset c.args.bytes.now) c.self.inside.nodes.items none
+    ∙ ap (map (at_node c.args.number (body_written c.args.offset c.args.bytes.now))) c.self.view_is
 
 pub invariant_of-self : goal.invariant_of-self
 invariant_of-self c =
     let at : position (λ f. f.row.node == c.args.number) c.self.inside.nodes.items ≡ Some c.in-Some.place =
     ap (position (λ f. f.row.node == c.args.number)) (sym c.as_slice.ensures.value) ∙ sym c.in-Some.ensures in
     (content_in_place c.args.number
-    (λ bytes. c.write.new.self) c.self.inside.nodes.items c.in-Some.place c.index_mut-full.result.now c.write.new.self c.self.invariant at
+    (λ body. c.write.new.self) c.self.inside.nodes.items c.in-Some.place c.index_mut-full.result.now c.write.new.self c.self.invariant at
     c.index_mut-full.ensures.value refl).once
 
 pub returns-clause-ok : goal.returns-clause-ok
@@ -26,6 +26,6 @@ returns-clause-ok c =
     ap (position (λ f. f.row.node == c.args.number)) (sym c.as_slice.ensures.value) ∙ sym c.in-Some.ensures in
     on_ok_weaker c.write.result
     (λ is. (content_in_place c.args.number
-    (written c.args.offset c.args.bytes.now) c.self.inside.nodes.items c.in-Some.place c.index_mut-full.result.now c.write.new.self c.self.invariant at
+    (body_written c.args.offset c.args.bytes.now) c.self.inside.nodes.items c.in-Some.place c.index_mut-full.result.now c.write.new.self c.self.invariant at
     c.index_mut-full.ensures.value is).changed
-    ∙ ap (map (at_node c.args.number (written c.args.offset c.args.bytes.now))) c.self.view_is) c.write.ensures.ok
+    ∙ ap (map (at_node c.args.number (body_written c.args.offset c.args.bytes.now))) c.self.view_is) c.write.ensures.ok

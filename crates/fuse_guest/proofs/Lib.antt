@@ -1,0 +1,12 @@
+mod Keys
+mod Values
+mod Ordered
+mod Filling
+mod Pages
+mod Fits
+mod Turns
+mod Sound
+mod Agreeing
+mod Replaying
+mod Places
+mod Listed

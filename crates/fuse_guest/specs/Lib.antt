@@ -1,0 +1,10 @@
+pub mod Pairs
+pub mod Telling
+pub mod Service
+pub mod RightBodies
+pub mod Talk
+pub mod Agreement
+pub mod GuestModel
+pub mod Conversations
+pub mod Replayed
+pub mod Laws

@@ -1,0 +1,14 @@
+use Rattle.sqlite.specs.Held.{state}
+use Rattle.fuse_store_tables.proofs.BlockRanges.{count_makes, count_shows}
+use Rattle.fuse_store_tables.proofs.block_ranges.select_count.Goals as goal
+
+pub returns-clause-looks : goal.returns-clause-looks
+returns-clause-looks g c =
+    count_makes (λ rows. rows.items) c.args.node c.args.from c.args.to (state g.S.Store c.args.conn.now) (state g.S.Store c.query_all.new.self) c.query_all.result
+    (rw c.triple-values.ensures at c.query_all.ensures.ok) (rw c.triple-values.ensures at c.query_all.ensures.err)
+    (rw c.triple-values.ensures at c.query_all.ensures.survives)
+
+pub returns-clause-found : goal.returns-clause-found
+returns-clause-found g c =
+    count_shows (λ rows. rows.items) c.args.node c.args.from c.args.to (state g.S.Store c.args.conn.now) (state g.S.Store c.query_all.new.self) c.query_all.result
+    (rw c.triple-values.ensures at c.query_all.ensures.ok)

@@ -1,0 +1,15 @@
+use Rattle.std.proofs.Common.{refl, ◌∙◌}
+use Rattle.sqlite.specs.Held.{state}
+use Rattle.fuse_store_tables.specs.declared.copied.Copied.TheVariants.{Handles}
+use Rattle.fuse_store_tables.specs.declared.version.Layout.TheVariants.{Third}
+use Rattle.fuse_store_tables.specs.inner.Copies.{Filled, no_rows, blocks_copied, handles_copied}
+use Rattle.fuse_store_tables.proofs.Filling.{fills}
+use Rattle.fuse_store_tables.proofs.Joining.{then_as}
+use Rattle.fuse_store_tables.proofs.everyday.copy_handles.Goals as goal
+
+pub returns : goal.returns
+returns g c =
+    then_as (Filled c.args.copies.now (λ _. no_rows Third)) (Filled c.args.copies.now blocks_copied) (Filled c.args.copies.now handles_copied) (state g.S.Store c.args.conn.now)
+    (state g.S.Store c.copy_blocks.new.conn) (state g.S.Store c.insert_all.new.conn) _ c.insert_all.result c.in_ok-copy_blocks.ensures
+    (fills Handles c.args.copies.now c.as_slice.result.now blocks_copied (λ k is. c.as_slice.ensures.value ∙ is.handles) (λ k. refl)
+    (state g.S.Store c.copy_blocks.new.conn) (state g.S.Store c.insert_all.new.conn) c.insert_all.result c.insert_all.ensures)

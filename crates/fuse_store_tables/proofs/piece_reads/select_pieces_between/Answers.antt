@@ -1,0 +1,33 @@
+use Rattle.std.proofs.Common.{filter, sym, ◌∙◌}
+use Rattle.sqlite.specs.Held.{state}
+use Rattle.fuse_store_tables.specs.Pieces.{ShowsInOrder, begins_between}
+use Rattle.fuse_store_tables.specs.declared.version.Layout.TheVariants.{Third}
+use Rattle.fuse_store_tables.proofs.Laid.{known_looks}
+use Rattle.fuse_store_tables.proofs.LooksTold.{failed_as, found_held, looked_as, looked_still, none_held, none_shown}
+use Rattle.fuse_store_tables.proofs.piece_reads.select_pieces_between.Goals as goal
+
+pub returns-in-Second-clause-looks : goal.returns-in-Second-clause-looks
+returns-in-Second-clause-looks g c = looked_still (state g.S.Store c.args.conn.now)
+
+pub returns-in-Second-clause-found : goal.returns-in-Second-clause-found
+returns-in-Second-clause-found g c clean k at =
+    none_shown c.args.limit _ _ (none_held (begins_between c.args.node c.args.from c.args.to) k (sym (c.layout_of.ensures.value k at.holds) ∙ c.in-Second.is))
+    c.new.ensures.items
+
+pub returns-in-Third-clause-looks : goal.returns-in-Third-clause-looks
+returns-in-Third-clause-looks g c =
+    looked_as (state g.S.Store c.args.conn.now) (state g.S.Store c.select_pieces.new.conn) c.select_pieces.result
+    (known_looks Third (state g.S.Store c.args.conn.now) (state g.S.Store c.select_pieces.new.conn) c.select_pieces.result
+    (λ k held. sym c.in-Third.is ∙ c.layout_of.ensures.value k held) c.select_pieces.ensures.looks)
+
+pub returns-in-Third-clause-fails : goal.returns-in-Third-clause-fails
+returns-in-Third-clause-fails g c =
+    failed_as (state g.S.Store c.args.conn.now) (state g.S.Store c.select_pieces.new.conn) c.select_pieces.result
+    (known_looks Third (state g.S.Store c.args.conn.now) (state g.S.Store c.select_pieces.new.conn) c.select_pieces.result
+    (λ k held. sym c.in-Third.is ∙ c.layout_of.ensures.value k held) c.select_pieces.ensures.looks)
+
+pub returns-in-Third-clause-found : goal.returns-in-Third-clause-found
+returns-in-Third-clause-found g c clean =
+    found_held (λ ps rows. ShowsInOrder c.args.limit (filter (begins_between c.args.node c.args.from c.args.to) ps) rows.items)
+    (state g.S.Store c.args.conn.now) c.select_pieces.result (λ k held. sym c.in-Third.is ∙ c.layout_of.ensures.value k held)
+    (c.select_pieces.ensures.found clean)

@@ -1,0 +1,23 @@
+use Rattle.sqlite.specs.Held.{state}
+use Rattle.fuse_store_tables.proofs.Looks.{looked, failed}
+use Rattle.fuse_store_tables.proofs.KeySlices.{look_makes, look_finds}
+use Rattle.fuse_store_tables.proofs.slices.select_block_keys.Goals as goal
+
+pub returns-clause-looks : goal.returns-clause-looks
+returns-clause-looks g c =
+    looked (state g.S.Store c.args.conn.now) (state g.S.Store c.query_all.new.self) c.query_all.result
+    (look_makes (λ rows. rows.items) c.args.node c.args.block c.args.limit (state g.S.Store c.args.conn.now) (state g.S.Store c.query_all.new.self)
+    c.query_all.result (rw c.triple-values.ensures at c.query_all.ensures.ok) (rw c.triple-values.ensures at c.query_all.ensures.err)
+    (rw c.triple-values.ensures at c.query_all.ensures.survives))
+
+pub returns-clause-fails : goal.returns-clause-fails
+returns-clause-fails g c =
+    failed (state g.S.Store c.args.conn.now) (state g.S.Store c.query_all.new.self) c.query_all.result
+    (look_makes (λ rows. rows.items) c.args.node c.args.block c.args.limit (state g.S.Store c.args.conn.now) (state g.S.Store c.query_all.new.self)
+    c.query_all.result (rw c.triple-values.ensures at c.query_all.ensures.ok) (rw c.triple-values.ensures at c.query_all.ensures.err)
+    (rw c.triple-values.ensures at c.query_all.ensures.survives))
+
+pub returns-clause-found : goal.returns-clause-found
+returns-clause-found g c =
+    look_finds (λ rows. rows.items) c.args.node c.args.block c.args.limit (state g.S.Store c.args.conn.now) (state g.S.Store c.query_all.new.self)
+    c.query_all.result (rw c.triple-values.ensures at c.query_all.ensures.ok)

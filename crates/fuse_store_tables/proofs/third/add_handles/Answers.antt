@@ -1,0 +1,24 @@
+use Rattle.std.proofs.Common.{[]}
+use Rattle.sqlite.specs.Held.{state}
+use Rattle.fuse_store_tables.specs.Layout.{third_handles, third_with_blocks, third_with_handles, with_meta}
+use Rattle.fuse_store_tables.specs.Making.{IsBare}
+use Rattle.fuse_store_tables.proofs.SchemaLemmas.{creates, third_handles_text, third_handles_made, third_handles_edit}
+use Rattle.fuse_store_tables.proofs.Joining.{then_as}
+use Rattle.fuse_store_tables.proofs.Within.{within_then, within_failed, edits_within}
+use Rattle.fuse_store_tables.proofs.third.add_handles.Goals as goal
+
+pub returns-clause-made : goal.returns-clause-made
+returns-clause-made g c =
+    then_as (IsBare with_meta) (IsBare third_with_blocks) (IsBare third_with_handles) (state g.S.Store c.args.conn.now) (state g.S.Store c.add_blocks.new.conn)
+    (state g.S.Store c.run.new.conn) _ c.run.result c.in_ok-add_blocks.ensures.made
+    (creates third_with_blocks third_handles third_handles_text third_handles_made (state g.S.Store c.add_blocks.new.conn) (state g.S.Store c.run.new.conn) c.run.result
+    c.run.ensures.runs c.run.ensures.survives)
+
+pub returns-in_err-add_blocks-clause-within : goal.returns-in_err-add_blocks-clause-within
+returns-in_err-add_blocks-clause-within g c = within_failed _ _ _ _ c.in_err-add_blocks.ensures.within c.from_residual.ensures.0
+
+pub returns-clause-within : goal.returns-clause-within
+returns-clause-within g c =
+    within_then _ _ _ _ _ c.in_ok-add_blocks.ensures.within (edits_within _ [] third_handles_edit (state g.S.Store c.add_blocks.new.conn) (state g.S.Store c.run.new.conn)
+    c.run.result
+    c.run.ensures.runs c.run.ensures.survives)

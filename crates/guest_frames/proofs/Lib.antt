@@ -1,0 +1,9 @@
+pub mod Items
+pub mod Sets
+pub mod Fields
+pub mod Payloads
+pub mod Starts
+pub mod Decoded
+pub mod Measures
+pub mod OneFrame
+pub mod Whole

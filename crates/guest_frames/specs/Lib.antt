@@ -1,0 +1,10 @@
+pub mod Limits
+pub mod Kinds
+pub mod Seeable
+pub mod Frames
+pub mod Reading
+pub mod Borrowed
+pub mod Heads
+pub mod Encoding
+pub mod Laws
+pub mod inner

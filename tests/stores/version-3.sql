@@ -1,0 +1,21 @@
+-- A new everyday store of version 3 with 100 blocks, made at second 0, but for the number of the store, entry 15 of `meta`.
+CREATE TABLE meta (k INTEGER PRIMARY KEY, v INTEGER NOT NULL) STRICT;
+CREATE TABLE nodes (node INTEGER PRIMARY KEY, mode INTEGER NOT NULL, uid INTEGER NOT NULL, gid INTEGER NOT NULL,
+  rdev INTEGER NOT NULL, size INTEGER NOT NULL, atime INTEGER NOT NULL, atimensec INTEGER NOT NULL,
+  mtime INTEGER NOT NULL, mtimensec INTEGER NOT NULL, ctime INTEGER NOT NULL, ctimensec INTEGER NOT NULL,
+  up INTEGER NOT NULL, subdirs INTEGER NOT NULL, links INTEGER NOT NULL, written INTEGER NOT NULL,
+  attributes INTEGER NOT NULL) STRICT;
+CREATE TABLE entries (cookie INTEGER PRIMARY KEY, dir INTEGER NOT NULL, name BLOB NOT NULL, child INTEGER NOT NULL,
+  UNIQUE (dir, name), UNIQUE (dir, cookie)) STRICT;
+CREATE TABLE blocks (node INTEGER NOT NULL REFERENCES nodes (node), block INTEGER NOT NULL, bytes BLOB NOT NULL,
+  PRIMARY KEY (node, block)) STRICT;
+CREATE TABLE handles (fh INTEGER PRIMARY KEY, node INTEGER NOT NULL REFERENCES nodes (node),
+  access INTEGER NOT NULL, UNIQUE (node, fh)) STRICT;
+CREATE TABLE lots (lot INTEGER PRIMARY KEY) STRICT;
+CREATE TABLE kept (id INTEGER PRIMARY KEY, lot INTEGER NOT NULL REFERENCES lots (lot), errno INTEGER NOT NULL,
+  body BLOB NOT NULL) STRICT;
+CREATE TABLE pieces (node INTEGER NOT NULL, first INTEGER NOT NULL, count INTEGER NOT NULL, place INTEGER NOT NULL,
+  sum INTEGER NOT NULL, PRIMARY KEY (node, first)) STRICT;
+CREATE TABLE xattrs (node INTEGER NOT NULL, name BLOB NOT NULL, value BLOB NOT NULL, PRIMARY KEY (node, name)) STRICT;
+INSERT INTO meta VALUES (1, 3), (2, 2), (3, 1), (4, 3), (5, 1), (6, 0), (7, 0), (8, 0), (9, 0), (10, 0), (11, 1), (12, 2), (13, 100), (14, 0);
+INSERT INTO nodes VALUES (1, 16877, 0, 0, 0, 0, 0, 0, 0, 0, 0, 0, 0, 0, 0, 0, 0);
