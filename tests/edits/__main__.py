@@ -410,7 +410,7 @@ def misplaced():
 def chosen_edits(crate, given):
     """The edits of a crate that are tried, and what is said of the choice."""
     edits = edits_of(crate)
-    return part_of(crate, edits, below(crate)) if given.changed else (edits, "")
+    return part_of(crate, edits) if given.changed else (edits, "")
 
 
 def try_chosen(tree, crate, given):
@@ -434,7 +434,7 @@ def try_all(tree, crates, given):
             print("\n".join(lines), flush=True)
             whole += [crate] if is_whole else []
     if given.keep:
-        keep_seen({it: digest_of(it, below(it)) for it in whole})
+        keep_seen({it: digest_of(it) for it in whole})
     return refused, failed
 
 

@@ -1,9 +1,9 @@
 """Which edits the gate tries: all of a crate that has changed since all its edits were seen refused, and an eighth of the others.
 
-The file `seen` has a line for each crate whose edits were all seen refused: its name, and the digest of what that check read, which is
-the toolchain, the crate, its edits and the sources of the crates below, without their lines of comment. Which eighth is tried follows from
-the digest of all crates, so that each change of the sources has another one tried. An eighth is of groups of edits, most of which have all
-edits of a crate, since a check of one edit takes nearly as long as one of ten."""
+The file `seen` has a line for each crate whose edits were all seen refused: its name, and the digest of the toolchain, the crate and its
+edits, without their lines of comment. A crate below may have changed since. Which eighth is tried follows from the digest of all crates,
+so that each change of the sources has another one tried. An eighth is of groups of edits, most of which have all edits of a crate, since
+a check of one edit takes nearly as long as one of ten."""
 import hashlib
 from functools import cache
 from pathlib import Path
@@ -35,19 +35,10 @@ def add_files(sum_, folders):
         sum_.update(code)
 
 
-def lines_of(crates):
-    """The lines of crates.txt of these crates."""
-    lines = (TOP / "crates.txt").read_text(encoding="utf-8").splitlines()
-    return sorted(it for it in lines if it.split(":")[0].strip() in crates)
-
-
-def digest_of(crate, below):
-    """The digest of what a check of a crate's edits reads, for the crates of the repository that it stands on."""
+def digest_of(crate):
+    """The digest of the toolchain, of a crate and of its edits."""
     found = hashlib.sha256((TOP / "dist/TOOLCHAIN").read_bytes())
-    crates = sorted({crate, *below})
-    found.update("\n".join(lines_of(crates)).encode())
-    add_files(found, [TOP / "crates" / it / part for it in crates for part in READ])
-    add_files(found, [TOP / "crates" / crate / "must-fail"])
+    add_files(found, [TOP / "crates" / crate / part for part in (*READ, "must-fail")])
     return found.hexdigest()
 
 
@@ -96,9 +87,9 @@ def names_now(crate):
     return {name for it, names in part if it == crate for name in names}
 
 
-def part_of(crate, edits, below):
+def part_of(crate, edits):
     """The edits of a crate that the gate tries, and what it says of the choice, or an empty text where the crate has changed."""
-    if read_seen().get(crate) != digest_of(crate, below):
+    if read_seen().get(crate) != digest_of(crate):
         return edits, ""
     chosen = [it for it in edits if it.name in names_now(crate)]
     return chosen, f"edits: {crate}: unchanged since all its {len(edits)} edits were refused; tried again: {len(chosen)}"
