@@ -14,6 +14,7 @@ from pathlib import Path
 
 from lib import messages as m
 from lib.pieces import BLOCK, read_pieces
+from lib.program import LATEST
 
 LONGEST = 1 << 24
 # An id that no record of a store has, and the place of the size in an answer to GETATTR.
@@ -116,7 +117,7 @@ def answered_bytes(program, folder, nodes):
     """The sum of the sizes that the program answers to a GETATTR of each of these nodes, over a copy of a store."""
     asked = b"".join(m.message(m.GETATTR, FREE_ID + 2 * at, node, bytes(16)) for at, node in enumerate(nodes))
     words = [program, "replay", "--db", str(folder / "copy"), "--at", "1000", "-"]
-    lines = subprocess.run(words, input=asked, capture_output=True, check=False, timeout=300).stdout.splitlines()
+    lines = subprocess.run(words, input=asked, capture_output=True, check=False, timeout=LATEST).stdout.splitlines()
     answers = [bytes.fromhex(line.decode()) for line in lines if not line.startswith(b"served ")]
     return sum(struct.unpack_from("<Q", answer, SIZE_AT)[0] for answer in answers)
 
@@ -138,7 +139,7 @@ def compare(program, file):
     with tempfile.TemporaryDirectory() as folder:
         store = Store(Path(folder), file)
         for words, wanted in [(["store"], store.summary().encode()), *store.wanted()]:
-            done = subprocess.run([program, words[0], file, *words[1:]], capture_output=True, check=False, timeout=300)
+            done = subprocess.run([program, words[0], file, *words[1:]], capture_output=True, check=False, timeout=LATEST)
             compared += 1
             if (done.returncode, done.stdout, done.stderr) != (0, wanted, b""):
                 lost += 1

@@ -1,7 +1,7 @@
 """Which edits the gate tries: all of a crate that has changed since all its edits were seen refused, and an eighth of the others.
 
-The file `seen` has a line for each crate whose edits were all seen refused: its name, and the digest of the toolchain, the crate and its
-edits, without their lines of comment. A crate below may have changed since. Which eighth is tried follows from the digest of all crates,
+The file `seen` has a line for each crate whose edits were all seen refused: its name, and the digest of the prover's logic, the crate
+and its edits, without their lines of comment. A crate below may have changed since. Which eighth is tried follows from the digest of all crates,
 so that each change of the sources has another one tried. An eighth is of groups of edits, most of which have all edits of a crate, since
 a check of one edit takes nearly as long as one of ten."""
 import hashlib
@@ -35,9 +35,15 @@ def add_files(sum_, folders):
         sum_.update(code)
 
 
+@cache
+def logic():
+    """The prover's logic, which dist/TOOLCHAIN names after the release: releases of the same logic refuse the same edits."""
+    return (TOP / "dist/TOOLCHAIN").read_text(encoding="utf-8").partition(" logic ")[2].strip()
+
+
 def digest_of(crate):
-    """The digest of the toolchain, of a crate and of its edits."""
-    found = hashlib.sha256((TOP / "dist/TOOLCHAIN").read_bytes())
+    """The digest of the prover's logic, of a crate and of its edits."""
+    found = hashlib.sha256(logic().encode())
     add_files(found, [TOP / "crates" / crate / part for part in (*READ, "must-fail")])
     return found.hexdigest()
 

@@ -56,13 +56,19 @@ def end_of(lines, start, ends):
     return next((i for i in range(start, len(lines)) if ends(lines[i])), len(lines) - 1)
 
 
+def header_at(lines, start):
+    """The header of an `impl` that begins at a line, which `rt fmt` breaks where it is long."""
+    end = end_of(lines, start, lambda it: "{" in it)
+    return " ".join(it.strip() for it in lines[start : end + 1])
+
+
 def functions_in(module, lines, homes):
     """The functions of a source by the prover's names, with their first and last lines. A method's name begins with the module of its
     type, or of its `impl` where that is one of a trait. The declarations of a trait are left out."""
     owner, is_trait = "", False
     for at, line in enumerate(lines):
         if re.match(r"(unsafe )?impl\b|(pub )?trait\b", line):
-            of_type, of_trait = owner_of(line)
+            of_type, of_trait = owner_of(header_at(lines, at))
             home = module if of_trait else homes.get(of_type, module)
             owner, is_trait = f"{home}{of_type}{of_trait}::", "impl" not in line
         found = FUNCTION.match(line)

@@ -11,6 +11,7 @@ from dataclasses import dataclass, field
 from fuzz.compare import Difference, Runs, is_of_script, try_seed, write_seed
 from lib.counts import print_counts
 from lib.folders import quick_folder
+from lib.program import LATEST
 
 MOST_FAILURES = 5
 
@@ -73,7 +74,9 @@ def main():
     until = time.monotonic() + words.seconds
     most = (words.requests or sys.maxsize) / jobs
     with multiprocessing.Pool(jobs) as pool:
-        tried = pool.map(work, [(words.seed + job, jobs, until, most) for job in range(jobs)])
+        tasks = [(words.seed + job, jobs, until, most) for job in range(jobs)]
+        # One that is killed, most likely for memory, has no result.
+        tried = pool.map_async(work, tasks).get(words.seconds + LATEST)
     failures = [line for one in tried for line in one.failures]
     print(*failures, sep="\n" if failures else "", end="\n" if failures else "")
     count = {name: sum(getattr(one, name) for one in tried) for name in ("requests", "streams", "scripts", "runs")}

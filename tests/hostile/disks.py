@@ -15,6 +15,7 @@ from hostile.good import m, program
 from lib.counts import print_counts
 
 SECONDS = 300
+LATEST = program.LATEST
 GROUP = 16
 NOBODY = 65534
 ROOM = 640 * 1024
@@ -213,7 +214,7 @@ def bounded(words, given, size):
         source.seek(0)
         child = subprocess.Popen([program.BUILT, *words], stdin=source, stdout=subprocess.PIPE, stderr=subprocess.PIPE,
                                  preexec_fn=bound, restore_signals=False)
-        out, err = child.communicate(timeout=SECONDS)
+        out, err = child.communicate(timeout=LATEST)
         return program.Ran(child.returncode, out, err, 0, 0)
 
 
@@ -247,7 +248,7 @@ def is_refused(report, name, store, before=(), unmade=CAUSE):
     held = bytes_of(store) if os.path.exists(store) else None
     serve = ["serve", "--db", store]
     for mode in (["replay", "--db", store, *AT, "-"], [*serve, "--fresh"], [*serve, "--resume"]):
-        ran = subprocess.run([*before, program.BUILT, *mode], input=b"".join(MESSAGES), capture_output=True, timeout=SECONDS,
+        ran = subprocess.run([*before, program.BUILT, *mode], input=b"".join(MESSAGES), capture_output=True, timeout=LATEST,
                              check=False)
         line = fault_of(ran_of(ran))
         report.saw(name, line)
@@ -304,7 +305,7 @@ def full_outputs(report, folder):
     for mode in (["replay", *AT, "-"], *stores, ["dump", "-"], ["check", "-"]):
         with open("/dev/full", "wb") as full:
             ran = subprocess.run([program.BUILT, *mode], input=b"".join(MESSAGES), stdout=full, stderr=subprocess.PIPE,
-                                 timeout=SECONDS, check=False)
+                                 timeout=LATEST, check=False)
         line = ran.stderr.decode().strip().splitlines()[-1:]
         report.saw("full output", line[0] if line else "")
         is_right = (ran.returncode, line) == (4, ["port: failed"])
@@ -322,7 +323,7 @@ def killed_server(store, messages, mode):
         child = subprocess.Popen(words, stdin=begin, stdout=out, stderr=subprocess.DEVNULL)
         os.close(begin)
         wanted = len(messages) + (mode == "resume")
-        until = time.monotonic() + SECONDS
+        until = time.monotonic() + LATEST
         for message in messages:
             os.write(end, message)
         while len(m.cut(bytes_of(out.name)) or ()) < wanted and child.poll() is None and time.monotonic() < until:

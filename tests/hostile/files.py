@@ -22,7 +22,7 @@ from lib.counts import print_counts
 from lib.folders import quick_folder
 
 MEMORY = 1 << 30
-# The longest run takes some six seconds, and many times as long on a slow host.
+# Of processor time. The longest run takes some six seconds, and many times as long on a slow host.
 SECONDS = 120
 GROUP = 16
 # A log of fewer bytes has no page.
@@ -30,6 +30,8 @@ LOG = 32 + 24 + 512
 # After how many faults of one file a sample and a whole run go on, and for how many seconds.
 FEW, MANY = 1, 3
 LONGEST = 20
+# Seconds by the clock after which no outcome of a file comes any more: a process of the pool was killed, most likely for memory.
+AWAITED = 2 * program.LATEST
 SAMPLE = 37
 
 FAULTS = re.compile(r"store: (Sql|Damaged|NotAStore|Version\(\d+\))|resume: NotOffered")
@@ -72,7 +74,7 @@ def wrong_of(ran, words, wanted):
     """The failure of a run of these words, which got this many messages, or None."""
     line = line_of(ran)
     if ran.status is None:
-        return f"didn't end within {SECONDS} seconds"
+        return f"didn't end within {SECONDS} seconds of processor time"
     if ran.status == 0 and line == "":
         answers = answers_of(ran, words)
         if answers is None or len(answers) - wanted != int("--resume" in words):
@@ -86,7 +88,7 @@ def wrong_of(ran, words, wanted):
 def wrong_look(ran, found, refused):
     """The failure of a look that ended by one line, at a file whose opening is refused by another, or None."""
     if ran.status is None:
-        return f"didn't end within {SECONDS} seconds"
+        return f"didn't end within {SECONDS} seconds of processor time"
     if refused and refused != found:
         return f"'{found[:200]}', but opening says '{refused}'"
     if (ran.status, found) == (0, "") or ran.status == 3 and (FAULTS.fullmatch(found) or NONE_THERE.fullmatch(found)):
@@ -335,8 +337,10 @@ def main():
     with tempfile.TemporaryDirectory(prefix="hostile-", dir=quick_folder()) as folder:
         collect(folder)
         rounds = MANY if words.all or words.only else FEW
+        places = chosen(words)
         with multiprocessing.Pool(words.jobs, begin, (folder, rounds)) as pool:
-            outcomes = [print_failures(one) for one in pool.imap(try_one, chosen(words))]
+            tried = pool.imap(try_one, places)
+            outcomes = [print_failures(tried.next(AWAITED)) for _ in places]
     return report(outcomes, words, time.monotonic() - begun)
 
 

@@ -2,6 +2,7 @@
 import os
 import signal
 import subprocess
+import time
 
 from lib import messages as m
 from lib import program
@@ -85,9 +86,12 @@ def make_killed(path, folder):
 
 def wait_for_answers(child, path, wanted):
     """Waits until the file has this many answers."""
-    while child.poll() is None:
+    until = time.monotonic() + program.LATEST
+    while child.poll() is None and time.monotonic() < until:
         with open(path, "rb") as out:
             answers = m.cut(out.read())
         if answers is not None and len(answers) >= wanted:
             return
-    raise SystemExit("hostile: the server of the good store ended")
+        time.sleep(0.01)
+    child.kill()
+    raise SystemExit(f"hostile: waited without success for {wanted} answers of the server of the good store")

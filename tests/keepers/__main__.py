@@ -25,7 +25,7 @@ def main():
         leave_out_others(sources, KEPT)
         shutil.copy(f"{HERE}/keepers.rt.in", f"{sources}/keepers.rt")
         count = count_tests(sources)
-        words = ["rt", "try", "--test", "--seconds", "600"]
+        words = ["rt", "try", "--test", "--seconds", "7200"]
         ran = subprocess.run(words, cwd=f"{copy}/crates/spec_tests", capture_output=True, text=True, check=False)
     said = ran.stdout + ran.stderr
     passed = len(re.findall(r"(?m)^test .* \.\.\. ok$", said))

@@ -92,6 +92,19 @@ require_program() {
   export FUSEKEEP=$program
 }
 
+# Whether fusekeep-mount may mount here: can_mount PROGRAM FOLDER. Where the kernel refuses it, as in a container without privileges,
+# `refusal` is the line that says so. Other faults are for the test to find.
+can_mount() {
+  refusal=
+  mkdir -p "$2/first-mnt" || return
+  if "$1" "$2/first-store" "$2/first-mnt" 2>"$2/first-line"; then
+    umount "$2/first-mnt" || umount -l "$2/first-mnt"
+  elif grep -qE "Operation not permitted|Permission denied|No such device" "$2/first-line"; then
+    refusal=$(head -n 1 "$2/first-line")
+    return 1
+  fi
+}
+
 # Compares what is wanted with what is found: compare WHAT WANTED FOUND. A difference is printed with the place of the comparison and the
 # command that runs it alone.
 compare() {
@@ -106,6 +119,27 @@ compare() {
     diff <(echo "$2") <(echo "$3") | head -n 20
     echo "  at ${file#"$top/"}:$line; alone: tests/$test_name/run $(printf '%q' "$1")"
   fi
+}
+
+# Reports an answer that is wrong however busy the machine is: report_wrong WHAT. Such are a request that was lost or done twice, and an
+# answered change that is gone after a cut of power. A step of the gate that fails beside the proofs is tried again, but not one that has
+# reported this: it has failed. Where the gate runs it, FUSEKEEP_TEST_WRONG names a file for that.
+report_wrong() {
+  echo "$test_name: WRONG: $1"
+  [ -z "${FUSEKEEP_TEST_WRONG-}" ] || echo "$test_name: $1" >>"$FUSEKEEP_TEST_WRONG"
+}
+
+# Waits until a file has so many bytes, which a process writes: await_bytes FILE SIZE PROCESS. The limit is long, since a machine may be
+# slow. Where they don't come, it says so and fails.
+await_bytes() {
+  local end=$((SECONDS + 600))
+  until [ "$(stat -c %s "$1" 2>/dev/null || echo 0)" -ge "$2" ]; do
+    if [ "$SECONDS" -gt "$end" ] || ! kill -0 "$3" 2>/dev/null; then
+      echo "$test_name: waited without success for $2 bytes in ${1##*/}, which process $3 should write"
+      return 1
+    fi
+    sleep 0.02
+  done
 }
 
 # Runs a program that prints its counts in its last line, as an entry does, and adds them: part COMMAND WORD.. The line itself is left

@@ -15,9 +15,22 @@ def renameat2(old, new, flags):
         raise OSError(code, os.strerror(code), old)
 
 
+# What calls give where a mount has ended, or the machine lacks something. Any other error that isn't expected is a wrong answer.
+OF_MACHINE = {errno.ENOTCONN, errno.ECONNABORTED, errno.ENODEV, errno.EIO, errno.EINTR, errno.ENOMEM, errno.ENFILE, errno.EMFILE, errno.ENOSPC}
+
+
+class Slow(Exception):
+    """Something took too long."""
+
+
 def check(condition, what):
     if not condition:
         raise AssertionError(what)
+
+
+def is_wrong(fault):
+    """Whether a fault shows a wrong answer, on however slow a machine."""
+    return isinstance(fault, AssertionError) or (isinstance(fault, OSError) and fault.errno not in OF_MACHINE)
 
 
 def refused(code, call, *args, **named):

@@ -16,12 +16,13 @@ import sys
 from collections import deque
 from dataclasses import dataclass
 
-from mount.calls import EXCHANGE, NOREPLACE, renameat2
+from lib.wrong import report_wrong
+from mount.calls import EXCHANGE, NOREPLACE, OF_MACHINE, renameat2
 
 MOST_HELD = 30
 MOST_NAMES = 400  # above this number of entries more is removed
 LARGEST = 300_000  # bytes of a file
-COMPARE_EACH = 1000  # operations
+COMPARE_EACH, NOTE_EACH = 1000, 100  # operations
 FIND_EACH = 8  # changes after which the entries are listed again
 NAMES = ["a", "b", "c", "d", "e", "name", "n" * 255, "n" * 256]
 ACCESS = [os.O_RDONLY, os.O_WRONLY, os.O_RDWR, os.O_RDWR, os.O_RDWR]
@@ -65,6 +66,10 @@ def short(value):
 
 class Difference(Exception):
     """The two sides differ."""
+
+    def __init__(self, words, first):
+        super().__init__(words)
+        self.is_wrong = not (isinstance(first, str) and first in {errno.errorcode[code] for code in OF_MACHINE})
 
 
 class Sides:
@@ -110,7 +115,7 @@ class Sides:
 
     def same(self, words, first, second):
         if first != second:
-            raise Difference(f"operation {self.done}, {words}: the mount gives {short(first)}, the tmpfs {short(second)}")
+            raise Difference(f"operation {self.done}, {words}: the mount gives {short(first)}, the tmpfs {short(second)}", first)
         return first
 
     def both(self, words, call):
@@ -317,9 +322,10 @@ class Sides:
             getattr(self, self.random.choices(list(weights), weights.values())[0])()
             if len(self.entries) > MOST_NAMES:
                 self.remove_many()
+            if self.done % NOTE_EACH == 0:
+                os.utime("alive")
             if self.done % COMPARE_EACH == 0:
                 self.compare()
-                os.utime("alive")
         while self.held:
             self.close()
         self.compare()
@@ -389,13 +395,18 @@ def main():
     what, mount, other, *words = sys.argv[1:]
     os.umask(0o022)
     if what == "compare":
-        return first_difference(*[tree_of(top) for top in tops_of(mount, other)])
+        difference = first_difference(*[tree_of(top) for top in tops_of(mount, other)])
+        if difference:
+            report_wrong("mount", f"differ: {difference}")
+        return difference
     profile, seed, operations = words
     sides = Sides(mount, other, seed)
     sides.find_entries()
     try:
         sides.work(PLAIN if profile == "plain" else EVERYDAY, int(operations))
     except Difference as difference:
+        if difference.is_wrong:
+            report_wrong("mount", f"differ: {short(str(difference))}")
         trees = first_difference(*[tree_of(top) for top in sides.tops])
         lines = [f"differ: {difference}", f"differ: {trees}", "differ: the last operations:", *sides.last]
         return "\n".join(lines).replace("n" * 256, "LONG").replace("n" * 255, "LONGEST")

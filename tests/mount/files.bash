@@ -15,7 +15,7 @@ private_files() {
   umask 0
   start store mnt log && python3 "$here/killer.py" "$supervisor" 1 || return 1
   umask 022
-  mkdir mnt/a && are_owned 600 0 store store-wal store-mount store-mount.log store-reserve || return 1
+  mkdir mnt/a && await [ -e store-reserve ] && are_owned 600 0 store store-wal store-mount store-mount.log store-reserve || return 1
   unmount_and_end mnt && are_owned 600 0 store store-wal || return 1
   chmod 604 store && start store mnt log-read && unmount_and_end mnt || return 1
   expect "it names a store that others can read" \
@@ -24,7 +24,7 @@ private_files() {
   refuses 1 "fusekeep-mount: others can write store: run chmod 600 store store-wal first" "$program" store || return 1
   chmod 600 store && chmod 777 . || return 1
   cp store others && copy_contents store others && chown 65534:65534 others* && start others mnt log-others && python3 "$here/killer.py" "$supervisor" 1 || return 1
-  mkdir mnt/b && are_owned 600 65534 others others-wal others-mount others-mount.log others-reserve || return 1
+  mkdir mnt/b && await [ -e others-reserve ] && are_owned 600 65534 others others-wal others-mount others-mount.log others-reserve || return 1
   unmount_and_end mnt || return 1
   refuses 1 "fusekeep-mount: store belongs to another user" $opener "$program" store
 }
@@ -95,10 +95,9 @@ while True:
     except OSError:
         continue
     print("locked", flush=True)
-    time.sleep(60)
+    time.sleep(3600)
 END
   local reader=$!
-  record "$reader"
   python3 "$here/killer.py" "$supervisor" 12 0.3 && mkdir mnt/a || return 1
   kill "$reader"
   expect "the reader got no lock" [ ! -s locked ] || return 1
@@ -109,10 +108,9 @@ END
 # A process that has locked the lock's file is no mount.
 strangers_lock() {
   start store mnt log && unmount_and_end mnt || return 1
-  flock -s store-mount sleep 600 &
+  flock -s store-mount sleep infinity &
   local stranger=$!
-  record "$stranger"
-  await 10 is_locked store-mount || return 1
+  await is_locked store-mount || return 1
   start store mnt log-stranger && mkdir mnt/a second || return 1
   "$program" store second 2>line
   expect "a second mount is refused" grep -q "/store is mounted already: process $supervisor serves it on $PWD/mnt" line || return 1
@@ -126,16 +124,15 @@ one_lock() {
   : >log
   strace -qq -o /dev/null -e trace=flock -e inject=flock:delay_enter=3000000:when=1 "$program" -f store mnt 2>log &
   slow=$!
-  record "$slow"
-  await 10 [ -e store-mount ] || return 1
+  await [ -e store-mount ] || return 1
   "$program" store second 2>line
-  await 60 has_ended_or_mounted "$slow" || return 1
+  await has_ended_or_mounted "$slow" || return 1
   expect "one is mounted" [ "$(mounts | grep -c "^$PWD/")" -eq 1 ] || return 1
   expect "it has the lock's file" is_locked store-mount || return 1
-  expect "it can be found" "$program" --server store || return 1
-  umount "$(mounts | grep "^$PWD/")"
+  expect "it can be found" ask --server store || return 1
+  unmount "$(mounts | grep "^$PWD/")" || return 1
   wait "$slow"
-  await 60 isnt_locked store-mount
+  await isnt_locked store-mount
 }
 
 has_ended_or_mounted() {

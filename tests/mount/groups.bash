@@ -1,23 +1,26 @@
 # Phases of tests/mount/run: the library that servers preload, and servers that flush nothing. Each runs in a folder of its own.
 
-# Sixteen calls wait at the device of a stopped server, each in a directory of its own: one directory has one MKDIR at a time.
-start_callers() {
+# Stops the server, and lets sixteen calls wait at its device, each in a directory of its own, since one directory has one MKDIR or RMDIR
+# at a time: call_sixteen PROGRAM
+call_sixteen() {
   local number
   callers=()
-  mkdir mnt/{1..16} && server=$("$program" --server store) && kill -STOP "$server" || return 1
+  server=$(ask --server store) && halt "$server" || return 1
   for number in {1..16}; do
-    mkdir "mnt/$number/made" &
+    "$1" "mnt/$number/made" &
     callers+=($!)
-    record $!
   done
-  await 60 all_wait
+  await all_wait
 }
 
-# Whether all callers wait for a request. The kernel names the function in which a process sleeps only to root.
+start_callers() {
+  mkdir mnt/{1..16} && call_sixteen mkdir
+}
+
 all_wait() {
   local caller
   for caller in "${callers[@]}"; do
-    grep -qE "request_wait|fuse" "/proc/$caller/wchan" || return 1
+    waits_in_call "$caller" || return 1
   done
 }
 
@@ -25,11 +28,11 @@ all_wait() {
 end_callers() {
   local caller number
   for caller in "${callers[@]}"; do
-    await 60 isnt_running "$caller" || return 1
+    await isnt_running "$caller" || return 1
     expect "no call fails" wait "$caller" || return 1
   done
   for number in {1..16}; do
-    expect "the directory $number is there" [ "$(ls "mnt/$number")" = made ] || return 1
+    keeps "the directory $number is there" [ "$(ls "mnt/$number")" = made ] || return 1
   done
 }
 
@@ -39,8 +42,7 @@ trace_server() {
   shift
   strace -qq -o "$file" -p "$server" "$@" &
   tracer=$!
-  record "$tracer"
-  await 60 is_traced "$server" && kill -CONT "$server"
+  await is_traced "$server" && kill -CONT "$server"
 }
 
 # A server dies when it has read some messages of those that wait, and answered none. They come again. The next server finds none that
@@ -52,7 +54,7 @@ gathered() {
   expect "it had read some and answered none ($(xargs -d '\n' <calls))" \
     [ "$(grep -c '^read(0, .* = [1-9]' calls) $(grep -c '^write(1' calls)" = "5 0" ] || return 1
   expect "it was killed" [ "$(kills_in log)" -eq 1 ] || return 1
-  server=$("$program" --server store) && await 60 waits_in_reads "$server" && unmount_and_end mnt
+  server=$(ask --server store) && await waits_in_reads "$server" && unmount_and_end mnt
 }
 
 # Whether the reads of a server wait, which is so where the device has no O_NONBLOCK.
@@ -60,17 +62,27 @@ waits_in_reads() {
   [ $((0$(sed -n 's/^flags:[[:space:]]*//p' "/proc/$1/fdinfo/0") & 04000)) -eq 0 ]
 }
 
-# The requests that wait together are committed together: so many answers by one flush, where each commit has one.
+# The requests that wait together are committed together, where each commit has a flush.
 committed_together() {
-  local answers flushes
   options=durable
-  start store mnt log && start_callers && trace_server calls -e trace=write,fsync,fdatasync || return 1
-  end_callers || return 1
-  kill "$tracer"
-  wait "$tracer"
-  answers=$(grep -c '^write(1' calls) flushes=$(grep -cE '^(fsync|fdatasync)' calls)
-  expect "$answers answers by $flushes flushes" [ "$flushes" -le $((answers - 12)) ] || return 1
-  unmount_and_end mnt
+  start store mnt log && mkdir mnt/{1..16} && removes_together && unmount_and_end mnt
+}
+
+# Whether sixteen RMDIRs that wait together have their answers by four flushes at most. The kernel knows the attributes of all directories,
+# which it would ask for first. If it does all the same, the RMDIRs don't wait together, and others are tried.
+removes_together() {
+  local answers flushes try caller
+  for try in {1..20}; do
+    mkdir mnt/{1..16}/made && stat mnt/{1..16} mnt/{1..16}/made >listed && call_sixteen rmdir && trace_server calls -e trace=write,fsync,fdatasync || return 1
+    for caller in "${callers[@]}"; do
+      expect "no call fails" wait "$caller" || return 1
+    done
+    kill "$tracer"
+    wait "$tracer"
+    answers=$(grep -c '^write(1' calls) flushes=$(grep -cE '^(fsync|fdatasync)' calls)
+    [ "$answers" -ne 16 ] || break
+  done
+  expect "sixteen answers ($answers) by four flushes at most ($flushes)" [ "$answers" -eq 16 ] && [ "$flushes" -le 4 ]
 }
 
 # Whether the log has a line for the request, and one for its answer: is_shown OPCODE ENDING ANSWER
@@ -91,7 +103,7 @@ shows() {
 shows_all() {
   local ok='errno=0 len=[0-9]+ us=[0-9]+'
   rm -rf store* && start store mnt log && mkdir mnt/made && touch mnt/made/$'a\nb"c' && ln -s there mnt/link || return 1
-  ! rmdir mnt/made 2>line && kill -KILL "$("$program" --server store)" && ls mnt >/dev/null && unmount_and_end mnt || return 1
+  ! rmdir mnt/made 2>line && kill -KILL "$(ask --server store)" && ls mnt >/dev/null && unmount_and_end mnt || return 1
   is_shown INIT "" "$ok" && is_shown MKDIR ' "made"' "$ok" && is_shown CREATE ' "a\\012b\\042c"' "$ok" || return 1
   is_shown SYMLINK ' "link" "there"' "$ok" && is_shown RMDIR ' "made"' 'errno=39 len=16 us=[0-9]+ Directory not empty' || return 1
   expect "the notice of the second server is shown" [ "$(grep -cE 'Z notice=7 RESEND$' log) $(grep -c 'Z notice=' log)" = "1 1" ] || return 1
@@ -106,8 +118,7 @@ has_pairs() {
 shows_to_nobody() {
   "$program" -d store mnt 2> >(head -n 3 >/dev/null) &
   supervisor=$!
-  record "$supervisor"
-  await 120 is_mounted "$PWD/mnt" && mkdir mnt/{1..50} || return 1
+  await is_mounted "$PWD/mnt" && mkdir mnt/{1..50} || return 1
   expect "the directories are there" [ "$(ls mnt | wc -l)" -eq 50 ] || return 1
   kill -TERM "$supervisor" && ended 0
 }
@@ -133,9 +144,9 @@ no_library() {
   mkdir -p lib/fusekeep && cp "$top/mount/out/fusekeep-gather.so" lib/fusekeep || return 1
   cc_static deaf 'int main(void) { return 0; }' && refuses 1 "fusekeep-mount: $PWD/deaf doesn't load fusekeep-gather.so: .*" \
     env FUSEKEEP="$PWD/deaf" "$program" store || return 1
-  start store mnt log && expect "it has the library" has_library "$("$program" --server store)" || return 1
-  rm lib/fusekeep/fusekeep-gather.so && kill -KILL "$("$program" --server store)" && mkdir mnt/last || return 1
-  expect "the next one has it, too" has_library "$("$program" --server store)" || return 1
+  start store mnt log && expect "it has the library" has_library "$(ask --server store)" || return 1
+  rm lib/fusekeep/fusekeep-gather.so && kill -KILL "$(ask --server store)" && mkdir mnt/last || return 1
+  expect "the next one has it, too" has_library "$(ask --server store)" || return 1
   unmount_and_end mnt
 }
 

@@ -9,7 +9,6 @@ start_workers() {
   for ((number = 0; number < processes; number++)); do
     python3 "$here/workload.py" work mnt "$number" "model-$number" stop "$share" &
     workers+=($!)
-    record $!
   done
 }
 
@@ -30,6 +29,16 @@ end_workers() {
   return "$failed"
 }
 
+# Waits until a mount has had so many requests more.
+works_on() {
+  local before
+  before=$(value_of requests store) && await has_requests $((before + $1))
+}
+
+has_requests() {
+  [ "$(value_of requests store)" -ge "$1" ]
+}
+
 compare_tree() {
   python3 "$here/workload.py" compare mnt model-*
 }
@@ -43,12 +52,12 @@ round() {
   local log=log-$1 status=0
   start store mnt "$log" || return 1
   start_workers
-  await 120 have_made || return 1
+  await have_made || return 1
   python3 "$here/killer.py" "$supervisor" "$2" || status=1
   if [ "$3" = stop ]; then
     kill -TERM "$supervisor"
     python3 "$here/killer.py" "$supervisor" 5 || status=1
-    await 60 isnt_mounted "$PWD/mnt" || status=1
+    await isnt_mounted "$PWD/mnt" || status=1
     end_workers && ended 0 || return 1
   else
     end_workers && compare_tree && unmount_and_end mnt || return 1
@@ -60,7 +69,7 @@ rounds() {
   local number=1 ends kills=${kills:-200} processes=16
   while :; do
     ends=$([ $((number % 2)) -eq 1 ] && echo stop || echo unmount)
-    touch alive
+    note_progress
     round "$number" $((kills < most_kills_of_a_round ? kills : most_kills_of_a_round)) "$ends" || return 1
     [ "$(kills_in log-*)" -lt "$kills" ] || [ "$SECONDS" -lt $((60 * minutes)) ] || return 0
     number=$((number + 1))
@@ -73,7 +82,7 @@ wary() {
   round 1 10 stop && options= && round 2 5 unmount || return 1
   options=wary
   compare_again log-3 || return 1
-  expect "the server has --wary" has_word "$("$program" --server store)" --wary || return 1
+  expect "the server has --wary" has_word "$(ask --server store)" --wary || return 1
   stop_and_end
 }
 
@@ -100,7 +109,6 @@ differential() {
     start store mnt "log-$number" || return 1
     python3 "$here/killer.py" "$supervisor" 1000000 0.5 2>/dev/null &
     killer=$!
-    record "$killer"
     python3 -m mount.differ work mnt other "$profile" "$seed-$number" "$part"
     status=$?
     kill "$killer" 2>/dev/null
@@ -109,7 +117,7 @@ differential() {
     left=$((left - part))
     number=$((number + 1))
   done
-  umount other
+  unmount other
 }
 
 # Of five servers four die as they enter a call of one kind for the Nth time, and one is killed after more than a second.
@@ -126,6 +134,7 @@ case \$((lives % 5)) in
   3) calls=fsync,fdatasync ;;
 esac
 place=\$((lives / 5 * (lives / 5) + 1))
+touch "$PWD/alive"
 exec strace -D -qq -o /dev/null -E "LD_PRELOAD=\$PRELOAD" -e trace=\$calls -e inject=\$calls:signal=KILL:when=\$place "$engine" "\$@"
 END
   : >lives
@@ -141,14 +150,15 @@ has_lives() {
 }
 
 at_calls() {
-  local killer processes=16
+  local killer number processes=16
   write_dying_engine
   start store mnt log || return 1
   start_workers
   python3 "$here/killer.py" "$supervisor" 1000000 1.2 2>/dev/null &
   killer=$!
-  record "$killer"
-  await 400 has_lives 40 || return 1
+  for number in {1..40}; do
+    await has_lives "$number" || return 1
+  done
   kill "$killer"
   end_workers && compare_tree && unmount_and_end mnt && compare_again log-again && stop_and_end
 }
@@ -168,15 +178,23 @@ deaths_summed() {
   echo "deaths=$(wc -l <store-mount.log) longest_restart=$(grep -o 'restart=[0-9.]*' store-mount.log | sed 's/.*=//' | sort -n | tail -n 1)"
 }
 
+# Kills so many servers, each when it has asked for the pending requests and the supervisor has seen that.
+kill_asking() {
+  local number server
+  for ((number = 0; number < $1; number++)); do
+    await has_value state serving store && server=$(ask --server store) && kill -KILL "$server" && await has_other_server "$server" || return 1
+  done
+}
+
 # The deaths of servers are listed beside the store, with the time and how long the next one took, and summed up by `store`.
 deaths() {
   local line='^20[0-9-]*T[0-9:]*[.][0-9]{3}Z'
   write_broken_engine
-  start store mnt log && python3 "$here/killer.py" "$supervisor" 3 0.5 && ls mnt && unmount_and_end mnt || return 1
+  start store mnt log && kill_asking 3 && ls mnt && unmount_and_end mnt || return 1
   expect "three were killed" [ "$(grep -cE "$line signal=9 lived=[0-9]+[.][0-9]{3} restart=[0-9]+[.][0-9]{3}\$" store-mount.log)" -eq 3 ] || return 1
   expect "that is all" [ "$(wc -l <store-mount.log)" -eq 3 ] || return 1
   expect "they are summed up" [ "$("$engine" store store | tail -n 1)" = "$(deaths_summed)" ] || return 1
-  start store mnt log-broken && touch broken && kill -KILL "$("$program" --server store)" && ended 1 || return 1
+  start store mnt log-broken && touch broken && kill -KILL "$(ask --server store)" && ended 1 || return 1
   expect "one was killed" [ "$(grep -cE "$line signal=9 lived=[0-9.]+ restart=-\$" store-mount.log)" -eq 1 ] || return 1
   expect "ten ended" [ "$(grep -cE "$line status=3 lived=[0-9.]+ restart=- store: Damaged(; gave up: 10 servers .*)?\$" store-mount.log)" -eq 10 ] || return 1
   expect "the last line has the reason" grep -qE "store: Damaged; gave up: 10 servers in a row ended by themselves" <(tail -n 1 store-mount.log) || return 1
@@ -191,22 +209,27 @@ reads_leave_nothing() {
   for number in {1..4}; do
     python3 "$here/readers.py" "mnt/$number" "ready-$number" stop >"count-$number" &
     readers+=($!)
-    record $!
   done
-  await 60 [ -e ready-1 -a -e ready-2 -a -e ready-3 -a -e ready-4 ] && sleep 2 || return 1
-  records=$(records_of_store) bytes=$(bytes_of_store)
+  await [ -e ready-1 -a -e ready-2 -a -e ready-3 -a -e ready-4 ] && await has_handles 84 || return 1
+  records=$(value_in_store records) bytes=$(bytes_of_store)
   while [ "$(kills_in log)" -lt "$kills" ]; do
-    touch alive
+    note_progress
     python3 "$here/killer.py" "$supervisor" 20 || return 1
   done
-  expect "$(records_of_store) records, as before, when there were $records" [ "$(records_of_store)" = "$records" ] || return 1
+  expect "$(value_in_store records) records, as before, when there were $records" [ "$(value_in_store records)" = "$records" ] || return 1
   expect "$(bytes_of_store) bytes, as before, when there were $bytes" [ "$(bytes_of_store)" = "$bytes" ] || return 1
   touch stop
   wait "${readers[@]}" && echo "$(($(cat count-* | paste -sd+))) calls of readers under $(kills_in log) kills: no record" && unmount_and_end mnt
 }
 
-records_of_store() {
-  "$engine" store store | sed -n 's/^records=//p'
+# A number that `store` prints.
+value_in_store() {
+  "$engine" store store | sed -n "s/^$1=//p"
+}
+
+# Whether so many files and directories are open, so that no RELEASE is to come any more.
+has_handles() {
+  [ "$(value_in_store handles)" = "$1" ]
 }
 
 # The process that asks for the root is killed before the first server serves: another one asks.
@@ -217,12 +240,11 @@ LD_PRELOAD=\$PRELOAD exec "$engine" "\$@"
 END
   "$program" -f store mnt 2>log &
   supervisor=$!
-  record "$supervisor"
-  await 120 has_probe || return 1
+  await has_probe || return 1
   kill -KILL "$probe"
-  await 120 grep -q "the process that asked for the root was killed by signal 9: another one asks" log || return 1
+  await grep -q "the process that asked for the root was killed by signal 9: another one asks" log || return 1
   touch may-serve
-  await 120 grep -q "is mounted on" log && unmount_and_end mnt
+  await_mount log && unmount_and_end mnt
 }
 
 # Whether the supervisor has two children: a server, and the process that asks for the root.
@@ -251,7 +273,7 @@ small() {
   rm mnt/first
   expect "an open file counts" [ "$(df -B1 --output=used mnt | tail -n 1 | xargs)" = 1048576 ] || return 1
   exec 9<&-
-  await 60 has_room_for_link || return 1
+  await has_room_for_link || return 1
   unmount_and_end mnt
 }
 
@@ -290,15 +312,15 @@ bytes_of_store() {
 killed_caller() {
   write_forgetting_engine
   start store mnt log && mkdir mnt/place mnt/place/{gone,one} && echo old >mnt/place/file && echo old >mnt/place/over && ln -s one mnt/place/link || return 1
-  forgets 11 rmdir mnt/place/gone && expect "the directory is gone" isnt_there mnt/place/gone || return 1
-  forgets 10 rm mnt/place/link && expect "the link is gone" isnt_there mnt/place/link || return 1
-  forgets 16 dd status=none if=/proc/self/comm of=mnt/place/file conv=notrunc && expect "it is written" [ "$(cat mnt/place/file)" = dd ] || return 1
-  forgets 4 truncate -s 9 mnt/place/file && expect "it has its size" [ "$(stat -c %s mnt/place/file)" = 9 ] || return 1
-  forgets 4 chmod 751 mnt/place/one && expect "it has its mode" [ "$(stat -c %a mnt/place/one)" = 751 ] || return 1
+  forgets 11 rmdir mnt/place/gone && keeps "the directory is gone" isnt_there mnt/place/gone || return 1
+  forgets 10 rm mnt/place/link && keeps "the link is gone" isnt_there mnt/place/link || return 1
+  forgets 16 dd status=none if=/proc/self/comm of=mnt/place/file conv=notrunc && keeps "it is written" [ "$(cat mnt/place/file)" = dd ] || return 1
+  forgets 4 truncate -s 9 mnt/place/file && keeps "it has its size" [ "$(stat -c %s mnt/place/file)" = 9 ] || return 1
+  forgets 4 chmod 751 mnt/place/one && keeps "it has its mode" [ "$(stat -c %a mnt/place/one)" = 751 ] || return 1
   forgets 12 python3 -c 'import os; os.rename("mnt/place/file", "mnt/place/over")' || return 1
-  expect "the old name is gone" isnt_there mnt/place/file && expect "the other file is there" [ "$(head -c 2 mnt/place/over)" = dd ] || return 1
-  forgets 9 mkdir mnt/place/made && expect "the directory is there within 10 s" await 10 [ -d mnt/place/made ] || return 1
-  expect "its parent has one link more" [ "$(stat -c %h mnt/place)" = 4 ] && unmount_and_end mnt
+  keeps "the old name is gone" isnt_there mnt/place/file && keeps "the other file is there" [ "$(head -c 2 mnt/place/over)" = dd ] || return 1
+  forgets 9 mkdir mnt/place/made && keeps "the directory is there within 10 s" within 10 [ -d mnt/place/made ] || return 1
+  keeps "its parent has one link more" [ "$(stat -c %h mnt/place)" = 4 ] && unmount_and_end mnt
 }
 
 isnt_there() {
@@ -322,14 +344,13 @@ END
 forgets() {
   local caller first
   echo "$1" >opcode
-  kill -KILL "$("$program" --server store)"
+  kill -KILL "$(ask --server store)"
   ls -lR mnt >/dev/null && cat mnt/place/* 2>/dev/null >contents
   [ -e mnt/place/made ]
-  first=$("$program" --server store) && touch dies || return 1
+  first=$(ask --server store) && touch dies || return 1
   "${@:2}" &
   caller=$!
-  record "$caller"
-  await 60 is_asked_by_other "$first" || return 1
+  await is_asked_by_other "$first" || return 1
   kill -KILL "$caller"
   wait "$caller" 2>/dev/null
   expect "the caller was killed in $*" [ $? -eq 137 ] && rm holds
@@ -341,6 +362,5 @@ is_traced() {
 
 # Whether another server than this one runs and has asked for the pending requests.
 is_asked_by_other() {
-  local server
-  server=$("$program" --server store) && [ "$server" != "$1" ] && "$program" --status store | grep -q "^state *serving$"
+  has_other_server "$1" && has_value state serving store
 }

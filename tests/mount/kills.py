@@ -23,13 +23,15 @@ import sys
 import threading
 import time
 
+from lib.wrong import report_wrong
 from mount import model as m
+from mount.calls import Slow, is_wrong
 from mount.killer import await_asking, kill, next_server
 from mount.writer import Writer
 
 WRITERS = 3
 MOST_MADE = 18000  # nodes of a writer: a mount has room for 65,536
-LONGEST_STEP = 180.0
+LONGEST_STEP = 1200.0  # seconds
 PROGRAM = os.environ.get("FUSEKEEP", "")
 
 
@@ -123,7 +125,7 @@ class Run:
         wanted = {"nodes": 1 + WRITERS + sum(writer.model.nodes() for writer in self.writers),
                   "handles": sum(len(writer.model.held) for writer in self.writers),
                   "bytes": sum(writer.model.bytes() for writer in self.writers)}
-        until = time.monotonic() + 60
+        until = time.monotonic() + LONGEST_STEP
         while True:
             lines = m.said_by(PROGRAM, "store", self.store).decode().splitlines()
             found = dict(line.split("=", 1) for line in lines if "=" in line and ":" not in line)
@@ -137,16 +139,18 @@ class Run:
     def work(self):
         for writer in self.writers:
             writer.start()
-        last, lives = None, moments(self.rng)
+        last, lives, ended = None, moments(self.rng), time.monotonic()
         look_each, compare_each = max(2, min(10, self.kills // 4)), max(10, self.kills // 20)
         whole = None
         while self.killed < self.kills:
             last, seconds = next_server(self.supervisor, last), next(lives)
             if seconds > 1:
                 await_asking(last)
+                seconds = max(seconds, time.monotonic() - ended)  # on a busy machine calls go on all the same
             time.sleep(seconds)
             looks = self.killed % look_each == look_each - 1
-            if (self.look if looks else self.end)(last):
+            is_killed, ended = (self.look if looks else self.end)(last), time.monotonic()
+            if is_killed:
                 self.killed += 1
                 self.early += seconds < 0.03
                 self.pace()
@@ -183,8 +187,9 @@ class Run:
     def check_writers(self):
         for number, writer in enumerate(self.writers):
             if writer.fault:
-                sys.exit(f"kills: writer {number}: {writer.fault}")
-            unless(time.monotonic() - writer.since > LONGEST_STEP, f"writer {number} waits for more than {LONGEST_STEP:.0f} s", [])
+                end_by(writer.fault, f"writer {number}: {writer.words}")
+            if time.monotonic() - writer.since > LONGEST_STEP:
+                raise Slow(f"writer {number} waits for more than {LONGEST_STEP:.0f} s")
 
     def report(self):
         files = sum(len(writer.model.paths(lambda node: not node.is_dir())) for writer in self.writers)
@@ -207,6 +212,13 @@ class Comparison(threading.Thread):
             self.compare()
         except Exception as fault:  # pylint: disable=broad-except
             self.fault = fault
+
+
+def end_by(fault, words):
+    """Ends by a fault, which is reported where it shows a wrong answer."""
+    if is_wrong(fault):
+        report_wrong("mount", f"kills: {words}")
+    sys.exit(f"kills: {words}")
 
 
 def copy_if_there(old, new):
@@ -282,5 +294,5 @@ def main():
 if __name__ == "__main__":
     try:
         main()
-    except AssertionError as wrong:
-        sys.exit(f"kills: {wrong}")
+    except (AssertionError, OSError, Slow) as caught:
+        end_by(caught, str(caught))

@@ -9,9 +9,9 @@ has_deaths() {
 forgotten() {
   local server
   start store mnt log && python3 -c 'import os; [os.mkdir(f"mnt/{number}") for number in range(10000)]' || return 1
-  server=$("$program" --server store) && kill -STOP "$server" && forget_all "$PWD/mnt" && kill -CONT "$server" || return 1
-  expect "they are still there" [ "$(ls mnt | wc -l)" -eq 10000 ] || return 1
-  expect "the server lives" [ "$("$program" --server store)" = "$server" ] || return 1
+  server=$(ask --server store) && halt "$server" && forget_all "$PWD/mnt" && kill -CONT "$server" || return 1
+  keeps "they are still there" [ "$(ls mnt | wc -l)" -eq 10000 ] || return 1
+  expect "the server lives" [ "$(ask --server store)" = "$server" ] || return 1
   unmount_and_end mnt
 }
 
@@ -26,13 +26,15 @@ if library.mount(None, os.fsencode(sys.argv[1]), None, MS_REMOUNT, None) != 0:
 CALL
 }
 
-# An engine that writes and sleeps before it is a server, for as many seconds as the file `opens` has.
+# An engine that writes before it is a server, and then waits as long as the file `opens` is there, or for the seconds that it names.
 write_slow_engine() {
   make_engine slow-engine <<END
 if [ "\$4" = --resume ] && [ -e "$PWD/opens" ]; then
   for ((number = 0; number < 10; number++)); do echo "more than a notice"; done >"$PWD/written"
+  seconds=\$(cat "$PWD/opens")
   echo . >>"$PWD/begun"
-  sleep "\$(cat "$PWD/opens")"
+  [ -z "\$seconds" ] || sleep "\$seconds"
+  while [ -z "\$seconds" ] && [ -e "$PWD/opens" ]; do sleep 0.1; done
 fi
 LD_PRELOAD=\$PRELOAD exec "$engine" "\$@"
 END
@@ -40,14 +42,14 @@ END
 
 # The list has the time until the next server asked for the pending requests. One that was killed before has asked for none.
 restart_times() {
-  local before line='^20[^ ]* signal=9 lived=[0-9.]+'
+  local line='^20[^ ]* signal=9 lived=[0-9.]+'
   write_slow_engine
-  start store mnt log && mkdir mnt/made && echo 2 >opens || return 1
-  kill -KILL "$("$program" --server store)" && await 60 [ -e begun ] || return 1
-  before=$("$program" --server store) && kill -KILL "$before" || return 1
+  start store mnt log && mkdir mnt/made && touch opens || return 1
+  kill -KILL "$(ask --server store)" && await [ -e begun ] && echo 2 >seconds && mv seconds opens || return 1
+  kill -KILL "$(server_by_parent)"
   expect "the mount answers" ls mnt && unmount_and_end mnt || return 1
   expect "the first restart failed ($(head -n 1 store-mount.log))" grep -qE "$line restart=-\$" <(head -n 1 store-mount.log) || return 1
-  expect "the second took the time ($(tail -n 1 store-mount.log))" grep -qE "$line restart=[2-9][.][0-9]+\$" <(tail -n 1 store-mount.log) || return 1
+  expect "the second took the time ($(tail -n 1 store-mount.log))" grep -qE "$line restart=([2-9]|[1-9][0-9]+)[.][0-9]+\$" <(tail -n 1 store-mount.log) || return 1
   expect "that is all" [ "$(wc -l <store-mount.log)" -eq 2 ]
 }
 
@@ -55,10 +57,9 @@ restart_times() {
 killed_openings() {
   local number
   write_slow_engine
-  start store mnt log && echo 60 >opens && kill -KILL "$("$program" --server store)" || return 1
+  start store mnt log && touch opens && kill -KILL "$(ask --server store)" || return 1
   for number in {1..12}; do
-    touch alive
-    await 30 has_begun "$number" && kill -KILL "$(server_by_parent)" || return 1
+    await has_begun "$number" && kill -KILL "$(server_by_parent)" || return 1
   done
   rm opens
   expect "the mount answers" ls mnt && expect "it didn't give up" [ "$(grep -c "gave up" log)" -eq 0 ] || return 1
@@ -91,37 +92,19 @@ END
 # are executed. Later requests are gathered again.
 deadly_request() {
   local caller server options=durable
-  write_crashing_engine CRASH_AT=read CRASH_NAME=bad && start store mnt log && start_callers || return 1
-  mkdir mnt/7/bad 2>line &
+  write_crashing_engine CRASH_AT=read CRASH_NAME=bad && start store mnt log && mkdir mnt/{1..16} || return 1
+  server=$(ask --server store) && halt "$server" || return 1
+  mkdir mnt/bad 2>line &
   caller=$!
-  record "$caller"
-  sleep 0.5
+  await waits_in_call "$caller" && call_sixteen mkdir || return 1
   kill -CONT "$server"
   wait "$caller"
   expect "the call failed with EIO ($(cat line))" grep -q "Input/output error" line || return 1
   end_callers || return 1
   expect "the request is named" grep -qE '3 servers in a row ended at LOOKUP id=[0-9]+ node=[0-9]+ "bad": it is answered EIO' log || return 1
-  expect "the list names it" await 10 has_deaths 1 'status=9 lived=[0-9.]+ restart=[0-9.]+ LOOKUP id=[0-9]+ node=[0-9]+ "bad" is answered EIO' || return 1
+  expect "the list names it" await has_deaths 1 'status=9 lived=[0-9.]+ restart=[0-9.]+ LOOKUP id=[0-9]+ node=[0-9]+ "bad" is answered EIO' || return 1
   expect "three or four servers died ($(wc -l <store-mount.log))" grep -qx "[34]" <(wc -l <store-mount.log) || return 1
-  mkdir mnt/later && gathers_again && unmount_and_end mnt
-}
-
-# So many answers by fewer flushes.
-gathers_again() {
-  local answers flushes number
-  server=$("$program" --server store) && kill -STOP "$server" || return 1
-  callers=()
-  for number in {1..16}; do
-    rmdir "mnt/$number/made" &
-    callers+=($!)
-    record $!
-  done
-  await 60 all_wait && trace_server calls -e trace=write,fsync,fdatasync || return 1
-  wait "${callers[@]}"
-  kill "$tracer"
-  wait "$tracer"
-  answers=$(grep -c '^write(1' calls) flushes=$(grep -cE '^(fsync|fdatasync)' calls)
-  expect "$answers answers by $flushes flushes" [ "$flushes" -le $((answers - 12)) ]
+  mkdir mnt/later && rmdir mnt/{1..16}/made && removes_together && unmount_and_end mnt
 }
 
 # Servers die when they have committed a request and are about to answer it, after more than a second, in which the log changes. It is never
@@ -130,14 +113,13 @@ deadly_answer() {
   write_crashing_engine CRASH_AT=write CRASH_NAME=bad CRASH_PAUSE=1100 && start store mnt log || return 1
   touch touches
   mkdir mnt/bad 2>line &
-  record $!
-  await 120 isnt_running "$supervisor" || return 1
+  await isnt_running "$supervisor" || return 1
   ended 1 && umount -l mnt || return 1
   expect "it says why" grep -q "gave up: 10 servers in a row ended by themselves" log || return 1
-  expect "the list says why" await 10 has_deaths 1 "restart=- gave up: 10 servers in a row ended by themselves before the kernel took an answer" || return 1
+  expect "the list says why" await has_deaths 1 "restart=- gave up: 10 servers in a row ended by themselves before the kernel took an answer" || return 1
   expect "it isn't answered EIO" [ "$(cat log store-mount.log line | grep -cE "EIO|Input/output")" -eq 0 ] || return 1
   export FUSEKEEP=$engine
-  start store mnt log-again && expect "it took effect" [ "$(ls mnt)" = bad ] && unmount_and_end mnt
+  start store mnt log-again && keeps "it took effect" [ "$(ls mnt)" = bad ] && unmount_and_end mnt
 }
 
 # INIT is never answered EIO, since the mount can't do without. A FORGET doesn't come again, so that it kills one server.
@@ -148,7 +130,7 @@ deadly_others() {
   expect "it says why ($(cat line))" grep -q "gave up: 10 servers in a row ended by themselves" line || return 1
   expect "it isn't answered EIO" [ "$(grep -c EIO line store-mount.log)" = $'line:0\nstore-mount.log:0' ] || return 1
   write_crashing_engine CRASH_AT=read CRASH_OPCODE=2 && start other-store mnt log && touch mnt/one && rm mnt/one || return 1
-  await 60 grep -q "server .* ended, status 9" log && mkdir mnt/two && unmount_and_end mnt || return 1
+  await grep -q "server .* ended, status 9" log && mkdir mnt/two && unmount_and_end mnt || return 1
   expect "one server died" [ "$(grep -c lived= other-store-mount.log)" -eq 1 ] && expect "nothing is answered EIO" [ "$(grep -c EIO log)" -eq 0 ]
 }
 
@@ -167,9 +149,9 @@ damaged_rows() {
   unmount_and_end mnt
 }
 
-# Whether a command fails with EIO, within two minutes.
+# Whether a command fails with EIO.
 has_io_error() {
-  timeout -k 1 120 "$@" >listed 2>line
+  timeout -k 1 "$patience" "$@" >listed 2>line
   [ $? -ne 124 ] && grep -q "Input/output error" line
 }
 
@@ -182,11 +164,11 @@ no_process() {
   echo max >"$group/pids.max"
   echo "$supervisor" >"$group/../cgroup.procs"
   unmount_and_end mnt || status=1
-  await 10 rmdir "$group" && return "$status"
+  await rmdir "$group" && return "$status"
 }
 
 makes_again() {
-  kill -KILL "$("$program" --server store)" && sleep 20 && grep -q "fork: Resource temporarily unavailable" log || return 1
+  kill -KILL "$(ask --server store)" && await has_lines_of 4 "fork: Resource temporarily unavailable" || return 1
   echo max >"$1/pids.max"
   expect "a call succeeds" mkdir mnt/made && expect "it is there" [ "$(ls mnt)" = made ]
 }
@@ -194,11 +176,11 @@ makes_again() {
 # A stopped server is killed after the seconds of the watchdog, if it has not taken a request that waits. An idle one is left alone.
 watched() {
   local server
-  options=watchdog=2
-  start store mnt log && server=$("$program" --server store) && kill -STOP "$server" && sleep 5 || return 1
+  options=watchdog=8
+  start store mnt log && server=$(ask --server store) && halt "$server" && sleep 20 || return 1
   expect "an idle server isn't killed" kill -0 "$server" || return 1
-  mkdir mnt/first && expect "it was killed" grep -q "server $server has answered nothing for more than 2 s: it is killed" log || return 1
-  expect "the list has the reason" await 10 has_deaths 1 "signal=9 lived=[0-9.]+ restart=[0-9.]+ by the watchdog" || return 1
+  mkdir mnt/first && expect "it was killed" grep -q "server $server has answered nothing for more than 8 s: it is killed" log || return 1
+  expect "the list has the reason" await has_deaths 1 "signal=9 lived=[0-9.]+ restart=[0-9.]+ by the watchdog" || return 1
   expect "the next server makes it" [ "$(ls mnt)" = first ] || return 1
   unmount_and_end mnt || return 1
   options=
@@ -207,21 +189,21 @@ watched() {
 
 # A request takes longer than the watchdog's seconds. Two servers are killed, and the third has four times as long, which is enough.
 watched_request() {
-  options=watchdog=2
-  write_crashing_engine CRASH_AT=none CRASH_NAME=slow CRASH_PAUSE=5000 && start store mnt log || return 1
+  options=watchdog=8
+  write_crashing_engine CRASH_AT=none CRASH_NAME=slow CRASH_PAUSE=24000 && start store mnt log || return 1
   ! stat mnt/slow 2>line && expect "it is answered" grep -q "No such file" line || return 1
-  expect "one was killed after 2 s" has_lines 1 "has answered nothing for more than 2 s: it is killed" || return 1
-  expect "one was killed after 4 s" has_lines 1 "has answered nothing for more than 4 s: it is killed" || return 1
-  expect "that is all" await 10 has_deaths 2 "by the watchdog" && unmount_and_end mnt
+  expect "one was killed after 8 s" has_lines 1 "has answered nothing for more than 8 s: it is killed" || return 1
+  expect "one was killed after 16 s" has_lines 1 "has answered nothing for more than 16 s: it is killed" || return 1
+  expect "that is all" await has_deaths 2 "by the watchdog" && unmount_and_end mnt
 }
 
 # A server that opens the store for longer than ten times the watchdog's seconds is killed once, and the next one has twice as long.
 watched_opening() {
-  options=watchdog=1
+  options=watchdog=2
   write_slow_engine
-  start store mnt log && echo 14 >opens && kill -KILL "$("$program" --server store)" || return 1
+  start store mnt log && echo 30 >opens && kill -KILL "$(ask --server store)" || return 1
   expect "the mount answers" ls mnt || return 1
-  expect "one was killed while it opened" [ "$(grep -c "has opened the store for more than 10 s: it is killed" log)" -eq 1 ] || return 1
+  expect "one was killed while it opened" [ "$(grep -c "has opened the store for more than 20 s: it is killed" log)" -eq 1 ] || return 1
   expect "two began" [ "$(wc -l <begun)" -eq 2 ] || return 1
   unmount_and_end mnt
 }
@@ -233,16 +215,15 @@ escaped() {
   start store mnt log && touch "mnt/$name" && unmount_and_end mnt || return 1
   expect "a name in a line" grep -qF '"a\033\177\302\233\377'$'\xc3\xa4"' log || return 1
   switch=-f
-  mkdir $'f\xc2\x9b' && start $'f\xc2\x9b/store' mnt log-path && "$program" --status $'f\xc2\x9b/store' >status && unmount_and_end mnt || return 1
+  mkdir $'f\xc2\x9b' && start $'f\xc2\x9b/store' mnt log-path && ask --status $'f\xc2\x9b/store' >status && unmount_and_end mnt || return 1
   expect "a path in the status" grep -qF 'f\302\233/store' status || return 1
   expect "a path in a message" grep -qF 'f\302\233/store is mounted on' log-path || return 1
   cc_static $'h\x1bd' '#include <fcntl.h>
     #include <unistd.h>
-    int main(void) { return lockf(0, F_LOCK, 0) == 0 && write(1, "", 1) == 1 && sleep(60) == 0; }' && touch held || return 1
+    int main(void) { return lockf(0, F_LOCK, 0) == 0 && write(1, "", 1) == 1 && sleep(3600) == 0; }' && touch held || return 1
   ./$'h\x1bd' <>held >locked &
   holder=$!
-  record "$holder"
-  await 60 [ -s locked ] || return 1
+  await [ -s locked ] || return 1
   "$program" held mnt 2>line
   kill "$holder"
   expect "a holder's name ($(cat line))" grep -qF '(h\033d)' line || return 1

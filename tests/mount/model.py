@@ -247,9 +247,9 @@ def open_sound(path):
 
 
 def said_by(program, *words):
-    ran = subprocess.run([program, *words], capture_output=True, timeout=300, check=False)
+    ran = subprocess.run([program, *words], capture_output=True, timeout=1200, check=False)
     if ran.returncode != 0:
-        raise AssertionError(f"{' '.join(words)}: status {ran.returncode}: {ran.stderr.decode().strip()}")
+        raise RuntimeError(f"{' '.join(words)}: status {ran.returncode}: {ran.stderr.decode().strip()}")
     return ran.stdout
 
 

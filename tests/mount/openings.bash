@@ -20,14 +20,14 @@ openings() {
   local plain=$program program=$PWD/traced
   program=$plain make_traced traced && program=$plain make_traced copier || return 1
   start store mnt log && mkdir mnt/one && has_openings 1 "a new store" || return 1
-  kill -KILL "$("$plain" --server store)" && mkdir mnt/two && has_openings 2 "a killed server" || return 1
-  "$plain" --restart store >restarted && mkdir mnt/three && has_openings 3 "a new program" || return 1
-  "$plain" -o remount,ro store mnt && "$plain" -o remount,rw store mnt && "$plain" --status store >status && has_openings 3 "a remount" || return 1
+  kill -KILL "$(program=$plain ask --server store)" && mkdir mnt/two && has_openings 2 "a killed server" || return 1
+  program=$plain request --restart store && mkdir mnt/three && has_openings 3 "a new program" || return 1
+  "$plain" -o remount,ro store mnt && "$plain" -o remount,rw store mnt && program=$plain ask --status store >status && has_openings 3 "a remount" || return 1
   ./copier --backup copy store >copied && has_openings 3 "a backup" || return 1
   expect "the copy is opened once ($(openings_in copier-calls))" [ "$(openings_in copier-calls)" = "1 0" ] || return 1
   unmount_and_end mnt && has_openings 3 "the end" || return 1
-  start store mnt log-next && expect "all are there" [ "$(ls mnt | xargs)" = "one three two" ] && has_openings 1 "the same store" || return 1
-  expect "one server was started" [ "$("$plain" --status store | sed -n 's/^servers  *//p')" = 1 ] || return 1
+  start store mnt log-next && keeps "all are there" [ "$(ls mnt | xargs)" = "one three two" ] && has_openings 1 "the same store" || return 1
+  expect "one server was started" [ "$(program=$plain ask --status store | sed -n 's/^servers  *//p')" = 1 ] || return 1
   unmount_and_end mnt && has_openings 1 "its end"
 }
 
@@ -47,8 +47,8 @@ kill_first_at() {
 
 # Whether the first server dies, and the next one goes on with the mount: goes_on MADE ALL
 goes_on() {
-  start store mnt "log-$1" && mkdir "mnt/$1" && expect "all are there" [ "$(ls mnt | xargs)" = "$2" ] || return 1
-  expect "one server died" [ "$("$program" --status store | sed -n 's/^deaths  *//p')" = 1 ] && unmount_and_end mnt
+  start store mnt "log-$1" && mkdir "mnt/$1" && keeps "all are there" [ "$(ls mnt | xargs)" = "$2" ] || return 1
+  expect "one server died" [ "$(ask --status store | sed -n 's/^deaths  *//p')" = 1 ] && unmount_and_end mnt
 }
 
 # The first server dies when it has begun the mount: before it gets the device, when it has it, and when it has read INIT.
@@ -76,8 +76,7 @@ FUSEKEEP_DEVICE=\$DEVICE LD_PRELOAD=\$PRELOAD exec "$engine" "\$@"
 END
   "$program" -f store mnt 2>log &
   supervisor=$!
-  record "$supervisor"
-  await 60 [ -e waits ] && rmdir mnt && touch may-begin && ended 1 || return 1
+  await [ -e waits ] && rmdir mnt && touch may-begin && ended 1 || return 1
   expect "it says why ($(cat log))" grep -qx "fusekeep-mount: $PWD/mnt.*: No such file or directory" log || return 1
   expect "no file is left ($(files_here))" [ -z "$(find . -name 'store*')" ]
 }
@@ -96,7 +95,7 @@ first_flushes() {
 # The store can't be mounted, and the first server doesn't end: it is killed, and the mount is refused all the same.
 first_hangs() {
   local status
-  timeout -k 1 60 strace -f -qq -o /dev/null -e trace=mount,recvmsg -e inject=mount:error=EBUSY -e inject=recvmsg:signal=STOP "$program" -f store mnt 2>log
+  timeout -k 1 "$patience" strace -f -qq -o /dev/null -e trace=mount,recvmsg -e inject=mount:error=EBUSY -e inject=recvmsg:signal=STOP "$program" -f store mnt 2>log
   status=$?
   expect "it is refused (status $status)" [ "$status" -eq 1 ] && expect "it says why ($(cat log))" grep -q "mnt: Device or resource busy" log || return 1
   expect "no file is left ($(files_here))" [ -z "$(find . -name 'store*')" ]

@@ -8,7 +8,7 @@ another_on_top() {
   start store mnt log && echo one >mnt/one && exec 9<mnt/one || return 1
   umount -l mnt && mount -t tmpfs other mnt || return 1
   kill -TERM "$supervisor"
-  await 120 grep -q "isn't mounted on .* any more" log || return 1
+  await grep -q "isn't mounted on .* any more" log || return 1
   expect "the other file system is still mounted" grep -q "^other $PWD/mnt tmpfs " /proc/mounts || return 1
   expect "an open file is read" [ "$(cat <&9)" = one ] || return 1
   exec 9<&-
@@ -19,11 +19,10 @@ another_on_top() {
 relative_path() {
   mkdir alone programs && cp "$program" "${program%/*}/fusekeep-gather.so" alone && cp "$engine" programs/fusekeep || return 1
   env -u FUSEKEEP PATH="programs:$PATH" alone/fusekeep-mount store mnt || return 1
-  supervisor=$(process_of "alone/fusekeep-mount store mnt")
-  record "$supervisor"
+  supervisor=$(value_of supervisor store) || return 1
   echo one >mnt/one && python3 "$here/killer.py" "$supervisor" 2 1.1 2>/dev/null || return 1
-  expect "it is read by a later server" [ "$(cat mnt/one)" = one ] || return 1
-  umount mnt && await 120 isnt_running "$supervisor"
+  keeps "it is read by a later server" [ "$(cat mnt/one)" = one ] || return 1
+  unmount mnt && await isnt_running "$supervisor"
 }
 
 # Another engine, which keeps its files and records in memory: the next server after a kill has agreed on no INIT.
@@ -40,7 +39,7 @@ files_from_memory() {
   unmount_and_end mnt && start store mnt log-again || return 1
   expect "the next mount has them, too" [ "$(cat mnt/hours)" = "9 to 5" ] || return 1
   python3 "$here/killer.py" "$supervisor" 1 || return 1
-  expect "after a kill a look at the mount is an error" is_refused mnt || return 1
+  expect "after a kill a look at the mount is an error" await is_refused mnt || return 1
   expect "the store is empty" [ ! -s store ] || return 1
   unmount_and_end mnt
 }
@@ -49,32 +48,18 @@ is_read_only() {
   ! touch "$1" 2>line && grep -q "Read-only" line
 }
 
-# The process that was started with these words.
-process_of() {
-  local line
-  for line in /proc/[0-9]*/cmdline; do
-    if [ "$(tr '\0' ' ' 2>/dev/null <"$line")" = "$1 " ]; then
-      basename "${line%/cmdline}"
-    fi
-  done
-}
-
-isnt_running() {
-  ! kill -0 "$1"
-}
-
 # --server prints the number of this store's server: by any path of the store, beside another mount, and again when the next server
 # runs. Without a mount, and for another user, it prints a line and no number.
 server_number() {
   local server other
   mkdir other && start other-store other log-other && other=$supervisor || return 1
-  start store mnt log && ln -s "$PWD/store" link && server=$("$program" --server store) || return 1
+  start store mnt log && ln -s "$PWD/store" link && server=$(ask --server store) || return 1
   expect "the supervisor's child" [ "$(sed 's/.*) . \([0-9]*\) .*/\1/' "/proc/$server/stat")" = "$supervisor" ] || return 1
-  expect "the same by a link" [ "$("$program" --server link)" = "$server" ] || return 1
-  expect "the same from within the mount" [ "$(cd mnt && "$program" --server ../store)" = "$server" ] || return 1
-  expect "another number for another store" [ "$("$program" --server other-store)" != "$server" ] || return 1
+  expect "the same by a link" [ "$(ask --server link)" = "$server" ] || return 1
+  expect "the same from within the mount" [ "$(cd mnt && ask --server ../store)" = "$server" ] || return 1
+  expect "another number for another store" [ "$(ask --server other-store)" != "$server" ] || return 1
   kill -KILL "$server"
-  await 120 has_other_server "$server" && mkdir mnt/a || return 1
+  await has_other_server "$server" && mkdir mnt/a || return 1
   expect "only this server was killed" [ "$(kills_in log) $(kills_in log-other)" = "1 0" ] || return 1
   expect "another user sees no server" has_no_server "can't be asked by this user" $user "$program" --server store || return 1
   unmount_and_end mnt || return 1
@@ -85,7 +70,7 @@ server_number() {
 
 has_other_server() {
   local server
-  server=$("$program" --server store) && [ "$server" != "$1" ]
+  server=$(ask --server store) && [ "$server" != "$1" ]
 }
 
 # Whether a command prints this line on standard error and nothing on standard output, with status 1: has_no_server LINE COMMAND WORD..
@@ -127,12 +112,10 @@ listener = socket.socket(socket.AF_UNIX, socket.SOCK_DGRAM)
 listener.bind(sys.argv[1].replace("@", "\0", 1))
 open("listens", "w")
 open("states", "wb").write(listener.recv(100))' "$name" &
-    record $!
-    await 10 [ -e listens ] && rm listens || return 1
+    await [ -e listens ] && rm listens || return 1
     NOTIFY_SOCKET=$name setpriv --bounding-set="-all,$words" --no-new-privs "$program" -f folder/store mnt 2>log &
     supervisor=$!
-    record "$supervisor"
-    await 60 has_said READY=1 && echo one >mnt/one || return 1
+    await has_said READY=1 && echo one >mnt/one || return 1
     python3 "$here/killer.py" "$supervisor" 2 0.3 2>line && expect "the file is there" [ "$(cat mnt/one)" = one ] && stop_and_end || return 1
   done
 }
@@ -143,38 +126,36 @@ unit_stops() {
   expect "the unit names the command" [ -s stops ] || return 1
   start store mnt log && sh stops "$PWD/mnt" || return 1
   expect "a mount that answers stays" is_mounted "$PWD/mnt" || return 1
-  kill -KILL "$supervisor"
-  wait "$supervisor" 2>/dev/null
-  await 120 sh -c '! stat "$0"' "$PWD/mnt" || return 1
+  kill_supervisor || return 1
+  await sh -c '! stat "$0"' "$PWD/mnt" || return 1
   sh stops "$PWD/mnt"
   expect "a dead one goes" isnt_mounted "$PWD/mnt"
 }
 
-# Starts a call that waits for the next server, in the background.
+# Starts a call that waits for the next server, in the background. It must still wait a second later.
 start_waiting() {
   mkdir "mnt/$1" &
   waiting=$!
-  record "$waiting"
-  sleep 1
+  await waits_in_call "$waiting" && sleep 1 || return 1
   expect "the call waits" kill -0 "$waiting"
 }
 
 # The store gets a second name while it is mounted: the line comes at once, and calls wait from the server's end until that name is removed.
 hard_link() {
   start store mnt log && ln store twice || return 1
-  await 10 grep -q "store has another name (a hard link), so no server can open it: remove that name" log || return 1
-  mkdir mnt/before && kill -KILL "$("$program" --server store)" && start_waiting after && rm twice || return 1
+  await grep -q "store has another name (a hard link), so no server can open it: remove that name" log || return 1
+  mkdir mnt/before && kill -KILL "$(ask --server store)" && start_waiting after && rm twice || return 1
   expect "the call succeeds" wait "$waiting" || return 1
-  expect "both are there" [ "$(ls mnt | xargs)" = "after before" ] || return 1
+  keeps "both are there" [ "$(ls mnt | xargs)" = "after before" ] || return 1
   unmount_and_end mnt
 }
 
 moved_store() {
   start store mnt log && mv store elsewhere || return 1
-  await 10 grep -q "/store was moved to $PWD/elsewhere: no server can open it until it is back" log || return 1
+  await grep -q "/store was moved to $PWD/elsewhere: no server can open it until it is back" log || return 1
   mkdir mnt/before && kill -KILL "$(server_by_parent)" && start_waiting after && mv elsewhere store || return 1
   expect "the call succeeds" wait "$waiting" || return 1
-  expect "both are there" [ "$(ls mnt | xargs)" = "after before" ] || return 1
+  keeps "both are there" [ "$(ls mnt | xargs)" = "after before" ] || return 1
   unmount_and_end mnt
 }
 
@@ -189,7 +170,7 @@ server_by_parent() {
 # The store is removed while it is mounted: its bytes and its log are copied from the descriptors that the line names.
 removed_store() {
   start store mnt log && mkdir mnt/before && rm store || return 1
-  await 10 grep -q "/store was removed while it was mounted: until its server ends, .* has its log" log || return 1
+  await grep -q "/store was removed while it was mounted: until its server ends, .* has its log" log || return 1
   mkdir mnt/after || return 1
   cp "$(grep -o '/proc/[0-9]*/fd/[0-9]* has its bytes' log | cut -d ' ' -f 1)" copy || return 1
   cp "$(grep -o '/proc/[0-9]*/fd/[0-9]* has its log' log | cut -d ' ' -f 1)" copy-wal && copy_contents store copy || return 1
@@ -197,18 +178,18 @@ removed_store() {
   ended 1 || return 1
   expect "it says why" grep -q "gave up: .*/store was removed" log || return 1
   umount -l mnt && start copy mnt log-copy || return 1
-  expect "both are there" [ "$(ls mnt | xargs)" = "after before" ] || return 1
+  keeps "both are there" [ "$(ls mnt | xargs)" = "after before" ] || return 1
   unmount_and_end mnt
 }
 
 # The log is removed while the store is mounted: it is written anew, and no call fails.
 removed_log() {
-  start store mnt log && echo one >mnt/one && rm store-wal && await 10 grep -q "/store-wal was removed" log && echo two >mnt/two || return 1
+  start store mnt log && echo one >mnt/one && rm store-wal && await grep -q "/store-wal was removed" log && echo two >mnt/two || return 1
   expect "the log is there" [ -s store-wal ] || return 1
-  kill -KILL "$("$program" --server store)" || return 1
-  expect "both files are there" [ "$(cat mnt/one mnt/two | xargs)" = "one two" ] || return 1
+  kill -KILL "$(ask --server store)" || return 1
+  keeps "both files are there" [ "$(cat mnt/one mnt/two | xargs)" = "one two" ] || return 1
   unmount_and_end mnt && start store mnt log-again || return 1
-  expect "both files are still there" [ "$(cat mnt/one mnt/two | xargs)" = "one two" ] || return 1
+  keeps "both files are still there" [ "$(cat mnt/one mnt/two | xargs)" = "one two" ] || return 1
   unmount_and_end mnt
 }
 
@@ -216,11 +197,10 @@ removed_log() {
 # process there.
 other_namespace() {
   start store mnt log || return 1
-  unshare --mount --propagation private sleep 120 &
+  unshare --mount --propagation private sleep infinity &
   local sleeper=$!
-  record "$sleeper"
-  await 10 sh -c 'grep -q sleep "/proc/$0/comm"' "$sleeper" || return 1
-  umount mnt || return 1
+  await sh -c 'grep -q sleep "/proc/$0/comm"' "$sleeper" || return 1
+  unmount mnt || return 1
   refuses 1 ".*/store is mounted already: process $supervisor serves it, and process $sleeper .sleep. has the mount in its namespace" "$program" store || return 1
   kill "$sleeper"
   ended 0 && start store mnt log-again && unmount_and_end mnt

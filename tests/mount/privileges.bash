@@ -5,7 +5,7 @@
 engine_by_name() {
   mkdir -p tree/mount/out tree/dist/x86_64-linux programs suid && cp "$program" "${program%/*}/fusekeep-gather.so" tree/mount/out && cp "$engine" programs/fusekeep || return 1
   (make_engine tree/dist/x86_64-linux/fusekeep <<<"touch $PWD/ran; exit 3")
-  env -u FUSEKEEP PATH="$PWD/programs" tree/mount/out/fusekeep-mount store mnt && umount mnt && await 60 [ ! -e store-control ] || return 1
+  env -u FUSEKEEP PATH="$PWD/programs" tree/mount/out/fusekeep-mount store mnt && leave store mnt && expect "its socket is gone" [ ! -e store-control ] || return 1
   expect "the program of the tree isn't run" [ ! -e ran ] || return 1
   printf '#!/bin/sh\ntouch ran\n' >script && chmod 755 script
   refuses 1 "fusekeep-mount: ./script: Exec format error" env FUSEKEEP=./script "$program" other-store || return 1
@@ -20,7 +20,7 @@ replaced_engine() {
   cp "$engine" own && FUSEKEEP=$PWD/own start store mnt log && echo one >mnt/one || return 1
   make_engine other <<<"touch $PWD/ran; exit 3"
   cp other.bash own.bash && mv other own && python3 "$here/killer.py" "$supervisor" 2 0.3 || return 1
-  expect "the file is read by a later server" [ "$(cat mnt/one)" = one ] || return 1
+  keeps "the file is read by a later server" [ "$(cat mnt/one)" = one ] || return 1
   expect "the other program isn't run" [ ! -e ran ] || return 1
   unmount_and_end mnt
 }
@@ -42,7 +42,7 @@ may_set_limits() {
 # Whether a server has these ids, in a process that can do nothing else: is_confined USER GROUP
 is_confined() {
   local process none=0000000000000000 flags
-  process=$("$program" --server store) || return 1
+  process=$(ask --server store) || return 1
   expect "its ids are $1:$2 ($(fields_of Uid Gid))" [ "$(fields_of Uid Gid)" = "$1 $1 $1 $1 $2 $2 $2 $2" ] || return 1
   expect "it has no groups" [ -z "$(fields_of Groups)" ] || return 1
   expect "it has no capabilities" [ "$(fields_of CapInh CapPrm CapEff CapBnd CapAmb)" = "$none $none $none $none $none" ] || return 1
@@ -62,7 +62,7 @@ owners() {
       mkdir "$owner-$folder" && cd "$owner-$folder" && mkdir mnt && touch store && chown "$owner:$owner" store && chown "$folder" . || return 1
       start store mnt log && is_confined "$owner" "$owner" || return 1
       echo one >mnt/one && python3 "$here/killer.py" "$supervisor" 2 0.3 && echo two >mnt/two || return 1
-      expect "both files are there" [ "$(cat mnt/one mnt/two | xargs)" = "one two" ] && is_confined "$owner" "$owner" || return 1
+      keeps "both files are there" [ "$(cat mnt/one mnt/two | xargs)" = "one two" ] && is_confined "$owner" "$owner" || return 1
       expect "the log has that owner, too" [ "$(stat -c %u:%g store-wal)" = "$owner:$owner" ] || return 1
       unmount_and_end mnt && cd .. || return 1
     done
@@ -107,9 +107,8 @@ renamed_mountpoint() {
   mkdir parent parent/mnt victim && touch victim/file || return 1
   "$program" -f store parent/mnt 2>log &
   supervisor=$!
-  record "$supervisor"
-  await 60 [ -e waits ] && mv parent/mnt parent/other && ln -s "$PWD/victim" parent/mnt && touch may-begin || return 1
-  await 60 grep -q "is mounted on $PWD/parent/other" log || return 1
+  await [ -e waits ] && mv parent/mnt parent/other && ln -s "$PWD/victim" parent/mnt && touch may-begin || return 1
+  await_mount log && expect "its place" grep -q "is mounted on $PWD/parent/other" log || return 1
   expect "nothing is mounted where the link leads" isnt_mounted "$PWD/victim" || return 1
   stop_and_end && isnt_mounted "$PWD/parent/other"
 }

@@ -17,13 +17,19 @@ piece() {
 compare_pieces() {
   local number
   for ((number = 0; number < $(cat written); number++)); do
-    piece "$number" | cmp - "mnt/$number" || return 1
+    piece "$number" >wanted && has_bytes_of wanted "mnt/$number" || return 1
   done
 }
 
-# Whether the log of the supervisor has this line so many times.
-has_lines() {
-  [ "$(grep -c "$2" log)" -eq "$1" ]
+# Waits until a number, which a writer keeps in a file, has been the same for so many seconds: await_rest FILE SECONDS
+await_rest() {
+  local end=$((SECONDS + patience)) before=none
+  until [ "$(cat "$1")" = "$before" ]; do
+    [ "$SECONDS" -le "$end" ] || { echo "waited $patience s for the writer to wait"; return 1; }
+    before=$(cat "$1")
+    sleep "$2"
+  done
+  note_progress
 }
 
 # Whether it was said that calls wait, and each time then that there is room again.
@@ -36,18 +42,16 @@ has_room_again() {
 full_disk() {
   options=size=1G
   mkdir disk && mount -t tmpfs -o size=8m none disk && start disk/store mnt log || return 1
-  expect "there is a reserve" [ "$(stat -c '%s %a' disk/store-reserve)" = "1048576 600" ] || return 1
+  expect "there is a reserve" await has_reserve 1048576 && expect "its mode" [ "$(stat -c %a disk/store-reserve)" = 600 ] || return 1
   write_pieces &
   local writer=$! written_before
-  record "$writer"
-  await 120 has_lines 1 "disk has no room left: calls that take room wait until there is some" || return 1
+  await has_lines_of 1 "disk has no room left: calls that take room wait until there is some" || return 1
   expect "the reserve was given up" [ ! -e disk/store-reserve ] || return 1
   expect "it was said once" has_lines 1 "disk/store-reserve is given up" || return 1
-  sleep 5
-  written_before=$(cat written)
-  sleep 30
+  await_rest written 15 && written_before=$(cat written) && sleep 15 || return 1
   expect "the writer waits" [ "$(cat written)" = "$written_before" ] && kill -0 "$writer" || return 1
-  mount -o remount,size=16m disk && sleep 10 && mount -o remount,size=1g disk && await 120 has_room_again || return 1
+  expect "that was said once" has_lines 1 "disk has no room left: calls that take room wait until there is some" || return 1
+  mount -o remount,size=16m disk && sleep 10 && mount -o remount,size=1g disk && await has_room_again || return 1
   touch enough
   wait "$writer"
   expect "no write failed" [ $? -eq 0 ] || return 1
@@ -55,7 +59,12 @@ full_disk() {
   compare_pieces && unmount_and_end mnt || return 1
   expect "it was said each time" has_room_again || return 1
   expect "the reserve is made again" [ -e disk/store-reserve ] || return 1
-  start disk/store mnt log-again && compare_pieces && unmount_and_end mnt && umount disk
+  start disk/store mnt log-again && compare_pieces && unmount_and_end mnt && unmount disk
+}
+
+# Whether a reserve is there, of so many bytes.
+has_reserve() {
+  [ "$(stat -c %s disk/store-reserve)" -eq "$1" ]
 }
 
 # Fills a disk to its last byte.
@@ -72,7 +81,7 @@ has_no_handles() {
 # is made again of the room that there is. Without it the mount is refused.
 full_mount() {
   mkdir disk && mount -t tmpfs -o size=8m none disk && start disk/store mnt log || return 1
-  piece 1 >mnt/1 && piece 2 >mnt/2 && await 60 has_no_handles disk/store && unmount_and_end mnt && fill disk/filler || return 1
+  await has_reserve 1048576 && piece 1 >mnt/1 && piece 2 >mnt/2 && await has_no_handles disk/store && unmount_and_end mnt && fill disk/filler || return 1
   expect "an unmount leaves the reserve" [ -e disk/store-reserve ] || return 1
   start disk/store mnt log-full && piece 2 | cmp - mnt/2 && rm mnt/1 || return 1
   expect "it names the reserve" grep -q "disk has no room left: .*disk/store-reserve is given up" log-full || return 1
@@ -80,7 +89,7 @@ full_mount() {
   refuses 3 "fusekeep-mount: .*disk has no room left" "$program" disk/store || return 1
   rm disk/filler && start disk/store mnt log-again && piece 2 | cmp - mnt/2 || return 1
   expect "the file that was removed is gone" [ "$(ls mnt)" = 2 ] || return 1
-  unmount_and_end mnt && umount disk
+  unmount_and_end mnt && unmount disk
 }
 
 # Makes a file system of this size in a file, and mounts it on `disk`: make_disk SIZE
@@ -102,14 +111,14 @@ write_large() {
 fills_disk() {
   local size
   for size in 100M 600M; do
-    rm -rf image disk && make_disk "$size" && start disk/store mnt "log-$size" || return 1
+    rm -rf image disk && make_disk "$size" && start disk/store mnt "log-$size" && await has_reserve 8388608 || return 1
     write_large
     expect "a write fails for lack of room ($(cat failure))" grep -q "No space left on device" failure || return 1
     expect "it took no reserve" [ "$(stat -c %s disk/store-reserve)" -eq 8388608 ] || return 1
-    expect "files are removed at once" timeout 60 rm "mnt/$(cat written)" mnt/0 || return 1
-    expect "there is room again" cp mnt/1 mnt/again && cmp mnt/1 mnt/again || return 1
+    expect "files are removed" timeout "$patience" rm "mnt/$(cat written)" mnt/0 || return 1
+    expect "there is room again" cp mnt/1 mnt/again && has_bytes_of mnt/1 mnt/again || return 1
     expect "no server ended" [ "$(grep -c "ended\|no room" "log-$size")" -eq 0 ] || return 1
-    stop_and_end && umount disk || return 1
+    stop_and_end && unmount disk || return 1
   done
 }
 
@@ -120,60 +129,50 @@ overfull() {
   make_disk 100M && start disk/store mnt log || return 1
   write_large &
   local writer=$! last
-  record "$writer"
-  await 120 grep -q "has no room left" log || return 1
-  sleep 2
+  await grep -q "has no room left" log && await_rest written 2 || return 1
   last=$(cat written)
-  expect "files are removed" timeout 30 rm mnt/{0..3} || return 1
-  await 60 has_written_after "$last" || return 1
-  expect "there was room again" has_lines 1 "there is room again" || return 1
-  expect "the reserve is there" [ -e disk/store-reserve ] || return 1
+  expect "files are removed" timeout "$patience" rm mnt/{0..3} || return 1
+  await has_written_after "$last" || return 1
+  expect "there was room again" has_lines_of 1 "there is room again" || return 1
+  expect "the reserve was there again" has_lines_of 1 "disk/store-reserve is made again" || return 1
   kill "$writer"
   wait "$writer"
   expect "a file can be read" cmp mnt/5 <(cat mnt/5) || return 1
-  await 60 stops_in 10 || return 1
+  kill -TERM "$supervisor" && await isnt_running "$supervisor" || return 1
   options=
-  start disk/store mnt log-again && rm mnt/1* && stop_and_end && umount disk
+  start disk/store mnt log-again && rm mnt/1* && stop_and_end && unmount disk
 }
 
 has_written_after() {
   [ "$(cat written)" -gt "$1" ]
 }
 
-# Whether a signal ends the mount in so many seconds.
-stops_in() {
-  kill -TERM "$supervisor"
-  await "$1" isnt_running "$supervisor"
-}
-
 # Others fill the disk. Writes wait, and files are removed and read meanwhile; a killed server has its line in the list; a signal ends the
-# mount in seconds, though a call waits; and it is mounted again so that files can be removed. When there is room again, writes go on.
+# mount, though a call waits; and it is mounted again so that files can be removed. When there is room again, writes go on.
 filled_by_others() {
   options=size=1G
   make_disk 100M && start disk/store mnt log || return 1
-  head -c 4000000 /dev/urandom >mnt/large && piece 1 >mnt/1 && piece 2 >mnt/2 && piece 3 >mnt/3 && fill disk/filler || return 1
+  head -c 4000000 /dev/urandom >mnt/large && piece 1 >mnt/1 && piece 2 >mnt/2 && piece 3 >mnt/3 && await [ -e disk/store-reserve ] && fill disk/filler || return 1
   python3 "$here/killer.py" "$supervisor" 1 0.3 || return 1
-  await 60 grep -q signal=9 disk/store-mount.log || return 1
+  await grep -q signal=9 disk/store-mount.log || return 1
   head -c 8000000 /dev/urandom >mnt/waits 2>failure &
   local writer=$!
-  record "$writer"
-  await 60 grep -q "has no room left" log && sleep 2 || return 1
-  expect "a file is removed" timeout 30 rm mnt/1 && expect "a large one is removed" timeout 30 rm mnt/large || return 1
+  await grep -q "has no room left" log && sleep 2 || return 1
+  expect "a file is removed" timeout "$patience" rm mnt/1 && expect "a large one is removed" timeout "$patience" rm mnt/large || return 1
   expect "a file is read" cmp mnt/2 <(piece 2) && expect "the writer waits" kill -0 "$writer" || return 1
-  stops_in 10 && isnt_mounted "$PWD/mnt" || return 1
+  kill -TERM "$supervisor" && await isnt_running "$supervisor" && isnt_mounted "$PWD/mnt" || return 1
   wait "$writer"
   expect "the call has ended with an error" [ -s failure ] || return 1
   fill disk/filler-too
   options=
   start disk/store mnt log-again || return 1
-  expect "the next mount removes, too" timeout 30 rm mnt/2 || return 1
+  expect "the next mount removes, too" timeout "$patience" rm mnt/2 || return 1
   yes | head -c 16000000 >mnt/4 &
   writer=$!
-  record "$writer"
-  await 60 [ -e mnt/4 ] && sleep 1 || return 1
-  expect "a file is removed beside one that is made" timeout 30 rm mnt/3 && expect "the writer still waits" kill -0 "$writer" || return 1
-  rm disk/filler disk/filler-too && await 240 isnt_running "$writer" && yes | head -c 16000000 | cmp - mnt/4 || return 1
-  expect "files that stayed are there" [ "$(ls mnt | xargs)" = "4 waits" ] && unmount_and_end mnt && umount disk
+  await [ -e mnt/4 ] && sleep 1 || return 1
+  expect "a file is removed beside one that is made" timeout "$patience" rm mnt/3 && expect "the writer still waits" kill -0 "$writer" || return 1
+  rm disk/filler disk/filler-too && await isnt_running "$writer" && yes | head -c 16000000 | cmp - mnt/4 || return 1
+  keeps "files that stayed are there" [ "$(ls mnt | xargs)" = "4 waits" ] && unmount_and_end mnt && unmount disk
 }
 
 # Gives a file of an unmounted store so many pieces of one block of zeros, with holes between them: add_pieces STORE NAME COUNT
@@ -197,17 +196,16 @@ large_removals() {
   fill disk/filler && truncate -s -256K disk/filler || return 1
   rm mnt/one/large &
   local remover=$! length
-  record "$remover"
-  await 240 grep -q 'UNLINK .* "large" needs more room than there is: it waits' log || return 1
+  await grep -q 'UNLINK .* "large" needs more room than there is: it waits' log || return 1
   expect "calls that take room wait" has_lines 0 "room again" || return 1
   for length in 360M 240M 120M 0; do
-    expect "the other is made shorter, to $length" timeout 120 truncate -s "$length" mnt/other/long || return 1
+    expect "the other is made shorter, to $length" timeout "$patience" truncate -s "$length" mnt/other/long || return 1
   done
-  expect "it is removed" timeout 60 rm mnt/other/long && expect "a write goes on" write_in 120 mnt/other/new || return 1
+  expect "it is removed" timeout "$patience" rm mnt/other/long && expect "a write goes on" write_in "$patience" mnt/other/new || return 1
   expect "the first waits" kill -0 "$remover" && expect "it was tried once" has_lines 1 "needs more room than there is" || return 1
-  rm disk/filler && await 240 isnt_running "$remover" || return 1
+  rm disk/filler && await isnt_running "$remover" || return 1
   expect "it was tried again" has_lines 1 "calls that need more than there was are tried again" || return 1
-  expect "both are gone" [ "$(find mnt -type f)" = mnt/other/new ] && unmount_and_end mnt && umount disk
+  expect "both are gone" [ "$(find mnt -type f)" = mnt/other/new ] && unmount_and_end mnt && unmount disk
 }
 
 # Writes a file in so many seconds: write_in SECONDS FILE
@@ -217,7 +215,7 @@ write_in() {
 
 # A disk that has less room than it shows, since no server runs beside the reserve: that isn't written again and again.
 false_room() {
-  local count
+  local count began
   make_engine full-engine <<END
 if [ "\$4" = --resume ] && [ -e "$PWD/full" ] && [ -e "$PWD/store-reserve" ]; then
   sleep 0.3
@@ -226,8 +224,9 @@ if [ "\$4" = --resume ] && [ -e "$PWD/full" ] && [ -e "$PWD/store-reserve" ]; th
 fi
 LD_PRELOAD=\$PRELOAD exec "$engine" "\$@"
 END
-  start store mnt log && touch full && kill -KILL "$(server_by_parent)" && sleep 12 || return 1
+  start store mnt log && await [ -e store-reserve ] && touch full && began=$SECONDS && kill -KILL "$(server_by_parent)" || return 1
+  expect "it is made at times" await has_lines_of 3 "store-reserve is made again" || return 1
   count=$(grep -c "store-reserve is made again" log)
-  expect "it is made at times ($count)" [ "$count" -ge 1 ] && expect "and not often ($count)" [ "$count" -le 3 ] || return 1
+  expect "and not more often than each five seconds ($count)" [ $((5 * (count - 1))) -le $((SECONDS - began + 1)) ] || return 1
   rm full && mkdir mnt/a && unmount_and_end mnt
 }

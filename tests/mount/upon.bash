@@ -5,7 +5,7 @@
 survives() {
   local number
   for number in 1 2 3; do
-    kill -KILL "$("$program" --server store)" && mkdir "mnt/made-$number" || return 1
+    kill -KILL "$(ask --server store)" && mkdir "mnt/made-$number" || return 1
     expect "$1 is there after $number killed servers" "${@:2}" || return 1
   done
 }
@@ -13,12 +13,12 @@ survives() {
 # A folder that is bound to a directory of the mount stays there.
 bind_upon() {
   mkdir other && echo one >other/file && start store mnt log && mkdir mnt/place && mount --bind other mnt/place || return 1
-  survives "the bound folder" grep -qx one mnt/place/file && umount mnt/place && unmount_and_end mnt
+  survives "the bound folder" grep -qx one mnt/place/file && unmount mnt/place && unmount_and_end mnt
 }
 
 tmpfs_upon() {
   start store mnt log && mkdir mnt/place && mount -t tmpfs none mnt/place && echo one >mnt/place/file || return 1
-  survives "the tmpfs" grep -qx one mnt/place/file && umount mnt/place && unmount_and_end mnt
+  survives "the tmpfs" grep -qx one mnt/place/file && unmount mnt/place && unmount_and_end mnt
 }
 
 # An overlay whose lower layer lies on the mount.

@@ -15,9 +15,10 @@ import sys
 import time
 import traceback
 
-from mount.calls import EXCHANGE, NOREPLACE, check, refused, renameat2
+from lib.wrong import report_wrong
+from mount.calls import EXCHANGE, NOREPLACE, Slow, check, is_wrong, refused, renameat2
 
-LONGEST_STEP = 180.0  # seconds: a step is some calls, and servers are killed meanwhile
+LONGEST_STEP = 1200.0  # seconds: a step is some calls, and servers are killed meanwhile
 MOST_FILES, MOST_DIRS, MOST_HELD = 120, 25, 6
 
 
@@ -281,7 +282,8 @@ class Worker:
         self.random.choices(ways, weights)[0]()
         self.calls += 1
         self.longest = max(self.longest, time.monotonic() - begin)
-        check(self.longest < LONGEST_STEP, f"a step took {self.longest:.1f} s")
+        if self.longest > LONGEST_STEP:
+            raise Slow(f"a step took {self.longest:.1f} s")
 
     def work(self, stop):
         while not os.path.exists(stop):
@@ -342,6 +344,9 @@ def main():
 
 try:
     main()
-except (AssertionError, OSError) as fault:
+except (AssertionError, OSError, Slow) as fault:
     place = traceback.extract_tb(fault.__traceback__)[-1]
-    sys.exit(f"workload: {' '.join(sys.argv[1:4])}: line {place.lineno}: {type(fault).__name__}: {fault}")
+    words = f"workload: {' '.join(sys.argv[1:4])}: line {place.lineno}: {type(fault).__name__}: {fault}"
+    if is_wrong(fault):
+        report_wrong("mount", words)
+    sys.exit(words)

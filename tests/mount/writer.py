@@ -50,7 +50,8 @@ class Writer(threading.Thread):
         self.top, self.rng, self.is_plain = top, rng, profile == "plain"
         self.lock = threading.Lock()
         self.model, self.step, self.fds = Model(not self.is_plain), None, []
-        self.fault, self.since, self.steps = None, time.monotonic(), 0
+        self.fault, self.words = None, ""
+        self.since, self.steps = time.monotonic(), 0
         self.may_make, self.serial = 100, 0
         self.goes, self.idle, self.ends = threading.Event(), threading.Event(), False
         self.goes.set()
@@ -67,7 +68,8 @@ class Writer(threading.Thread):
         """Returns when the step that waits has ended."""
         self.goes.clear()
         while not self.idle.wait(1):
-            check(not self.fault, self.fault)
+            if self.fault:
+                raise self.fault
 
     def go_on(self):
         self.idle.clear()
@@ -95,7 +97,8 @@ class Writer(threading.Thread):
                 self.work()
         except Exception as fault:  # pylint: disable=broad-except
             words = self.step.words if self.step else "a step"
-            self.fault = f"{words}: {type(fault).__name__}: {fault}"
+            self.words = f"{words}: {type(fault).__name__}: {fault}"
+            self.fault = fault
 
     def work(self):
         step = self.choose()

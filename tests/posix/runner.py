@@ -19,7 +19,7 @@ HERE = os.path.dirname(os.path.realpath(__file__))
 TIMES = {"atime": "st_atime_ns", "mtime": "st_mtime_ns", "ctime": "st_ctime_ns"}
 NUMBERS = {"nlink": "st_nlink", "size": "st_size", "uid": "st_uid", "gid": "st_gid", "blocks": "st_blocks"}
 CLOCK_REALTIME_COARSE = 5  # the clock by which a kernel sets times
-MOST_WAITED = 0.2  # seconds
+MOST_WAITED = 600  # seconds
 
 
 class Failed(Exception):
@@ -91,6 +91,8 @@ class Run:
         end = time.monotonic() + MOST_WAITED
         while coarse_now() <= last and time.monotonic() < end:
             time.sleep(0.001)
+        if coarse_now() <= last:
+            raise Failed(f"waited without success for the clock to pass {seconds_of(last)}")
         self.before = {it.st_ino: times_of(it) for it in found}
         self.moment = coarse_now()
 

@@ -5,7 +5,9 @@
 
 After a cut the program must open the store and find nothing wrong with it, and the tree of each process must be the one after some of its
 steps: after all that had returned before the last fsync that returned began, and after all that had returned five seconds before the cut.
-What is left of the log must be right without its checksums, too.
+Not counted of these are the time that the disk took for flushes, and pauses of the machine (LOG.pauses). A tree without steps that are five
+seconds old, and which is sound otherwise, is a failure; any other failure is also reported as a wrong answer. What is left of the log must
+be right without its checksums, too.
 
 WAY is `ordered`; `durable`, where all steps that had returned are there; `volatile`, where no flush is made; or a broken rule of rules.py,
 which must fail. With one of these cuts are made until one fails, and where a rule keeps contents whole, steps may be lost."""
@@ -19,7 +21,9 @@ import sys
 import tempfile
 
 from lib.folders import quick_folder
+from lib.wrong import report_wrong
 from power import commits, disk, rules, trace, tree
+from power.pauses import Clock
 
 PROGRAM = os.environ["FUSEKEEP"]
 OWED = 5.0
@@ -45,8 +49,10 @@ class Process:
 
 
 class Cuts:
-    def __init__(self, records, processes, way, seed):
+    def __init__(self, records, processes, pauses, way, seed):
         broken = rules.Broken(records, way)
+        self.clock = Clock([*pauses, *((record.at, record.time) for record in records if record.kind == "F")])
+        self.waited = {process: [self.clock.at(ended) for ended in process.ended] for process in processes}
         self.records, self.marks = broken.records, broken.marks
         self.processes, self.way, self.rng = processes, way, random.Random(f"{seed} {way}")
         self.files = {trace.LOG: disk.File(), trace.STORE: disk.File(), trace.CONTENTS: disk.File()}
@@ -56,7 +62,7 @@ class Cuts:
         self.returned = [ended for ended, _ in fsyncs]
         self.begun = [max(began for _, began in fsyncs[:count + 1]) for count in range(len(fsyncs))]
         self.made = self.older = self.unflushed = 0
-        self.failures = []
+        self.failures, self.wrong = [], []
 
     # ---- where to cut
 
@@ -97,13 +103,14 @@ class Cuts:
     # ---- what is left
 
     def bounds(self, process, moment):
-        """How many steps are there at least and at most, and how many had returned."""
+        """How many steps are there at least whatever the time is, and by the time, how many at most, and how many had returned."""
         place = bisect.bisect_right(self.returned, moment) - 1
         fsynced = bisect.bisect_right(process.ended, self.begun[place]) if place >= 0 else 0
-        old = bisect.bisect_right(process.ended, moment - int((OWED + SLACK) * 1e9))
+        old = bisect.bisect_right(self.waited[process], self.clock.at(moment) - int((OWED + SLACK) * 1e9))
         done = bisect.bisect_right(process.ended, moment)
-        least = done if self.way == "durable" else 0 if self.way in rules.SPOILING else max(fsynced, old)
-        return least, bisect.bisect_right(process.began, moment), done
+        surely = done if self.way == "durable" else 0 if self.way in rules.SPOILING else fsynced
+        least = surely if self.way in rules.SPOILING else max(surely, old)
+        return surely, least, bisect.bisect_right(process.began, moment), done
 
     def open(self, store):
         """Looks at what is left as `verify` does, and then opens it as a server does. Returns why that fails."""
@@ -118,16 +125,17 @@ class Cuts:
         return None if self.way in rules.SPOILING else self.commits.fault(log)
 
     def compare(self, store, moment):
-        """Why the trees aren't what they may be, or None."""
+        """Why the trees aren't what they may be, or None; and whether that is wrong whatever the time is."""
         rows = tree.Store(store)
         for process in self.processes:
             counts = process.counts(rows.sum(process.name))
-            least, most, done = self.bounds(process, moment)
-            fitting = [count for count in counts if least <= count <= most]
-            if not fitting:
-                return f"{process.name}: steps {counts[:3]}, where {least} to {most} may be there, {done} of which had returned"
+            surely, least, most, done = self.bounds(process, moment)
+            fitting = [count for count in counts if surely <= count <= most]
+            if not fitting or max(fitting) < least:
+                why = f"{process.name}: steps {counts[:3]}, where {least} to {most} may be there, {done} of which had returned"
+                return why, not fitting
             self.older += max(fitting) < done
-        return None
+        return None, False
 
     def cut(self, at, folder):
         moment = self.records[at + 1].time if at + 1 < len(self.records) else self.records[at].time
@@ -135,10 +143,13 @@ class Cuts:
         store = f"{folder}/store"
         self.unflushed += bool(self.files[trace.LOG].pending)
         write_images(images, store)
-        why = self.fault_of_log(images[trace.LOG]) or self.open(store) or self.compare(store, moment)
+        why, is_wrong = self.fault_of_log(images[trace.LOG]) or self.open(store), True
+        if not why:
+            why, is_wrong = self.compare(store, moment)
         self.made += 1
         if why:
             self.failures.append(f"after call {at}, {' and '.join(ways)}: {why}")
+            self.wrong += self.failures[-1:] if is_wrong else []
 
     def make(self, count, folder):
         places = self.places(count)
@@ -183,7 +194,9 @@ def load(log, processes):
 def main():
     path, log, processes, way, count, seed = sys.argv[1:]
     records = trace.read(path)
-    cuts = Cuts(records, list(load(log, int(processes))), way, seed)
+    with open(f"{log}.pauses", "rb") as file:
+        pauses = pickle.load(file)
+    cuts = Cuts(records, list(load(log, int(processes))), pauses, way, seed)
     folder = tempfile.mkdtemp(prefix="cuts-", dir=quick_folder())
     try:
         cuts.make(int(count), folder)
@@ -191,6 +204,8 @@ def main():
         shutil.rmtree(folder)
     for failure in cuts.failures[:3]:
         print(f"{way}: {failure}")
+    for failure in cuts.wrong[:1] if way in ("ordered", "durable") else ():
+        report_wrong("power", f"{way}: {failure}")
     print(f"{way}: {cuts.made} cuts, {cuts.unflushed} of them with calls of the log that weren't flushed, "
           f"{cuts.older} trees without their last steps, {uses_of_space(records)}, {len(cuts.failures)} failed")
     sys.exit(bool(cuts.failures))

@@ -37,13 +37,17 @@ static long call(long number, const long *words) {
   return next(number, words[0], words[1], words[2], words[3], words[4], words[5]);
 }
 
+static uint64_t now(void) {
+  struct timespec time;
+  clock_gettime(CLOCK_MONOTONIC, &time);
+  return (uint64_t)time.tv_sec * 1000000000 + (uint64_t)time.tv_nsec;
+}
+
 static void put(char kind, char file, uint64_t at, const void *bytes, size_t size) {
   const char *number = getenv("POWER_TRACE");
   int error = errno;
-  struct timespec now;
   if (!number) return;
-  clock_gettime(CLOCK_MONOTONIC, &now);
-  struct record record = {kind, file, 0, (uint32_t)size, at, (uint64_t)now.tv_sec * 1000000000 + (uint64_t)now.tv_nsec};
+  struct record record = {kind, file, 0, (uint32_t)size, at, now()};
   struct iovec pieces[] = {{&record, sizeof record}, {(void *)bytes, size}};
   if (writev(atoi(number), pieces, 2) != (ssize_t)(sizeof record + size)) abort();
   errno = error;
@@ -82,8 +86,9 @@ static bool is_sync(uint64_t id) {
   return false;
 }
 
-static void note_flush(long file, bool is_done) {
-  put(is_done ? 'F' : 'f', kinds[file], 0, NULL, 0);
+/* A flush is recorded when it has returned, with the time of its begin. */
+static void note_flush(long file, bool is_done, uint64_t began) {
+  put(is_done ? 'F' : 'f', kinds[file], began, NULL, 0);
   if (is_done && !strchr(based, kinds[file])) put_base(file);
 }
 
@@ -91,11 +96,11 @@ static char kind_of(long file) {
   return file >= 0 && file < MOST_FILES ? kinds[file] : 0;
 }
 
-static void note_after(long number, const long *words, long done) {
+static void note_after(long number, const long *words, long done, uint64_t began) {
   char kind = kind_of(words[0]);
   if (number == SYS_openat) note_open((const char *)words[1], words[2], done);
   if (number == SYS_read && words[0] == STDIN_FILENO) note_message((const void *)words[1], done);
-  if ((number == SYS_fsync || number == SYS_fdatasync) && kind) note_flush(words[0], done == 0);
+  if ((number == SYS_fsync || number == SYS_fdatasync) && kind) note_flush(words[0], done == 0, began);
   if (number == SYS_fallocate && kind && done == 0) put('Z', kind, (uint64_t)words[2], &words[3], sizeof words[3]);
 }
 
@@ -110,9 +115,10 @@ long syscall(long number, ...) {
   if (number == SYS_pwrite64 && kind) put('P', kind, (uint64_t)words[3], (const void *)words[1], (size_t)words[2]);
   if (number == SYS_ftruncate && kind) put('T', kind, (uint64_t)words[1], NULL, 0);
   if (number == SYS_close && kind) kinds[words[0]] = 0;
+  uint64_t began = now();
   long done = call(number, words);
   int error = errno;
-  note_after(number, words, done);
+  note_after(number, words, done, began);
   errno = error;
   return done;
 }

@@ -73,5 +73,5 @@ class Broken:
         late = range(self.since, len(self.records))
         if self.rule != "reuse" or any(self.records[at].kind == "t" for at in late):
             self.marks += late
-        self.records.append(trace.Record("F", self.held.file, 0, self.records[-1].time, b""))
+        self.records.append(trace.Record("F", self.held.file, self.records[-1].time, self.records[-1].time, b""))
         self.held = None

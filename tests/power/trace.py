@@ -11,7 +11,8 @@ STORE, LOG, CONTENTS, DEVICE = "S", "L", "C", "D"
 
 class Record:
     """A call. `kind` is P for a write, Z for zeros that were made, T for a change of the size, F for a flush that succeeded, f for one that
-    failed, B for what the file held when a server had flushed it, Y for an answer to a FSYNC."""
+    failed, B for what the file held when a server had flushed it, Y for an answer to a FSYNC. `at` is a place, of a flush the time when it
+    began."""
 
     def __init__(self, kind, file, at, time, content):
         self.kind, self.file, self.at, self.time, self.content = kind, file, at, time, content

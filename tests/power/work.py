@@ -1,9 +1,11 @@
 #!/usr/bin/env python3
 """Processes that work on a mount, each in a directory of its own, by steps that are one request each.
 
-    work.py MOUNT LOG PROCESSES SECONDS SEED PACE SYNCS FREED   writes the steps of each process, with their times, into LOG.NUMBER
+    work.py MOUNT LOG PROCESSES SECONDS SEED PACE SYNCS FREED   writes the steps of each process, with their times, into LOG.NUMBER,
+                                                              and when the machine stood still into LOG.pauses
 
-PACE is the mean pause between two steps, in seconds. SYNCS is how many of 111 steps are fsyncs, and half as many are of directories.
+A process works for SECONDS at least, and until it has made FEWEST_STEPS, or as many as fit in there. PACE is the mean pause between two
+steps, in seconds. SYNCS is how many of 111 steps are fsyncs, and half as many are of directories.
 A process that has MOST_BYTES removes its newest files until it has FEWEST_BYTES. Where FREED isn't 0, it makes large files, too, and goes
 on after SECONDS until it has freed so many bytes."""
 import os
@@ -12,6 +14,8 @@ import random
 import sys
 import time
 
+from power.pauses import watch
+
 STEPS = {"mkdir": 6, "create": 12, "write": 20, "append": 10, "truncate": 4, "rename": 10, "replace": 3, "unlink": 6, "rmdir": 3,
          "large": 24, "fsync": 2, "fsync_directory": 1, "read": 10}
 MOST_DIRECTORIES, MOST_FILES, FEWEST_FILES, LARGEST = 30, 120, 5, 600000
@@ -19,7 +23,8 @@ SIZES = (1, 100, 4096, 4096, 5000, 20000, 65536)
 BLOCK, PIECE, MOST_BLOCKS = 4096, 16, 64  # a WRITE of 16 whole blocks goes to the data file
 MOST_BYTES, FEWEST_BYTES = 18 << 20, 1 << 20  # more is freed than the 16 MiB after which a server looks for free space
 FILLS = 40
-LONGEST = 120  # seconds
+LONGEST = 1800  # seconds
+FEWEST_STEPS = 500
 
 
 class Writer:
@@ -162,7 +167,8 @@ class Writer:
 def work(mount, log, number, seconds, seed, pace, syncs, freed):
     writer = Writer(mount, number, seed, syncs, freed > 0)
     end = time.monotonic() + seconds
-    while time.monotonic() < end or (writer.freed < freed and time.monotonic() < end + LONGEST):
+    fewest = min(FEWEST_STEPS, seconds / pace if pace else 0)
+    while time.monotonic() < end or ((writer.freed < freed or len(writer.log) < fewest) and time.monotonic() < end + LONGEST):
         step, = writer.rng.choices(list(writer.steps), writer.steps.values())
         getattr(writer, "clear" if writer.bytes() > MOST_BYTES else step)()
         time.sleep(pace and writer.rng.random() * 2 * pace)
@@ -179,7 +185,7 @@ def main():
             work(mount, log, number, float(seconds), seed, float(pace), float(syncs), int(freed))
             os._exit(0)
         children.append(child)
-    sys.exit(any([os.waitpid(child, 0)[1] for child in children]))
+    sys.exit(watch(f"{log}.pauses", children))
 
 
 if __name__ == "__main__":

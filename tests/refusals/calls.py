@@ -86,7 +86,7 @@ def run_sweep(sweep, copy, whole):
     for module, places in sweep.places.items():
         add_module(sweep, sources, module, lambda source: tests_of(source, places, tried[module], refused))
         print(f"refusals: {sweep.crate}: {module}: {len(tried[module])} of {len(places)} places", flush=True)
-    words = ["rt", "try", "--test", "--seconds", "600", "--fail-alloc", str(refused), "--", "::refused_"]
+    words = ["rt", "try", "--test", "--seconds", "7200", "--fail-alloc", str(refused), "--", "::refused_"]
     ran = subprocess.run(words, cwd=f"{copy}/crates/{sweep.crate}", capture_output=True, text=True, check=False)
     said = ran.stdout + ran.stderr
     count = sum(len(it) + 1 for it in tried.values())

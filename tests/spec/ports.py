@@ -10,6 +10,7 @@ import termios
 import time
 
 from lib.device import Served, feed, make_store, packets_in
+from lib.program import LATEST
 from spec.read import chain_of
 from spec.serving import NOTICE, again, answers_of, seen_of, serve
 from spec.stores import look_into
@@ -18,7 +19,6 @@ from spec.stores import look_into
 CASES = ("exchange", "write-then-read", "unlinked-open-file")
 # How many packets the pipe for the answers holds.
 ROOM = 256
-SECONDS = 60
 FAILED = ["status 4", "port: failed"]
 
 
@@ -50,13 +50,15 @@ class Server:
 
     def await_packets(self, packets):
         """Waits until it has written so much."""
-        wanted, until = self.filled + sum(map(len, packets)), time.monotonic() + SECONDS
+        wanted, until = self.filled + sum(map(len, packets)), time.monotonic() + LATEST
         while held_in(self.begin) < wanted and self.child.poll() is None and time.monotonic() < until:
             time.sleep(0.0005)
+        if held_in(self.begin) < wanted:
+            print(f"spec: waited without success for {len(packets)} packets of a server")
 
     def ended(self):
         """Its packets, its exit status, and its lines on standard error."""
-        status = self.child.wait(SECONDS)
+        status = self.child.wait(LATEST)
         self.said.seek(0)
         lines = self.said.read().decode().splitlines()
         self.said.close()

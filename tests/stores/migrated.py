@@ -26,7 +26,8 @@ FILES = 8
 MOST_ROWS = 4096
 PIECE = 128 * 1024
 BITS_MODE = 1 << 0
-SECONDS = 300
+# After so many seconds by the clock a server is killed: it hangs.
+SECONDS = program.LATEST
 # Address space beside the tables and what a migration takes for their contents: as many bytes, up to a power of two. It is enough for the
 # whole store once the blocks are moved: pages that are free aren't kept in memory.
 ROOM = 48 << 20
@@ -74,7 +75,7 @@ class Life:
         self.taken, answers = os.pipe()
         words = [program.BUILT, "serve", "--db", path, begin, "--at", "2000"]
         self.err = tempfile.TemporaryFile()
-        self.child = subprocess.Popen(words, stdin=given, stdout=answers, stderr=self.err, preexec_fn=lambda: program.bound_memory(room))
+        self.child = subprocess.Popen(program.bounded(words, room), stdin=given, stdout=answers, stderr=self.err)
         os.close(given)
         os.close(answers)
         self.timer = threading.Timer(SECONDS, self.child.kill)

@@ -85,12 +85,12 @@ impl<K: Keeper> Keeper for CountingKeeper<K> {
 
     ghost performed = { Asked K.performed };
 
-    fn serves(opcode: u32) -> bool {
-        K::serves(opcode)
+    fn serves(&self, opcode: u32) -> bool {
+        self.inner.serves(opcode)
     }
 
-    fn sees(opcode: u32) -> bool {
-        K::sees(opcode)
+    fn sees(&self, opcode: u32) -> bool {
+        self.inner.sees(opcode)
     }
 
     fn perform(
@@ -101,13 +101,15 @@ impl<K: Keeper> Keeper for CountingKeeper<K> {
         requires short { length group.now ≤ max_group }
         requires few { length settled.now ≤ max_settled }
         requires named { All HasId (entries_of group.now) }
-        requires performed { All (IsPerformed K.model) (entries_of group.now) }
+        requires performed { All (IsPerformed (K.told (inner_of self.old)).service)
+            (entries_of group.now) }
         ensures count { IfOk result (λ dones. length dones.items ≡ length group.now) }
         ensures called { Called (K.told (inner_of self.old)) (K.told (inner_of self.new)) result }
         ensures may { AnswersNoMore (K.told (inner_of self.old)) (K.told (inner_of self.new)) }
         ensures ok { IfOk result (λ dones. Performs (K.told (inner_of self.old))
             (K.told (inner_of self.new)) (ids_of settled.now) (entries_of group.now) dones.items) }
-        ensures looked { OnlySees K.model.service (entries_of group.now) (ids_of settled.now)
+        ensures looked { OnlySees (K.told (inner_of self.old)).service
+            (entries_of group.now) (ids_of settled.now)
             → Looked (K.told (inner_of self.old)) (K.told (inner_of self.new)) result }
         ensures acts { IfOk result (λ dones. ActsOn (K.told (inner_of self.old))
             (K.told (inner_of self.new)) (ids_of settled.now) (entries_of group.now) dones.items) }
@@ -121,7 +123,8 @@ impl<K: Keeper> Keeper for CountingKeeper<K> {
             (ids_of settled.now) (entries_of group.now) }
         ensures firm { OnOk result ((K.told (inner_of self.new)).is_honest
             → IsFirm (K.told (inner_of self.old))
-            ⊎ ¬ (OnlySees K.model.service (entries_of group.now) (ids_of settled.now))
+            ⊎ ¬ (OnlySees (K.told (inner_of self.old)).service
+            (entries_of group.now) (ids_of settled.now))
             → IsFirm (K.told (inner_of self.new))) }
         ensures same { Became K.became self.old self.new 0 }
         ensures asked { Asked K.performed self.old self.new

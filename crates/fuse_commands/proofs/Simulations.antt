@@ -53,6 +53,24 @@ all_read None left input so end = tt
 all_read (Some xs) None input so end = absurd so
 all_read (Some xs) (Some ys) input so end = sym (append-nil input) ∙ ap (λ (y : List ℕ). input ++ y) (sym end) ∙ sym so
 
+-- ---- the service that a keeper gives is the model's
+
+serves_in : {M : Model} {K : Type 0} (told : K → KeeperState M) (k : Option K) → IfSome k (λ x. (told x).service ≡ M.service) → (told_in told k).service ≡ M.service
+serves_in told None is = refl
+serves_in told (Some x) is = is
+
+pub asked_for : {M : Model} {K : Type 0} (told : K → KeeperState M) (performed : K → K → List Performance → Type 0) (old new : Option K) (events : List Event)
+    → IfSome old (λ x. (told x).service ≡ M.service) → performed_in performed old new (performances (told_in told old).service events)
+    → performed_in performed old new (performances M.service events)
+asked_for told performed old new events is asked = subst (λ V. performed_in performed old new (performances V events)) (serves_in told old is) asked
+
+pub asked_before_for : {M : Model} {K : Type 0} (told : K → KeeperState M) (performed : K → K → List Performance → Type 0) (old new : Option K) (events : List Event)
+    (fault : DriveFault) → IfSome old (λ x. (told x).service ≡ M.service)
+    → (¬ (new ≡ None) → AskedSome performed old new (AsksUpTo (told_in told old).service events fault))
+    → ¬ (new ≡ None) → AskedSome performed old new (AsksUpTo M.service events fault)
+asked_before_for told performed old new events fault is asked there =
+    subst (λ V. AskedSome performed old new (AsksUpTo V events fault)) (serves_in told old is) (asked there)
+
 -- ---- the run
 
 fit_each : (lines : List (List ℕ)) (events : List Event) → WritesAll lines events → AllByRecursion IsFit events

@@ -27,7 +27,9 @@ use Rattle.fuse_session.specs.Ended.{IsIntact}
 use Rattle.fuse_session.specs.Settling.{replies, MayCome}
 use Rattle.fuse_session.specs.Counting.{counted}
 use Rattle.fuse_session.specs.Deeds.{Deeds, Hears}
-use Rattle.fuse_session.specs.Passage.{Passage, passage}
+use Rattle.fuse_session.specs.Passage.{Passage, passage, passage_for}
+use Rattle.fuse_session.specs.Session.{Session}
+use Rattle.fuse_session.specs.declared.ended.Served.{Served}
 use Rattle.fuse_session.specs.Exchange.{HoldsAt}
 use Rattle.fuse_session.specs.Serving.{Waiting, TookTurn, Whole, Run, nothing_waits}
 use Rattle.fuse_session.specs.Ends.{EndsAs, counts_at}
@@ -98,12 +100,18 @@ settled {M} k k' did input sent port pending' prefix going counts port_ends turn
 
 -- ---- each end
 
+-- what is said with the service that the keeper gives, where that is the model's
+pub at_model : {M : Model} (k k' : KeeperState M) (p q : PortState) (did : Deeds → Type 0) (turns : ℕ) (served : Served) → k.service ≡ M.service
+    → Session (passage_for k.service k k' p q did) turns served → Session (passage k k' p q did) turns served
+at_model k k' p q did turns served is session = subst (λ V. Session (passage_for V k k' p q did) turns served) is session
+
 of_store : (f : StoreFault) → IsOfStream (store_ending f) → ⊥
 of_store store.Memory h = omega (arith, h)
 of_store (store.Sql e) h = omega (arith, h)
 of_store store.NotAStore h = omega (arith, h)
 of_store (store.Version n) h = omega (arith, h)
 of_store store.Damaged h = omega (arith, h)
+of_store store.Guest h = omega (arith, h)
 
 -- the counts of a stream that was served to its end or first fault
 pub counts_shown : (e : Ended) (counts n : SessionCounts) (shown : Option SessionCounts) (unheard : Bool) → IsOfStream (session_ending e)

@@ -9,7 +9,7 @@ use Rattle.fuse_session.specs.declared.ended.Ended.TheVariants as session
 use Rattle.fuse_commands.specs.Causes.{cause_of}
 use Rattle.fuse_commands.specs.declared.ending.Ending.{Ending}
 use Rattle.fuse_commands.specs.declared.ending.Ending.TheVariants.{Done, Short, TooLong, Cut, ZeroUnique, Malformed, ScriptLine, Usage, Sql, NotAStore, Version}
-use Rattle.fuse_commands.specs.declared.ending.Ending.TheVariants.{Modes, Damaged, Busy, NotOffered, PortFailed, PortTurns, Memory}
+use Rattle.fuse_commands.specs.declared.ending.Ending.TheVariants.{Modes, Damaged, Busy, NotOffered, PortFailed, PortTurns, Memory, Guest}
 use Rattle.fuse_commands.specs.declared.ending.Ending.TheVariants.{NoSuchPath, NotDirectory, NotFile}
 
 abbrev pub status_of : Ending → ℕ
@@ -34,12 +34,13 @@ status_of NotFile = 3
 status_of PortFailed = 4
 status_of PortTurns = 4
 status_of Memory = 5
+status_of Guest = 5
 
 -- the stream was processed to its end or its first fault
 abbrev pub IsOfStream : Ending → Type 0
 IsOfStream ending = status_of ending ≤ 1
 
--- the line, without its line feed; at Usage clap prints the text, at Malformed the counts are printed
+-- the line, without its line feed; at Usage clap prints the text, at Malformed the counts are printed, at Guest what the guest did
 abbrev pub line_of : Ending → Option (List ℕ)
 line_of Done = None
 line_of (Short at len) = Some (codes "stream: Short at " ++ (decimal at ++ (codes ": len " ++ decimal len)))
@@ -63,6 +64,7 @@ line_of NotFile = Some (codes "path: NotFile")
 line_of PortFailed = Some (codes "port: failed")
 line_of PortTurns = Some (codes "port: turns")
 line_of Memory = Some (codes "memory")
+line_of Guest = None
 
 -- the ending of each fault of a stream
 abbrev pub stream_ending : FrameFault → Ending
@@ -78,6 +80,7 @@ store_ending (store.Sql e) = Sql (cause_of e)
 store_ending store.NotAStore = NotAStore
 store_ending (store.Version n) = Version n
 store_ending store.Damaged = Damaged
+store_ending store.Guest = Guest
 
 -- the ending of a command whose session ended this way
 abbrev pub session_ending : Ended → Ending

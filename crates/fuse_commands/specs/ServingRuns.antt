@@ -11,7 +11,7 @@ use Rattle.fuse_session.specs.declared.resend.ResumeFault.TheVariants as resume
 use Rattle.fuse_session.specs.Port.{PortState}
 use Rattle.fuse_session.specs.Transcript.{PortEvent}
 use Rattle.fuse_session.specs.Deeds.{Did}
-use Rattle.fuse_session.specs.Passage.{passage}
+use Rattle.fuse_session.specs.Passage.{passage_for}
 use Rattle.fuse_session.specs.Session.{Session}
 use Rattle.fuse_session.specs.Resuming.{Resumed, NotResumed, of_store}
 use Rattle.fuse_commands.specs.declared.ending.Ending.{Ending}
@@ -57,14 +57,14 @@ abbrev pub BeginsServing : {M : Model} {K P : Type 0} → Begin → Views M K P 
 BeginsServing Resume v b = Notified v b
 BeginsServing Fresh v b = (b.keeper' ≡ b.keeper) × (b.port' ≡ b.port)
 
--- a session was served after it, and how it ended is the ending
+-- a session was served after it, and how it ended is the ending: it is said with the service that the keeper gives
 pub record SessionServed {M : Model} {K P : Type 0} (v : Views M K P) (gave : List Moment → Type 0) (b : Between K P) (begin : Begin) (ending : Ending)
     (counts : Option SessionCounts) : Type 0 where
   pub begun : K
   pub now : P
   pub begins : BeginsServing begin v (record { keeper = b.keeper; keeper' = begun; port = b.port; port' = now })
   pub served : Served
-  pub session : Session (passage (v.keeper begun) (v.keeper b.keeper') (v.port now) (v.port b.port')
+  pub session : Session (passage_for (v.keeper begun).service (v.keeper begun) (v.keeper b.keeper') (v.port now) (v.port b.port')
       (Did gave (v.performed begun b.keeper') (v.became now b.port'))) most_turns served
   pub ending_is : ending ≡ session_ending served.ended
   pub counts_are : counts ≡ served.counts

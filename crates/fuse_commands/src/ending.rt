@@ -54,6 +54,8 @@ pub enum Ending {
     PortTurns,
     /// Out of memory.
     Memory,
+    /// The guest that does the requests failed. Whoever asked it says how.
+    Guest,
 }
 
 impl Ending {
@@ -67,6 +69,7 @@ impl Ending {
             StoreFault::NotAStore => Ending::NotAStore,
             StoreFault::Version(version) => Ending::Version(version),
             StoreFault::Damaged => Ending::Damaged,
+            StoreFault::Guest => Ending::Guest,
         }
     }
 
@@ -127,17 +130,17 @@ impl Ending {
             | Ending::NotDirectory
             | Ending::NotFile => 3,
             Ending::PortFailed | Ending::PortTurns => 4,
-            Ending::Memory => 5,
+            Ending::Memory | Ending::Guest => 5,
         }
     }
 
     /// The line for standard error. There is none for success, for `Usage`, where clap prints the
-    /// text, and for `Malformed`, where the counts show it.
+    /// text, for `Malformed`, where the counts show it, and for `Guest`, which has another line.
     pub fn line(self) -> Option<FaultLine>
         ensures { result ≡ option_map (λ _. record { ending = self }) (line_of self) }
     {
         match self {
-            Ending::Done | Ending::Malformed | Ending::Usage => None,
+            Ending::Done | Ending::Malformed | Ending::Usage | Ending::Guest => None,
             _ => Some(FaultLine { ending: self }),
         }
     }
@@ -178,7 +181,7 @@ impl fmt::Display for FaultLine {
 
     fn fmt<W: fmt::Write>(&self, f: &mut fmt::Formatter<W>) -> fmt::Result {
         match self.ending {
-            Ending::Done | Ending::Malformed | Ending::Usage => Ok(()),
+            Ending::Done | Ending::Malformed | Ending::Usage | Ending::Guest => Ok(()),
             Ending::Short { at, len } => write!(f, "stream: Short at {at}: len {len}"),
             Ending::TooLong { at, len } => write!(f, "stream: TooLong at {at}: len {len}"),
             Ending::Cut { at, have, need } => {

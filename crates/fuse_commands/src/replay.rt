@@ -46,6 +46,7 @@ fn serve_stream<K: Keeper, R: Read>(
     moment: Moment,
 ) -> Session
     requires going { (K.told keeper.old).has_failed ≡ false }
+    requires serves { (K.told keeper.old).service ≡ K.model.service }
     ensures replayed { IsOfStream result.ending → (input : List ℕ)
         → R.remaining reader.old ≡ Some input
         → Replayed (K.told keeper.old) (K.told keeper.new) moment input result.ending
@@ -115,6 +116,7 @@ pub fn run_replay<K: Keeper, R: Read + Drop, W: Write>(
     shows_seen: bool,
 ) -> Ending
     requires going { (K.told keeper.old).has_failed ≡ false }
+    requires serves { (K.told keeper.old).service ≡ K.model.service }
     // Status 0 or 1: the processed messages of the input, the output, and the state of the keeper.
     ensures replayed { IsOfStream result → (input : List ℕ) → R.remaining reader ≡ Some input
         → Replayed (K.told keeper.old) (K.told keeper.new) moment input result

@@ -44,6 +44,7 @@ fn run_events<K: Restart>(
     events: &[Event],
 ) -> Result<Simulation, Ending>
     requires going { IsSomeAnd keeper.old (λ k. (K.told k).has_failed ≡ false) }
+    requires serves { IfSome keeper.old (λ k. (K.told k).service ≡ K.model.service) }
     requires fit { All IsFit events.now }
     ensures ok { IfOk result (λ simulation. (told_in K.told keeper.new).is_honest
         → (s : K.model.State) → StandsIn K.told keeper.old s [] []
@@ -134,6 +135,7 @@ fn simulate<K: Restart, R: Read + Drop>(
     reader: R,
 ) -> Result<Simulation, Ending>
     requires going { IsSomeAnd keeper.old (λ k. (K.told k).has_failed ≡ false) }
+    requires serves { IfSome keeper.old (λ k. (K.told k).service ≡ K.model.service) }
     ensures ok { IfOk result (λ simulation. IfSome (R.remaining reader)
         (λ script. RanScript (driven K.told K.became K.performed K.refuses)
         keeper.old keeper.new script simulation)) }
@@ -168,6 +170,7 @@ pub fn run_simulate<K: Restart, R: Read + Drop, W: Write>(
     writer: &mut W,
 ) -> Ending
     requires going { IsSomeAnd keeper.old (λ k. (K.told k).has_failed ≡ false) }
+    requires serves { IfSome keeper.old (λ k. (K.told k).service ≡ K.model.service) }
     // Status 0: the output, the state of the keeper and what it was asked to perform. Status 1:
     // nothing was done.
     ensures simulated { IfSome (R.remaining reader) (λ script. status_of result ≤ 1

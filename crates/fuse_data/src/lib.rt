@@ -11,8 +11,6 @@ mod laws;
 mod listing;
 mod opening;
 mod space;
-#[cfg(test)]
-mod tests;
 
 pub use data_file::DataFile;
 pub use extent::{BLOCK, END, Extent, MOST, is_placed, sum_of_bytes};

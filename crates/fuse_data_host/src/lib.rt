@@ -6,8 +6,6 @@ mod host;
 mod opening;
 mod record;
 mod start;
-#[cfg(test)]
-mod tests;
 
 pub use fault::OpenFault;
 pub use host::Host;

@@ -5,7 +5,7 @@ use Rattle.sqlite.specs.Effect.{Database}
 use Rattle.sqlite.specs.declared.error.Error.{Error}
 use Rattle.fuse_keeper.specs.Faults.{fault_of, is_memory}
 use Rattle.fuse_keeper.specs.declared.fault.StoreFault.{StoreFault}
-use Rattle.fuse_keeper.specs.declared.fault.StoreFault.TheVariants.{Memory, Sql, NotAStore, Version, Damaged}
+use Rattle.fuse_keeper.specs.declared.fault.StoreFault.TheVariants.{Memory, Sql, NotAStore, Version, Damaged, Guest}
 use Rattle.fuse_store_tables.specs.Faults.{IsOutside, IsPlain}
 use Rattle.fuse_store_tables.specs.Saying.{Says, IsTabled, ReportsVersion, HasFirst, HasOwn}
 use Rattle.fuse_store_tree.specs.Looking.{as_look_fault}
@@ -24,6 +24,7 @@ says_nothing (Sql e) so = tt
 says_nothing NotAStore so = absurd so
 says_nothing (Version n) so = absurd so
 says_nothing Damaged so = absurd so
+says_nothing Guest so = absurd so
 
 pub says_nothing_in : {X Y : Type 0} (r : Result X (StoreFault × Y)) (f : StoreFault) → IfErr r (λ p. IsOutside p.0) → IsErrAnd r (λ p. p.0 ≡ f)
     → SaysNothing (store_ending f)
@@ -36,6 +37,7 @@ says_so d (Sql e) so = tt
 says_so d NotAStore so = so
 says_so d (Version n) so = so
 says_so d Damaged so = so
+says_so d Guest so = so
 
 pub of_sql : (e : Error) → IsOutside (fault_of e)
 of_sql e = told (is_memory e)
@@ -50,6 +52,7 @@ outside_plain (Sql e) so = tt
 outside_plain NotAStore so = so
 outside_plain (Version n) so = so
 outside_plain Damaged so = tt
+outside_plain Guest so = so
 
 pub outside_so : (d : Database) (f : StoreFault) → IsOutside f → SaysSo d (store_ending f)
 outside_so d Memory so = tt
@@ -57,6 +60,7 @@ outside_so d (Sql e) so = tt
 outside_so d NotAStore so = absurd so
 outside_so d (Version n) so = absurd so
 outside_so d Damaged so = absurd so
+outside_so d Guest so = absurd so
 
 -- ---- of a store of one of the versions
 
@@ -89,6 +93,7 @@ plain_so d tabled (Sql e) so = tt
 plain_so d tabled NotAStore so = absurd so
 plain_so d tabled (Version n) so = absurd so
 plain_so d tabled Damaged so = tabled_own d tabled
+plain_so d tabled Guest so = absurd so
 
 pub plain_loud : (f : StoreFault) → IsPlain f → IsRefused (store_ending f) → ⊥
 plain_loud Memory so is = is
@@ -96,6 +101,7 @@ plain_loud (Sql e) so is = is
 plain_loud NotAStore so is = so
 plain_loud (Version n) so is = so
 plain_loud Damaged so is = is
+plain_loud Guest so is = so
 
 -- ---- of what was shown
 

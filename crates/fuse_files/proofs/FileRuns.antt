@@ -1,5 +1,5 @@
 -- A run over the files of a store is a life of their mount.
-use Rattle.std.proofs.Common.{◌≡◌, inl, inr, ℕ, zero, suc, List, [], ◌∷◌, take, subst}
+use Rattle.std.proofs.Common.{◌≡◌, inl, inr, ℕ, zero, suc, List, [], ◌∷◌, take, refl, subst}
 use Rattle.sqlite_disk.specs.declared.Disk.{Ghosts}
 use Rattle.sqlite_store.specs.declared.store.FileStore.{FileStore}
 use Rattle.sqlite.specs.Files.{over_files}
@@ -96,7 +96,7 @@ module _ {P D E O C : Type 0} {g : Ghosts D} {h : Ghosts E} (p : Profile) (v : A
         ]
       ] in
       runs_on p k s.how task.first (file_run s.ran.served it) s.from.opened (λ at holds.
-      served_life (views (keeper_told p over_files h) (λ a b list. Unit {0}) v.port v.became) (v.gave s.mid x.clock') (FilesStand p) (files_more p)
+      served_life (views (keeper_told p over_files h) (λ a b list. Unit {0}) v.port v.became) (v.gave s.mid x.clock') (FilesStand p) (files_more p) (λ k. refl)
       (between s.keeper s.ran.keeper' x.port x.port') task.begin run.ending run.counts s.ran.served at it
       (λ a b o o'. lives a b o o' s.mid x.clock') holds s.from.firm
       (λ whole.

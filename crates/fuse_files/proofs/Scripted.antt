@@ -10,7 +10,7 @@ use Rattle.fuse_init.specs.declared.profile.Profile.{Profile}
 use Rattle.fuse_data.specs.declared.data_file.DataFile.{DataFile}
 use Rattle.fuse_data.specs.State.{state_in}
 use Rattle.fuse_keeper.specs.declared.fault.StoreFault.{StoreFault}
-use Rattle.fuse_keeper.specs.declared.fault.StoreFault.TheVariants.{Memory, Sql, NotAStore, Version, Damaged}
+use Rattle.fuse_keeper.specs.declared.fault.StoreFault.TheVariants.{Memory, Sql, NotAStore, Version, Damaged, Guest}
 use Rattle.fuse_keeper.specs.KeeperState.{StandsFor, IsFirm}
 use Rattle.fuse_tree.specs.TheTree.{tree_of}
 use Rattle.fuse_store.specs.declared.new_store.StoreKind.{StoreKind}
@@ -31,6 +31,7 @@ high (Sql e) low = omega (arith, low)
 high NotAStore low = omega (arith, low)
 high (Version n) low = omega (arith, low)
 high Damaged low = omega (arith, low)
+high Guest low = omega (arith, low)
 
 never : (X : List ℕ → Type 0) (known : Option (List ℕ)) (f : StoreFault) (ending : Ending) → ending ≡ store_ending f
     → IfSome known (λ script. status_of ending ≤ 1 → X script)

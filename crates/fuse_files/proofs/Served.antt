@@ -1,5 +1,5 @@
 -- A port was served over a keeper of files: what is left of them.
-use Rattle.std.proofs.Common.{inl, inr, ℕ, List, [], Option, sym, subst, ◌∙◌}
+use Rattle.std.proofs.Common.{◌≡◌, inl, inr, ℕ, List, [], Option, sym, subst, ◌∙◌}
 use Rattle.fuse_wire.specs.declared.moment.Moment.{Moment}
 use Rattle.fuse_keeper.specs.History.{History, Includes}
 use Rattle.fuse_keeper.specs.Model.{Model}
@@ -7,7 +7,8 @@ use Rattle.fuse_keeper.specs.Stands.{Records, Standing, StandsAt, AreThese}
 use Rattle.fuse_keeper.specs.KeeperState.{KeeperState, IsFirm}
 use Rattle.fuse_session.specs.Deeds.{Did}
 use Rattle.fuse_session.specs.Exchange.{HoldsAt}
-use Rattle.fuse_session.specs.Passage.{passage}
+use Rattle.fuse_session.specs.Passage.{passage, passage_for}
+use Rattle.fuse_session.specs.Session.{Session}
 use Rattle.fuse_session.specs.declared.counts.SessionCounts.{SessionCounts}
 use Rattle.fuse_sim.specs.Lives.{RunsAreLives}
 use Rattle.fuse_sim.specs.FileLives.{run_over, no_run, IsRunFrom}
@@ -16,7 +17,7 @@ use Rattle.fuse_commands.specs.declared.ending.Ending.{Ending}
 use Rattle.fuse_commands.specs.declared.serve.Begin.{Begin}
 use Rattle.fuse_commands.specs.declared.serve.Begin.TheVariants.{Fresh, Resume}
 use Rattle.fuse_session.specs.Done.{life_of}
-use Rattle.fuse_commands.specs.ServingRuns.{Views, Between, BeginsServing, SessionServed, NotServed, ServesPort}
+use Rattle.fuse_commands.specs.ServingRuns.{Views, Between, BeginsServing, SessionServed, NotServed, ServesPort, most_turns}
 use Rattle.fuse_files.specs.StoreLives.{file_run}
 
 -- files hold rows and records that a crash may leave of the keeper, and stand for what these stand for
@@ -46,7 +47,8 @@ stands_these M rows x records r at these stands = record {
 }
 
 module _ {M : Model} {K P Image : Type 0} (v : Views M K P) (gave : List Moment → Type 0) (Stand : Image → Standing M → Type 0)
-    (more : (image : Image) (s : M.State) (h : History) (t u : List ℕ) → Includes u t → Stand image (record { state = s; history = h; settled = t }) → Stand image (record { state = s; history = h; settled = u })) where
+    (more : (image : Image) (s : M.State) (h : History) (t u : List ℕ) → Includes u t → Stand image (record { state = s; history = h; settled = t }) → Stand image (record { state = s; history = h; settled = u }))
+    (serves : (k : K) → (v.keeper k).service ≡ M.service) where
   -- after the notice
   begun_holds : (begin : Begin) (b : Between K P) (at : Standing M) → BeginsServing begin v b → (v.keeper b.keeper').is_honest → Holds (v.keeper b.keeper) at → Holds (v.keeper b.keeper') at
   begun_holds Fresh b at begins honest holds = subst (λ k. Holds (v.keeper k) at) (sym begins.0) holds
@@ -68,15 +70,19 @@ module _ {M : Model} {K P Image : Type 0} (v : Views M K P) (gave : List Moment 
   session_life : (b : Between K P) (begin : Begin) (ending : Ending) (counts : Option SessionCounts) (x : SessionServed v gave b begin ending counts) (at : Standing M) (image : Image)
       → RunsAreLives (passage (v.keeper x.begun) (v.keeper b.keeper') (v.port x.now) (v.port b.port') (Did gave (v.performed x.begun b.keeper') (v.became x.now b.port')))
       → ((v.keeper b.keeper).is_honest → Holds (v.keeper b.keeper) at) → IsKept b image → IsRunFrom Stand at (run_over (life_of x.session) image)
-  session_life b begin ending counts x at image lives holds kept new =
-      let run = life_of x.session in
+  session_life b begin ending counts x at image lives holds kept =
+      subst (λ V. (session : Session (passage_for V (v.keeper x.begun) (v.keeper b.keeper') (v.port x.now) (v.port b.port')
+      (Did gave (v.performed x.begun b.keeper') (v.became x.now b.port'))) most_turns x.served) → IsRunFrom Stand at (run_over (life_of session) image))
+      (sym (serves x.begun)) (λ session new.
+      let run = life_of session in
       let begun : (v.keeper x.begun).is_honest → Holds (v.keeper x.begun) at = λ now. begun_holds begin _ at x.begins now (holds (begun_honest begin _ x.begins now)) in
       let crash = λ (honest : (v.keeper b.keeper').is_honest).
-      let h = begun (x.session.honest honest) in
+      let h = begun (session.honest honest) in
       (lives _ run).crashes honest h.firm at.state at.history at.settled h.stands (none_pending at.settled) new in
       let now = kept (λ honest. (crash honest).0) in
       let keeps = now.1 in
-      ran_from Stand more run at image (ran_weaker (StandsAt M (record { rows = keeps.rows; records = keeps.records })) (Stand image) keeps.stands ((crash now.0).1 keeps.rows keeps.records keeps.may))
+      ran_from Stand more run at image (ran_weaker (StandsAt M (record { rows = keeps.rows; records = keeps.records })) (Stand image) keeps.stands ((crash now.0).1 keeps.rows keeps.records keeps.may)))
+      x.session
 
   not_served : (b : Between K P) (begin : Begin) (ending : Ending) (counts : Option SessionCounts) → NotServed v b begin ending counts → (at : Standing M) (image : Image)
       → ((v.keeper b.keeper).is_honest → Holds (v.keeper b.keeper) at) → IsKept b image → IsRunFrom Stand at (no_run image)

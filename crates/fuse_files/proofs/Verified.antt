@@ -40,6 +40,7 @@ of_store (store.Sql e) = tt
 of_store store.NotAStore = tt
 of_store (store.Version n) = tt
 of_store store.Damaged = tt
+of_store store.Guest = tt
 
 -- and one that says nothing of a store that it saw
 pub outside_after : (a b : KnownTables) (was is : Option StoreFault) (x : LookFault) → as_look_fault was ≡ None → HasCleanDisk b.tables → IsTrue b.file.is_clean

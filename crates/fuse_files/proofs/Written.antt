@@ -28,6 +28,7 @@ store_cut (store.Sql e) = tt
 store_cut store.NotAStore = tt
 store_cut (store.Version n) = tt
 store_cut store.Damaged = tt
+store_cut store.Guest = tt
 
 look_cut : (fault : Option StoreFault) → MayCutShort (showing_ending fault)
 look_cut None = tt

@@ -114,6 +114,7 @@ SaysSo d (ending.Sql _) = ⊤
 SaysSo d ending.NotAStore = Says d fault.NotAStore
 SaysSo d (ending.Version n) = Says d (fault.Version n)
 SaysSo d ending.Damaged = Says d fault.Damaged
+SaysSo d ending.Guest = Says d fault.Guest
 SaysSo d _ = IsTabled d
 
 -- an open of the files finds this database, and the ending says what is so of it

@@ -24,6 +24,7 @@ IsStoreEnding (ending.Sql _) = ⊤
 IsStoreEnding ending.NotAStore = ⊤
 IsStoreEnding (ending.Version n) = ⊤
 IsStoreEnding ending.Damaged = ⊤
+IsStoreEnding ending.Guest = ⊤
 IsStoreEnding _ = ⊥
 
 -- the line of a sound tree, of which this was counted

@@ -44,6 +44,8 @@ fn new_keeper<P: Profiled, D: Crashing + Drop>(
     ensures firm { IfOk result (λ k. (crash_told P.PROFILE D.Disk k).is_honest
         → IsFirm (crash_told P.PROFILE D.Disk k)) }
     ensures going { IfOk result (λ k. (crash_told P.PROFILE D.Disk k).has_failed ≡ false) }
+    ensures serves { IfOk result
+        (λ k. (crash_told P.PROFILE D.Disk k).service ≡ (tree_of P.PROFILE).service) }
     ensures blank { IfOk result (λ k. WereBlank D.Disk files.0) }
     ensures fault { IfErr result (λ f. AreSure D.Disk
         → IsUnopened (image_of D.Disk files.0) (store_ending f)) }
@@ -73,6 +75,7 @@ fn simulate_over<K: Restart, R: Read + Drop, W: Write>(
     writer: &mut W,
 ) -> Ending
     requires going { (K.told keeper).has_failed ≡ false }
+    requires serves { (K.told keeper).service ≡ K.model.service }
     ensures ran { SimulatesOver (driven K.told K.became K.performed K.refuses) keeper
         (streams (R.remaining reader) (W.contents writer.old) (W.contents writer.new)) result }
     ensures silent { 1 ≤ status_of result → status_of result ≤ 3
@@ -91,6 +94,7 @@ fn simulate_opened<K: Restart, R: Read + Drop, W: Write>(
     writer: &mut W,
 ) -> Ending
     requires going { IfOk keeper (λ k. (K.told k).has_failed ≡ false) }
+    requires serves { IfOk keeper (λ k. (K.told k).service ≡ K.model.service) }
     ensures ran { IfOk keeper (λ k. SimulatesOver (driven K.told K.became K.performed K.refuses) k
         (streams (R.remaining reader) (W.contents writer.old) (W.contents writer.new)) result) }
     ensures fault { IfErr keeper (λ f. (result ≡ store_ending f)
@@ -114,6 +118,8 @@ fn simulate_crashing<P: Profiled, D: Crashing + Drop, E: Crashing + Drop, R: Rea
 ) -> Ending
     requires going { IfOk keeper
         (λ k. (crash_told P.PROFILE E.Disk k).has_failed ≡ false) }
+    requires serves { IfOk keeper
+        (λ k. (crash_told P.PROFILE E.Disk k).service ≡ (tree_of P.PROFILE).service) }
     ensures ran { IfOk keeper (λ k. SimulatesOver (driven (crash_told P.PROFILE E.Disk)
         (λ a b n. Unit {0}) (λ a b list. Unit {0})
         (CrashRefuses E.Disk P.PROFILE (crash_relations D.Crashing.crashed E.Crashing.crashed))) k

@@ -1,8 +1,11 @@
 -- The ids that are handed on with a group.
-use Rattle.std.proofs.Common.{◌≡◌, ℕ, Bool, true, false, if◌then◌else◌, List, [], ◌∷◌, length, refl, subst}
+use Rattle.std.proofs.Common.{◌≡◌, ℕ, Bool, true, false, if◌then◌else◌, List, [], ◌∷◌, length, refl, sym, subst, ◌∙◌}
 use Rattle.fuse_wire.specs.declared.moment.Moment.{Moment}
 use Rattle.fuse_request.specs.declared.request.Request.{Request}
-use Rattle.fuse_keeper.specs.History.{Entry}
+use Rattle.fuse_request.specs.Opcodes.{Service}
+use Rattle.fuse_keeper.specs.History.{Entry, kept_of}
+use Rattle.fuse_keeper.specs.Model.{Model}
+use Rattle.fuse_keeper.specs.KeeperState.{KeeperState, IsSound}
 use Rattle.fuse_keeper.specs.Group.{entries_of, handed_to, left_pending}
 use Rattle.fuse_keeper.specs.Performance.{Performance, performances_of}
 
@@ -34,6 +37,21 @@ pub left_if : (kept : List Entry) (pending : List ℕ) (some : Bool) → (some �
     → (if some then [] else pending) ≡ left_pending kept pending
 left_if kept pending true some none = none_left kept pending (some refl)
 left_if kept pending false some none = all_left kept pending (none refl)
+
+-- the same, where it is known of an equal service
+pub handed_by : (V W : Service) (es : List Entry) (pending : List ℕ) (some : Bool) → W ≡ V → (some ≡ true → ¬ (kept_of W es ≡ [])) → (some ≡ false → kept_of W es ≡ [])
+    → (if some then pending else []) ≡ handed_to (kept_of V es) pending
+handed_by V W es pending some is one none =
+    subst (λ U. (if some then pending else []) ≡ handed_to (kept_of U es) pending) is (handed_if (kept_of W es) pending some one none)
+
+pub left_by : (V W : Service) (es : List Entry) (pending : List ℕ) (some : Bool) → W ≡ V → (some ≡ true → ¬ (kept_of W es ≡ [])) → (some ≡ false → kept_of W es ≡ [])
+    → (if some then [] else pending) ≡ left_pending (kept_of V es) pending
+left_by V W es pending some is one none =
+    subst (λ U. (if some then [] else pending) ≡ left_pending (kept_of U es) pending) is (left_if (kept_of W es) pending some one none)
+
+-- the service that a keeper gave is that of the model, where it is honest afterwards
+pub gives : {M : Model} (V : Service) (k k' : KeeperState M) → k.service ≡ V → k'.service ≡ k.service → IsSound k' → k'.is_honest → V ≡ M.service
+gives V k k' is stays sound honest = sym is ∙ sym stays ∙ sound.service honest
 
 -- what was asked, where a group isn't empty
 pub asked_all : (P : List Performance → Type 0) (group : List (Request × Moment)) (handed handed' : List ℕ) → (length group ≡ 0 → ⊥) → handed ≡ handed'

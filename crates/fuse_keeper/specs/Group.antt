@@ -6,7 +6,6 @@ use Rattle.fuse_request.specs.declared.request.Request.{Request}
 use Rattle.fuse_request.specs.Act.{asked}
 use Rattle.fuse_request.specs.Act as act
 use Rattle.fuse_request.specs.Opcodes.{Service}
-use Rattle.fuse_keeper.specs.Model.{Model}
 use Rattle.fuse_keeper.specs.History.{Entry, entry_id, kept_of}
 
 -- a request and its moment, wherever the request lies
@@ -20,9 +19,9 @@ entries_of group = map entry_of group
 abbrev pub HasId : Entry → Type 0
 HasId e = entry_id e ≢ 0
 
--- its message is kept or seen by this file system
-abbrev pub IsPerformed : Model → Entry → Type 0
-IsPerformed M e = act.IsPerformedFor M.service e.asked.act
+-- its message is kept or seen, where this is the service
+abbrev pub IsPerformed : Service → Entry → Type 0
+IsPerformed V e = act.IsPerformedFor V e.asked.act
 
 -- nothing is to be kept: no request of a group is, and no ids are handed on with it
 abbrev pub OnlySees : Service → List Entry → List ℕ → Type 0

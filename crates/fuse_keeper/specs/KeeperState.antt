@@ -1,8 +1,9 @@
 -- The state of a keeper, and how a call changes it (defined by this project).
 use Rattle.std.specs.Prelude.{◌≡◌, ◌||◌, ◌⊎◌, ℕ, ◌+◌, Bool, false, List, [], All, Result, is_err, IfErr, OnOk, OnErr}
+use Rattle.fuse_request.specs.Opcodes.{Service}
 use Rattle.fuse_keeper.specs.declared.fault.StoreFault.{StoreFault}
 use Rattle.fuse_keeper.specs.declared.keeper.Done.{Done}
-use Rattle.fuse_keeper.specs.Model.{Model, IsOfGoodState}
+use Rattle.fuse_keeper.specs.Model.{Model, serving, IsOfGoodState}
 use Rattle.fuse_keeper.specs.History.{Entry, History, after, grown, kept_of, Includes, IsUnsettled}
 use Rattle.fuse_keeper.specs.Lots.{Lots, SameLots, RecordsUnder, AreGone, AreReopened}
 use Rattle.fuse_keeper.specs.Taking.{TakesAll}
@@ -27,6 +28,23 @@ pub record KeeperState (M : Model) : Type 1 where
   pub may_answer : StoreFault → Type 0
   -- the lots that its records are in
   pub lots : Lots
+  -- the opcodes that it serves and sees, known once it runs. Of a keeper whose file system is known before, they are the model's
+  pub service : Service
+
+-- the same keeper, as one of the model that has this service
+abbrev pub of_service : {M : Model} → (V : Service) → KeeperState M → KeeperState (serving V M)
+of_service V k = record {
+  holds = k.holds;
+  is_honest = k.is_honest;
+  is_clean = k.is_clean;
+  in_memory = k.in_memory;
+  has_failed = k.has_failed;
+  leaves_whole = k.leaves_whole;
+  may_leave = k.may_leave;
+  may_answer = k.may_answer;
+  lots = k.lots;
+  service = k.service;
+}
 
 -- what it holds stands for the history
 abbrev pub StandsFor : {M : Model} → KeeperState M → M.State → History → List ℕ → Type 0
@@ -48,10 +66,11 @@ IsFirm {M} k = IsFirmBy M k.holds k.leaves_whole k.may_leave
 abbrev pub KeepsHeld : {M : Model} → KeeperState M → KeeperState M → Type 0
 KeepsHeld {M} old new = KeepsHeldBy M old.holds new.holds
 
--- it holds just one thing, and where it is clean it is honest
+-- it holds just one thing, where it is clean it is honest, and where it is honest it gives the service of the model
 pub record IsSound {M : Model} (k : KeeperState M) : Type 0 where
   pub one_holding : (x y : M.Rows) (p q : Records) → k.holds x p → k.holds y q → (x ≡ y) × ((i : ℕ) → p i ≡ q i)
   pub clean_is_honest : k.is_clean → k.is_honest
+  pub service : k.is_honest → k.service ≡ M.service
 
 -- this is so where it holds something
 abbrev pub WhereHeld : {M : Model} → KeeperState M → Type 0 → Type 0
@@ -65,11 +84,12 @@ OfHeld {M} k P = (rows : M.Rows) (records : Records) → k.holds rows records �
 abbrev pub AnswersNoMore : {M : Model} → KeeperState M → KeeperState M → Type 0
 AnswersNoMore old new = new.is_honest → (f : StoreFault) → new.may_answer f → old.may_answer f
 
--- of any call: its medium stays; an Ok leaves it clean; a fault keeps what is held, and is one that it may answer
+-- of any call: its medium and its service stay; an Ok leaves it clean; a fault keeps what is held, and is one that it may answer
 pub record Called {M : Model} {A : Type 0} (old new : KeeperState M) (result : Result A StoreFault) : Type 0 where
   pub failed : new.has_failed ≡ (old.has_failed || is_err result)
   pub honest : new.is_honest → old.is_honest
   pub medium : old.in_memory → new.in_memory
+  pub service : new.service ≡ old.service
   pub clean : OnOk result (old.is_clean → new.is_honest → new.is_clean)
   pub err : OnErr result (new.is_clean → KeepsHeld old new)
   pub err_lots : OnErr result (new.is_clean → WhereHeld old (SameLots old.lots new.lots))
@@ -160,6 +180,8 @@ pub record Reopened {M : Model} (old new : KeeperState M) : Type 0 where
   pub lots : new.is_honest → WhereHeld old (AreReopened old.lots new.lots)
   pub honest : new.is_honest → old.is_honest
   pub medium : old.in_memory → new.in_memory
+  -- one that would give another service refuses to be opened, so that what is asked of both is read by one
+  pub service : new.service ≡ old.service
   pub going : new.has_failed ≡ false
 
 -- `became a b n`: b is a later state of a, which was opened again n times on the way

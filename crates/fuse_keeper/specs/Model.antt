@@ -40,6 +40,10 @@ pub record IsSoundModel (M : Model) : Type 0 where
   pub keeps_destroy : M.service.sees fuse_destroy ≡ false
   pub clears : (s : M.State) → M.IsGood s → M.IsGood (M.cleared s)
 
+-- the same file system, of another service
+abbrev pub serving : Service → Model → Model
+serving V M = record M { service = V }
+
 -- the rows are those of a good state
 unfoldable pub IsOfGoodState : (M : Model) → M.Rows → Type 0
 IsOfGoodState M rows = (s : M.State) × M.IsGood s × (rows ≡ M.held_for s)

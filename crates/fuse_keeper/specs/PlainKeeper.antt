@@ -23,6 +23,7 @@ plain_told M held k = record {
   may_leave = plain_holds M held k;
   may_answer = λ fault. fault ≡ Memory;
   lots = no_lots;
+  service = M.service;
 }
 
 -- the same, where no call has failed

@@ -21,6 +21,10 @@ pub enum StoreFault {
     /// Another table is missing, or a row holds what none may.
     #[error("a damaged store")]
     Damaged,
+    /// The guest that does the requests ended, hung or broke the protocol. No store of this
+    /// repository answers it.
+    #[error("the guest failed")]
+    Guest,
 }
 
 impl From<Memory> for StoreFault {

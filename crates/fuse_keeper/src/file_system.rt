@@ -45,7 +45,7 @@ pub trait FileSystem: Drop {
         now: Moment,
     ) -> Result<Answer, StoreFault>
         requires ready { is_ready self.old }
-        requires performed { IsPerformed model (entry_of (request.now, now)) }
+        requires performed { IsPerformed model.service (entry_of (request.now, now)) }
         ensures acts { IfOk result (λ answer. Acts model (held self.old)
             (entry_of (request.now, now)) (held self.new) answer) }
         // A seen request changes nothing, whatever the rows are.

@@ -89,7 +89,7 @@ fn take_one<F: FileSystem>(
     now: Moment,
 ) -> Result<Done, StoreFault>
     requires ready { F.is_ready draft.old.rows }
-    requires performed { IsPerformed F.model (entry_of (request.now, now)) }
+    requires performed { IsPerformed F.model.service (entry_of (request.now, now)) }
     ensures took { IfOk result (λ done. Took F.model
         (record {
           rows = F.held draft.old.rows;
@@ -146,7 +146,7 @@ pub(crate) fn take_all<F: FileSystem>(
     settled: &[Id],
     group: &[(Request<'_>, Moment)],
 ) -> Result<Taken<F>, StoreFault>
-    requires { All (IsPerformed F.model) (entries_of group.now) }
+    requires { All (IsPerformed F.model.service) (entries_of group.now) }
     ensures performed { IfOk result (λ taken. (s : F.model.State) (h : History) (t : List ℕ)
         → Stands F.model (F.held rows.now) (without (ids_of settled.now) (mapped records.now)) s h t
         → All (IsUnsettled t) (kept_of F.model.service (entries_of group.now))

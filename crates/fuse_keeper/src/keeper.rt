@@ -58,13 +58,13 @@ pub trait Keeper: Drop {
     ghost performed: { Self → Self → List Performance → Type 0 };
 
     /// Whether its file system serves an opcode that isn't of the profile.
-    fn serves(opcode: u32) -> bool
-        ensures { result ≡ model.service.serves opcode };
+    fn serves(&self, opcode: u32) -> bool
+        ensures { result ≡ (told self.now).service.serves opcode };
 
     /// Whether it sees the requests of an opcode that it serves or that is of the profile: they
     /// change nothing and leave no record.
-    fn sees(opcode: u32) -> bool
-        ensures { result ≡ model.service.sees opcode };
+    fn sees(&self, opcode: u32) -> bool
+        ensures { result ≡ (told self.now).service.sees opcode };
 
     /// Removes the records of settled ids, then performs a group, all in one transaction. A kept
     /// request whose id is recorded, in the group too, is a repeat. A seen one is answered anew, in
@@ -77,14 +77,14 @@ pub trait Keeper: Drop {
         requires short { length group.now ≤ MAX_GROUP }
         requires few { length settled.now ≤ MAX_SETTLED }
         requires named { All HasId (entries_of group.now) }
-        requires performed { All (IsPerformed model) (entries_of group.now) }
+        requires performed { All (IsPerformed (told self.old).service) (entries_of group.now) }
         ensures count { IfOk result (λ dones. length dones.items ≡ length group.now) }
         ensures called { Called (told self.old) (told self.new) result }
         ensures may { AnswersNoMore (told self.old) (told self.new) }
         ensures ok { IfOk result (λ dones. Performs (told self.old) (told self.new)
             (ids_of settled.now) (entries_of group.now) dones.items) }
         // Where nothing is to be kept it only looks: there is no transaction that changes anything.
-        ensures looked { OnlySees model.service (entries_of group.now) (ids_of settled.now)
+        ensures looked { OnlySees (told self.old).service (entries_of group.now) (ids_of settled.now)
             → Looked (told self.old) (told self.new) result }
         // The settled records go first: an id that is settled and in the group acts anew.
         ensures acts { IfOk result (λ dones. ActsOn (told self.old) (told self.new)
@@ -99,7 +99,7 @@ pub trait Keeper: Drop {
         ensures crash_acts { LeavesActed (told self.old) (told self.new)
             (ids_of settled.now) (entries_of group.now) }
         ensures firm { OnOk result ((told self.new).is_honest → IsFirm (told self.old)
-            ⊎ ¬ (OnlySees model.service (entries_of group.now) (ids_of settled.now))
+            ⊎ ¬ (OnlySees (told self.old).service (entries_of group.now) (ids_of settled.now))
             → IsFirm (told self.new)) }
         ensures same { became self.old self.new 0 }
         // A fault too: it was asked once.

@@ -1,11 +1,14 @@
 ghost use Rattle.std.specs.Prelude.{◌≡◌};
+ghost use Rattle.fuse_request.specs.Opcodes.{Service};
 ghost use Rattle.fuse_keeper.specs.Bounds as bounds;
 ghost use Rattle.fuse_keeper.specs.History.{HistoriesGrow, SaidFits};
+ghost use Rattle.fuse_keeper.specs.Model.{serving};
 ghost use Rattle.fuse_keeper.specs.Stands.{StillStands};
 ghost use Rattle.fuse_keeper.specs.Taking.{GroupsGrow};
 
 use crate::file_system::FileSystem;
 use crate::keeper::{Keeper, MAX_GROUP, MAX_SETTLED};
+use crate::modelled::Modelled;
 
 /// The answer to each id of a history fits.
 pub fn said_fits<K: Keeper>()
@@ -15,14 +18,14 @@ pub fn said_fits<K: Keeper>()
 }
 
 /// A request that is added to a history is in it, the answers of the others stay, and none stands
-/// twice.
+/// twice, whichever requests are seen.
 pub fn histories_grow<K: Keeper>()
-    ensures { HistoriesGrow K.model }
+    ensures { (V : Service) → HistoriesGrow (serving V K.model) }
 {}
 
 /// What stands for a history still does, over the same rows and records, and with more ids settled.
 pub fn still_stands<K: Keeper>()
-    ensures { StillStands K.model }
+    ensures { (V : Service) → StillStands (serving V K.model) }
 {}
 
 /// A group of one more entry was performed where that entry was taken after the others. The first
@@ -31,9 +34,14 @@ pub fn groups_grow<F: FileSystem>()
     ensures { GroupsGrow F.model }
 {}
 
-/// The same, for the file system of a keeper.
+/// The same, for the file system of a keeper, whichever requests are seen.
 pub fn kept_groups_grow<K: Keeper>()
-    ensures { GroupsGrow K.model }
+    ensures { (V : Service) → GroupsGrow (serving V K.model) }
+{}
+
+/// The same, for any model.
+pub fn groups_of_model_grow<M: Modelled>()
+    ensures { GroupsGrow M.model }
 {}
 
 /// The most requests of a group, and the most settled ids of a call.

@@ -1,7 +1,8 @@
 // A group, and the settled ids that are handed to the keeper with it.
 ghost use Rattle.std.specs.Prelude.{◌≡◌, ◌≤◌, ◌⊎◌, [], length, All, vec_capacity};
 ghost use Rattle.std.specs.Prelude.{IfOk, IsOk, OnOk, OnErr, true, false, if◌then◌else◌};
-ghost use Rattle.fuse_keeper.specs.KeeperState.{IsFirm, Called, Looked, AnswersNoMore};
+ghost use Rattle.fuse_request.specs.Opcodes.{Service};
+ghost use Rattle.fuse_keeper.specs.KeeperState.{IsFirm, Called, Looked, AnswersNoMore, of_service};
 ghost use Rattle.fuse_keeper.specs.KeeperState.{Performs, ActsOn};
 ghost use Rattle.fuse_keeper.specs.KeeperState.{KeepsOthers, KeepsLots, LeavesGroup, LeavesActed};
 ghost use Rattle.fuse_keeper.specs.Group.{entries_of, HasId, IsPerformed, ids_of};
@@ -18,12 +19,14 @@ use fuse_wire::{Id, Moment};
 use std::alloc::Global;
 
 /// Whether one of these requests is kept, and not seen. Takes no memory.
-pub fn has_kept<K: Keeper>(group: &[(Request<'_>, Moment)]) -> bool
-    ensures some { result ≡ true → ¬ (kept_of K.model.service (entries_of group.now) ≡ []) }
-    ensures none { result ≡ false → kept_of K.model.service (entries_of group.now) ≡ [] }
+pub fn has_kept<K: Keeper>(keeper: &K, group: &[(Request<'_>, Moment)]) -> bool
+    ensures some { result ≡ true
+        → ¬ (kept_of (K.told keeper.now).service (entries_of group.now) ≡ []) }
+    ensures none { result ≡ false
+        → kept_of (K.told keeper.now).service (entries_of group.now) ≡ [] }
 {
     for one in group {
-        if !K::sees(one.0.op.opcode()) {
+        if !keeper.sees(one.0.op.opcode()) {
             return true;
         }
     }
@@ -50,49 +53,56 @@ fn forget_if(kept: bool, pending: &mut Vec<Id>)
 /// Performs a group, if it isn't empty, and hands on the pending ids with it, if one of its
 /// requests is kept: their records are deleted first, in the same transaction, and then none is
 /// pending. With a group of seen requests alone all stay pending. An empty group calls nothing.
-/// After a fault all are still pending.
+/// After a fault all are still pending. What is kept and what is seen is said by `service`, which
+/// the keeper gives.
 pub fn perform_group<K: Keeper>(
     alloc: Global,
     keeper: &mut K,
     group: &[(Request<'_>, Moment)],
     pending: &mut Vec<Id>,
 ) -> Result<Vec<Done>, StoreFault>
+    ghost service: { Service }
+    requires serves { (K.told keeper.old).service ≡ service }
     requires short { length group.now ≤ max_group }
     requires few { length pending.old.items ≤ max_settled }
     requires named { All HasId (entries_of group.now) }
-    requires performed { All (IsPerformed K.model) (entries_of group.now) }
+    requires performed { All (IsPerformed service) (entries_of group.now) }
     ensures count { IfOk result (λ dones. length dones.items ≡ length group.now) }
     ensures called { Called (K.told keeper.old) (K.told keeper.new) result }
     ensures may { AnswersNoMore (K.told keeper.old) (K.told keeper.new) }
-    ensures ok { IfOk result (λ dones. Performs (K.told keeper.old) (K.told keeper.new)
-        (handed_to (kept_of K.model.service (entries_of group.now)) (ids_of pending.old.items))
+    ensures ok { IfOk result (λ dones. Performs (of_service service (K.told keeper.old))
+        (of_service service (K.told keeper.new))
+        (handed_to (kept_of service (entries_of group.now)) (ids_of pending.old.items))
         (entries_of group.now) dones.items) }
     // With seen requests alone it only looks.
-    ensures looked { kept_of K.model.service (entries_of group.now) ≡ []
+    ensures looked { kept_of service (entries_of group.now) ≡ []
         → Looked (K.told keeper.old) (K.told keeper.new) result }
-    ensures acts { IfOk result (λ dones. ActsOn (K.told keeper.old) (K.told keeper.new)
-        (handed_to (kept_of K.model.service (entries_of group.now)) (ids_of pending.old.items))
+    ensures acts { IfOk result (λ dones. ActsOn (of_service service (K.told keeper.old))
+        (of_service service (K.told keeper.new))
+        (handed_to (kept_of service (entries_of group.now)) (ids_of pending.old.items))
         (entries_of group.now) dones.items) }
-    ensures others { OnOk result (KeepsOthers (K.told keeper.old) (K.told keeper.new)
-        (handed_to (kept_of K.model.service (entries_of group.now)) (ids_of pending.old.items)) (entries_of group.now)) }
-    ensures lots { OnOk result (KeepsLots (K.told keeper.old) (K.told keeper.new)
-        (handed_to (kept_of K.model.service (entries_of group.now)) (ids_of pending.old.items)) (entries_of group.now)) }
+    ensures others { OnOk result (KeepsOthers (of_service service (K.told keeper.old))
+        (of_service service (K.told keeper.new))
+        (handed_to (kept_of service (entries_of group.now)) (ids_of pending.old.items)) (entries_of group.now)) }
+    ensures lots { OnOk result (KeepsLots (of_service service (K.told keeper.old))
+        (of_service service (K.told keeper.new))
+        (handed_to (kept_of service (entries_of group.now)) (ids_of pending.old.items)) (entries_of group.now)) }
     ensures crash { LeavesGroup (K.told keeper.old) (K.told keeper.new)
-        (handed_to (kept_of K.model.service (entries_of group.now)) (ids_of pending.old.items)) (entries_of group.now) }
+        (handed_to (kept_of service (entries_of group.now)) (ids_of pending.old.items)) (entries_of group.now) }
     ensures crash_acts { LeavesActed (K.told keeper.old) (K.told keeper.new)
-        (handed_to (kept_of K.model.service (entries_of group.now)) (ids_of pending.old.items)) (entries_of group.now) }
+        (handed_to (kept_of service (entries_of group.now)) (ids_of pending.old.items)) (entries_of group.now) }
     ensures firm { OnOk result ((K.told keeper.new).is_honest
-        → IsFirm (K.told keeper.old) ⊎ ¬ (kept_of K.model.service (entries_of group.now) ≡ [])
+        → IsFirm (K.told keeper.old) ⊎ ¬ (kept_of service (entries_of group.now) ≡ [])
         → IsFirm (K.told keeper.new)) }
     ensures same { K.became keeper.old keeper.new 0 }
     ensures asked { K.performed keeper.old keeper.new
         (performances_of (entries_of group.now)
-        (handed_to (kept_of K.model.service (entries_of group.now)) (ids_of pending.old.items))) }
+        (handed_to (kept_of service (entries_of group.now)) (ids_of pending.old.items))) }
 
     // An empty group changes nothing.
     ensures none { group.now ≡ [] → IsOk result × (keeper.new ≡ keeper.old) }
     ensures pending { OnOk result (ids_of pending.new.items
-        ≡ left_pending (kept_of K.model.service (entries_of group.now))
+        ≡ left_pending (kept_of service (entries_of group.now))
         (ids_of pending.old.items)) }
     ensures capacity { vec_capacity pending.new ≡ vec_capacity pending.old }
     ensures err { OnErr result (pending.new ≡ pending.old) }
@@ -100,7 +110,7 @@ pub fn perform_group<K: Keeper>(
     if group.is_empty() {
         return Ok(Vec::new(alloc));
     }
-    let kept = has_kept::<K>(group);
+    let kept = has_kept(keeper, group);
     match keeper.perform(group, handed(kept, pending.as_slice())) {
         Ok(dones) => {
             forget_if(kept, pending);

@@ -96,7 +96,7 @@ impl<F: FileSystem> PlainKeeper<F> {
         group: &[(Request<'_>, Moment)],
         settled: &[Id],
     ) -> Result<Vec<Done>, StoreFault>
-        requires { All (IsPerformed F.model) (entries_of group.now) }
+        requires { All (IsPerformed F.model.service) (entries_of group.now) }
         ensures count { IfOk result (λ dones. length dones.items ≡ length group.now) }
         ensures ok { IfOk result (λ dones. (s : F.model.State) (h : History) (t : List ℕ)
             → StandsBy F.model (plain_holds F.model F.held self.old) s h t
@@ -134,7 +134,7 @@ impl<F: FileSystem> Keeper for PlainKeeper<F> {
     ghost use Rattle.std.proofs.Common.{sym, ◌∙◌};
     ghost use Rattle.fuse_keeper.specs.PlainKeeper.{plain_told, plain_records};
     ghost use Rattle.fuse_keeper.specs.KeeperState.{IsFirm, Reports, Called, Looked, AnswersNoMore};
-    ghost use Rattle.std.specs.Prelude.{◌⊎◌, true, is_err};
+    ghost use Rattle.std.specs.Prelude.{◌⊎◌, true, is_err, refl};
     ghost use Rattle.fuse_keeper.specs.KeeperState.{BeginsMount, DropsLots, LeavesMount};
     ghost use Rattle.fuse_keeper.specs.Stands.{Records, CountsRecords};
 
@@ -146,11 +146,11 @@ impl<F: FileSystem> Keeper for PlainKeeper<F> {
 
     ghost performed = { λ a b list. Unit {0} };
 
-    fn serves(opcode: u32) -> bool {
+    fn serves(&self, opcode: u32) -> bool {
         F::serves(opcode)
     }
 
-    fn sees(opcode: u32) -> bool {
+    fn sees(&self, opcode: u32) -> bool {
         F::sees(opcode)
     }
 
@@ -261,6 +261,7 @@ impl<F: FileSystem> Keeper for PlainKeeper<F> {
     ghost sound = { λ k. record {
       one_holding = λ x y p q one two. (one.0 ∙ sym two.0, λ i. one.1 i ∙ sym (two.1 i));
       clean_is_honest = λ clean. clean;
+      service = λ honest. refl;
     } };
 
     ghost memory_is_clean = { λ k memory. memory };

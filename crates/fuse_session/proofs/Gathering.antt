@@ -2,10 +2,11 @@
 use Rattle.std.proofs.Common.{◌≡◌, ◌≢◌, inl, inr, ℕ, ◌+◌, ◌<◌, ◌==◌, Bool, true, false, not, ◌&&◌, if◌then◌else◌, List, [], ◌∷◌, ◌++◌, length, take}
 use Rattle.std.proofs.Common.{get_or}
 use Rattle.std.proofs.Common.{All, refl, sym, ap, subst, ◌∙◌, arith}
-use Rattle.std.proofs.lemmas.List.{take_more, append-nil, map-append, map_more, length-map}
+use Rattle.std.proofs.lemmas.List.{take_more, append-nil, map-append, map_more, length-map, length-take}
 use Rattle.std.proofs.lemmas.List.Concat.{flat_map-append}
-use Rattle.std.proofs.lemmas.List.Elements.{All-append}
+use Rattle.std.proofs.lemmas.List.Elements.{All-append, All-take}
 use Rattle.fuse_request.specs.Opcodes.{Service}
+use Rattle.fuse_request.specs.Stream.{IsMessage}
 use Rattle.fuse_wire.specs.Ids.{id_of}
 use Rattle.fuse_wire.specs.declared.moment.Moment.{Moment}
 use Rattle.fuse_request.specs.declared.request.Request.{Request}
@@ -158,10 +159,10 @@ named_some V bytes taken taken' one t each named some pushed =
     subst (All HasId) (sym (ap entries_of pushed ∙ map-append entry_of taken (one ∷ [])))
     (All-append HasId (entries_of taken) (entry_of one ∷ []) each (only_one HasId (entry_of one) here))
 
-pub kept_some : (M : Model) → (taken taken' : List (Request × Moment)) (one : Request × Moment) → All (IsPerformed M) (entries_of taken) → All (IsPerformed M) (entry_of one ∷ [])
-    → taken' ≡ taken ++ one ∷ [] → All (IsPerformed M) (entries_of taken')
-kept_some M taken taken' one each here pushed =
-    subst (All (IsPerformed M)) (sym (ap entries_of pushed ∙ map-append entry_of taken (one ∷ []))) (All-append (IsPerformed M) (entries_of taken) (entry_of one ∷ []) each here)
+pub kept_some : (V : Service) → (taken taken' : List (Request × Moment)) (one : Request × Moment) → All (IsPerformed V) (entries_of taken) → All (IsPerformed V) (entry_of one ∷ [])
+    → taken' ≡ taken ++ one ∷ [] → All (IsPerformed V) (entries_of taken')
+kept_some V taken taken' one each here pushed =
+    subst (All (IsPerformed V)) (sym (ap entries_of pushed ∙ map-append entry_of taken (one ∷ []))) (All-append (IsPerformed V) (entries_of taken) (entry_of one ∷ []) each here)
 
 -- the class of one message more
 pub classes_more : (V : Service) → (ms : List (List ℕ)) (i : ℕ) (m bytes : List ℕ) (classes classes' : List Class) (class : Class) → i < length ms → m ≡ get_or ms i m
@@ -203,3 +204,11 @@ pub gathers_to : (V : Service) → (gave : List Moment → Type 0) (messages : L
     (taken : List (Request × Moment)) (ends : Bool) → count ≡ n
     → Gathers V gave (take n messages) taken ends → Gathers V gave (take count messages) taken ends
 gathers_to V gave messages n count taken ends is gathers = subst (λ k. Gathers V gave (take k messages) taken ends) (sym is) gathers
+
+-- ---- the first messages
+
+pub first_messages : (n : ℕ) (ms : List (List ℕ)) → All IsMessage ms → All IsMessage (take n ms)
+first_messages n ms each = All-take IsMessage n ms each
+
+pub first_few : (n : ℕ) (ms : List (List ℕ)) (bound : ℕ) → length ms < bound → length (take n ms) < bound
+first_few n ms bound few = omega (arith, length-take n ms, few)

@@ -173,7 +173,7 @@ pub broken_store : (M : Model) → SeenByClass → (holds holds' : KeeperState M
     → performed (performances_of (entries_of group) (handed_to (kept_of M.service (entries_of group)) pending)) → became []
     → (holds'.is_clean → KeepsHeld holds holds')
     → (holds'.is_clean → (s : M.State) (h : History) (t : List ℕ) → StandsFor holds s h t → holds.may_answer fault)
-    → ((s : M.State) (h : History) (t : List ℕ) → StandsFor holds s h t → Includes t pending
+    → (holds'.is_honest → (s : M.State) (h : History) (t : List ℕ) → StandsFor holds s h t → Includes t pending
     → All (IsUnsettled t) (kept_of M.service (entries_of group))
     → IsFirm holds → Leaves holds' (StandsForEither M (standing M s h t) (standing M s (grown h (kept_of M.service (entries_of group))) t)))
     → (kept_of M.service (entries_of group) ≡ [] → OnlySaw holds holds' (IsIntact holds' (ByStore fault)))
@@ -216,7 +216,7 @@ broken_store M sees holds holds' gave performed became p pending messages count 
           leaves_map M holds' (StandsForEither M (standing M s h t) (standing M s (grown h kept) t))
           (λ x r. Lived M (standing M s h t) (exchanged p.confirms ts []) (StandAt M x r) [])
           (λ x r either. stored M s h p.confirms t ts kept x r kept_is (works_group M s h ts gathers.no_zero gathers.only) either)
-          (crash s h t so within (subst (All (IsUnsettled t)) (sym kept_is) (group_unsettled V p.confirms t ts [] again)) firm);
+          (crash honest s h t so within (subst (All (IsUnsettled t)) (sym kept_is) (group_unsettled V p.confirms t ts [] again)) firm);
       few = λ intact t again h.
           (pending, few_same M holds' p.confirms t pending ts (few_kept M holds holds' t pending (keeps (intact.clean refl)) h));
       looked = λ none. looked (kept_is ∙ none);

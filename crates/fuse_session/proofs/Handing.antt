@@ -12,7 +12,7 @@ use Rattle.fuse_keeper.specs.History.{Entry, entry_id, is_seen, unless_seen, kep
 use Rattle.fuse_keeper.specs.Model.{Model, IsOfGoodState}
 use Rattle.fuse_keeper.specs.Stands.{Records, OthersStay}
 use Rattle.fuse_keeper.specs.declared.keeper.Done.{Done}
-use Rattle.fuse_keeper.specs.KeeperState.{KeeperState, KeepsHeld, OfHeld, WhereHeld, HoldsOthers, Performs, LeavesGroup}
+use Rattle.fuse_keeper.specs.KeeperState.{KeeperState, of_service, IsSound, KeepsHeld, OfHeld, WhereHeld, HoldsOthers, Performs, LeavesGroup}
 use Rattle.fuse_keeper.specs.Group.{entry_of, entries_of, ids_of, handed_to, left_pending}
 use Rattle.fuse_session.specs.Port.{PortState}
 use Rattle.fuse_session.specs.Processed.{Timed, bytes_of, kept_in}
@@ -300,6 +300,15 @@ pub leaves_all : (M : Model) → (holds holds' : KeeperState M) (pending : List 
     → LeavesGroup holds holds' (handed_to kept pending) es
     → LeavesGroup holds holds' pending es
 leaves_all M holds holds' pending kept es leaves s h t so within un firm = leaves s h t so (handed_within t pending kept within) un firm
+
+-- the service that a keeper gave is that of the model, where it is honest afterwards
+pub gives : (M : Model) → (V : Service) (k k' : KeeperState M) → k.service ≡ V → k'.service ≡ k.service → IsSound k' → k'.is_honest → V ≡ M.service
+gives M V k k' is stays sound honest = sym is ∙ sym stays ∙ sound.service honest
+
+-- so what a crash leaves is said of the model with that service
+pub leaves_for : (M : Model) → (V : Service) (holds holds' : KeeperState M) (ids : List ℕ) (es : List Entry) → V ≡ M.service → LeavesGroup holds holds' ids es
+    → LeavesGroup (of_service V holds) (of_service V holds') ids es
+leaves_for M V holds holds' ids es is leaves = subst (λ W. LeavesGroup (of_service W holds) (of_service W holds') ids es) (sym is) leaves
 
 -- what is still pending then was pending
 pub left_within : (pending left : List ℕ) (kept : List Entry) → left ≡ left_pending kept pending → (t : List ℕ) → Includes t pending

@@ -43,4 +43,5 @@ pub record Session {M : Model} (p : Passage M) (turns : ℕ) (served : Served) :
   pub firm : ended_store served.ended ≡ false → KeepsFirm p.keeper p.keeper'
   pub honest : p.keeper'.is_honest → p.keeper.is_honest
   pub medium : p.keeper.in_memory → p.keeper'.in_memory
+  pub service : p.keeper'.service ≡ p.keeper.service
   pub may : AnswersNoMore p.keeper p.keeper'

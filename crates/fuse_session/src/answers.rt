@@ -4,6 +4,7 @@ ghost use Rattle.std.specs.Prelude.{OnOk};
 ghost use Rattle.fuse_answer.specs.Wire.{wire};
 ghost use Rattle.fuse_request.specs.Stream.{IsMessage};
 ghost use Rattle.fuse_request.specs.Classes.{class_for};
+ghost use Rattle.fuse_request.specs.Opcodes.{Service};
 ghost use Rattle.fuse_session.specs.Processed.{unique_of};
 ghost use Rattle.fuse_session.specs.Grouping.{is_performed_class};
 ghost use Rattle.fuse_keeper.specs.Group.{ids_of};
@@ -18,7 +19,7 @@ use crate::fault::Fault;
 use crate::port::{Passed, Port, PortFailed, send_whole};
 use bytes::Bytes;
 use fuse_answer::{Answer, write_answer};
-use fuse_keeper::{Done, Keeper};
+use fuse_keeper::Done;
 use fuse_request::Class;
 use fuse_wire::{Errno, Id};
 use std::alloc::Global;
@@ -59,17 +60,18 @@ fn is_settled<P: Port>(port: &P, passed: Passed) -> bool
 }
 
 // Sends a recorded answer. Its id is pending then, where the answer settles it.
-fn send_kept<K: Keeper, P: Port>(
+fn send_kept<P: Port>(
     alloc: Global,
     port: &mut P,
     message: &[u8],
     answer: &Answer,
     pending: &mut Vec<Id>,
 ) -> Result<(), Fault>
+    ghost service: { Service }
     requires message { IsMessage message.now }
-    requires kept { class_for K.model.service message.now ≡ Class.Kept }
+    requires kept { class_for service message.now ≡ Class.Kept }
     requires young { IsYoung (P.told port.old) }
-    ensures ok { OnOk result (SentNext K.model.service (sending (P.became port.old port.new)
+    ensures ok { OnOk result (SentNext service (sending (P.became port.old port.new)
         (P.told port.old) (P.told port.new) (ids_of pending.old.items) (ids_of pending.new.items))
         message.now (wire answer.now.errno answer.now.body (unique_of message.now))) }
     ensures err { IfErr result (λ fault. SendFails fault (P.became port.old port.new) (P.told port.old) (P.told port.new)
@@ -129,7 +131,7 @@ fn send_seen<P: Port>(
 }
 
 // Sends the answer to one message of this class, and says how many answers are used then.
-fn send_next<K: Keeper, P: Port>(
+fn send_next<P: Port>(
     alloc: Global,
     port: &mut P,
     message: &[u8],
@@ -138,21 +140,22 @@ fn send_next<K: Keeper, P: Port>(
     next: usize,
     pending: &mut Vec<Id>,
 ) -> Result<usize, Fault>
+    ghost service: { Service }
     requires message { IsMessage message.now }
-    requires class { class ≡ class_for K.model.service message.now }
+    requires class { class ≡ class_for service message.now }
     requires next { next ≤ length dones.now }
-    requires enough { is_performed_class (class_for K.model.service message.now) ≡ true
+    requires enough { is_performed_class (class_for service message.now) ≡ true
         → next < length dones.now }
     requires young { IsYoung (P.told port.old) }
     ensures next { IfOk result (λ n. n ≤ length dones.now) }
     ensures left { IfOk result (λ n. drop n (answers_in dones.now)
-        ≡ left_by (class_for K.model.service message.now) (drop next (answers_in dones.now))) }
-    ensures ok { OnOk result (SentNext K.model.service (sending (P.became port.old port.new)
+        ≡ left_by (class_for service message.now) (drop next (answers_in dones.now))) }
+    ensures ok { OnOk result (SentNext service (sending (P.became port.old port.new)
         (P.told port.old) (P.told port.new) (ids_of pending.old.items) (ids_of pending.new.items))
-        message.now (head_wire (class_for K.model.service message.now) (unique_of message.now)
+        message.now (head_wire (class_for service message.now) (unique_of message.now)
         (drop next (answers_in dones.now)))) }
     ensures err { IfErr result (λ fault. SendFails fault (P.became port.old port.new) (P.told port.old) (P.told port.new)
-        (head_wire (class_for K.model.service message.now) (unique_of message.now)
+        (head_wire (class_for service message.now) (unique_of message.now)
         (drop next (answers_in dones.now)))) }
 {
     match class {
@@ -161,7 +164,7 @@ fn send_next<K: Keeper, P: Port>(
             Ok(_) => Ok(next),
             Err(fault) => Err(fault),
         },
-        Class::Kept => match send_kept::<K, P>(alloc, port, message, &dones[next].answer, pending) {
+        Class::Kept => match send_kept(alloc, port, message, &dones[next].answer, pending) {
             Ok(()) => Ok(next + 1),
             Err(fault) => Err(fault),
         },
@@ -174,7 +177,7 @@ fn send_next<K: Keeper, P: Port>(
 
 /// Sends the answers to messages of these classes, in order. The ids that they settle are pending
 /// then.
-pub(crate) fn send_answers<K: Keeper, P: Port>(
+pub(crate) fn send_answers<P: Port>(
     alloc: Global,
     port: &mut P,
     messages: &[Bytes],
@@ -182,20 +185,21 @@ pub(crate) fn send_answers<K: Keeper, P: Port>(
     dones: &[Done],
     pending: &mut Vec<Id>,
 ) -> Result<(), Fault>
+    ghost service: { Service }
     requires messages { All IsMessage messages.now }
-    requires classes { classes.now ≡ classes_in K.model.service messages.now }
-    requires enough { AreEnough K.model.service messages.now (answers_in dones.now) }
+    requires classes { classes.now ≡ classes_in service messages.now }
+    requires enough { AreEnough service messages.now (answers_in dones.now) }
     requires young { IsYoung (P.told port.old) }
-    ensures ok { OnOk result (SentAll K.model.service (sending (P.became port.old port.new)
+    ensures ok { OnOk result (SentAll service (sending (P.became port.old port.new)
         (P.told port.old) (P.told port.new) (ids_of pending.old.items) (ids_of pending.new.items))
-        messages.now (wires K.model.service messages.now (answers_in dones.now))) }
+        messages.now (wires service messages.now (answers_in dones.now))) }
     ensures err { IfErr result (λ fault. SentSome (P.became port.old port.new) (P.told port.old) (P.told port.new)
-        (wires K.model.service messages.now (answers_in dones.now)) fault) }
+        (wires service messages.now (answers_in dones.now)) fault) }
 {
     let mut next = 0;
     for (place, message) in messages.iter().enumerate() {
         let bytes = message.as_slice();
-        match send_next::<K, P>(alloc, port, bytes, classes[place], dones, next, pending) {
+        match send_next(alloc, port, bytes, classes[place], dones, next, pending) {
             Ok(used) => next = used,
             Err(fault) => return Err(fault),
         }

@@ -2,13 +2,14 @@
 ghost use Rattle.std.specs.Prelude.{◌≡◌, ◌≤◌, ◌<◌, ◌-◌, ◌^◌, is_none, length, drop, All};
 ghost use Rattle.fuse_request.specs.Stream.{IsMessage};
 ghost use Rattle.fuse_request.specs.Faults.{first_fault};
+ghost use Rattle.fuse_request.specs.Opcodes.{Service};
 ghost use Rattle.fuse_session.specs.Counting.{plus, counted_one, is_interrupt};
 ghost use Rattle.fuse_session.specs.inner.Counting.{IsBelow};
 ghost use Rattle.fuse_session.specs.inner.Group.{tallied, repeats_in, head_repeat, left_by, classes_in};
 
 use crate::gather::has_opcode;
 use bytes::Bytes;
-use fuse_keeper::{Done, Keeper};
+use fuse_keeper::Done;
 use fuse_request::opcode::INTERRUPT;
 use fuse_request::{Class, decode};
 
@@ -133,15 +134,12 @@ fn used_after(class: Class, dones: &[Done], next: usize) -> usize
 }
 
 /// Counts the messages of a group, which are of these classes, by the answers to them.
-pub(crate) fn count_all<K: Keeper>(
-    messages: &[Bytes],
-    classes: &[Class],
-    dones: &[Done],
-) -> SessionCounts
+pub(crate) fn count_all(messages: &[Bytes], classes: &[Class], dones: &[Done]) -> SessionCounts
+    ghost service: { Service }
     requires messages { All IsMessage messages.now }
-    requires classes { classes.now ≡ classes_in K.model.service messages.now }
+    requires classes { classes.now ≡ classes_in service messages.now }
     requires few { length messages.now < 2 ^ 60 }
-    ensures tallied { result ≡ tallied K.model.service messages.now (repeats_in dones.now) }
+    ensures tallied { result ≡ tallied service messages.now (repeats_in dones.now) }
     ensures below { IsBelow result (length messages.now) }
 {
     let mut counts = SessionCounts::NONE;

@@ -4,6 +4,7 @@ ghost use Rattle.fuse_wire.specs.declared.moment.Moment.{Moment as MomentValue};
 ghost use Rattle.fuse_request.specs.Stream.{IsMessage};
 ghost use Rattle.fuse_request.specs.Classes.{class_for};
 ghost use Rattle.fuse_request.specs.Header.{raw_of};
+ghost use Rattle.fuse_request.specs.Opcodes.{Service};
 ghost use Rattle.fuse_keeper.specs.Group.{entries_of, HasId, IsPerformed};
 ghost use Rattle.fuse_keeper.specs.declared.keeper.TheConstants.{MAX_GROUP as max_group};
 ghost use Rattle.fuse_session.specs.Grouping.{one_group, groups_of, asked_in};
@@ -39,17 +40,18 @@ pub(crate) fn has_opcode(message: &[u8], opcode: u32) -> bool
 }
 
 // The request of a message of this class, and its moment: only a kept or a seen one has it.
-fn read_one<'a, K: Keeper, C: Clock>(
+fn read_one<'a, C: Clock>(
     clock: &mut C,
     message: &'a [u8],
     class: Class,
 ) -> Option<(Request<'a>, Moment)>
+    ghost service: { Service }
     requires message { IsMessage message.now }
-    requires class { class ≡ class_for K.model.service message.now }
+    requires class { class ≡ class_for service message.now }
     ensures entry { (t : MomentValue) × (entries_of (as_list result)
-        ≡ performed_if (class_for K.model.service message.now) (message_entry message.now t))
-        × C.gave clock.old clock.new (moment_if (class_for K.model.service message.now) t) }
-    ensures kept { All (IsPerformed K.model) (entries_of (as_list result)) }
+        ≡ performed_if (class_for service message.now) (message_entry message.now t))
+        × C.gave clock.old clock.new (moment_if (class_for service message.now) t) }
+    ensures kept { All (IsPerformed service) (entries_of (as_list result)) }
 {
     match class {
         Class::Kept | Class::Seen => match decode(message) {
@@ -76,22 +78,25 @@ fn is_kept_destroy(message: &[u8], class: Class) -> bool
 /// none after a kept DESTROY.
 pub(crate) fn gather<'a, K: Keeper, C: Clock>(
     alloc: Global,
+    keeper: &K,
     clock: &mut C,
     messages: &'a [Bytes],
 ) -> Result<Gathered<'a>, AllocError>
-    requires { All IsMessage messages.now }
+    ghost service: { Service }
+    requires serves { (K.told keeper.now).service ≡ service }
+    requires messages { All IsMessage messages.now }
     ensures within { IfOk result (λ r. length r.classes.items ≤ length messages.now) }
     ensures classes { IfOk result (λ r.
-        r.classes.items ≡ classes_in K.model.service (take (length r.classes.items) messages.now)) }
-    ensures gathers { IfOk result (λ r. Gathers K.model.service (C.gave clock.old clock.new)
+        r.classes.items ≡ classes_in service (take (length r.classes.items) messages.now)) }
+    ensures gathers { IfOk result (λ r. Gathers service (C.gave clock.old clock.new)
         (take (length r.classes.items) messages.now) r.taken.items r.ends) }
     ensures few { IfOk result (λ r. length r.taken.items ≤ max_group) }
     ensures named { IfOk result (λ r. All HasId (entries_of r.taken.items)) }
-    ensures kept { IfOk result (λ r. All (IsPerformed K.model) (entries_of r.taken.items)) }
+    ensures kept { IfOk result (λ r. All (IsPerformed service) (entries_of r.taken.items)) }
     ensures stuck { IfOk result (λ r. length r.classes.items ≡ 0 → IsStuck messages.now) }
-    ensures groups { IfOk result (λ r. groups_of K.model.service messages.now
+    ensures groups { IfOk result (λ r. groups_of service messages.now
         ≡ one_group (asked_in (entries_of r.taken.items))
-        ++ groups_of K.model.service (drop (length r.classes.items) messages.now)) }
+        ++ groups_of service (drop (length r.classes.items) messages.now)) }
     ensures logged { (given : List MomentValue) × C.gave clock.old clock.new given }
 {
     let mut classes = Vec::new(alloc);
@@ -105,9 +110,9 @@ pub(crate) fn gather<'a, K: Keeper, C: Clock>(
                 ends: false,
             });
         }
-        let class = classify::<K>(bytes);
+        let class = classify(keeper, bytes);
         classes.push(class)?;
-        if let Some(one) = read_one::<K, C>(clock, bytes, class) {
+        if let Some(one) = read_one(clock, bytes, class) {
             let ends = is_kept_destroy(bytes, class);
             taken.push(one)?;
             if ends {

@@ -2,13 +2,14 @@
 ghost use Rattle.std.specs.Prelude.{◌≡◌, ◌≤◌, ◌<◌, ◌&&◌, ◌==◌, [], true, false, length, take};
 ghost use Rattle.std.specs.Prelude.{drop, ◌^◌, All, IfOk, IfErr, OnOk};
 ghost use Rattle.fuse_request.specs.Stream.{IsMessage};
-ghost use Rattle.fuse_keeper.specs.KeeperState.{AnswersNoMore};
+ghost use Rattle.fuse_request.specs.Opcodes.{Service};
+ghost use Rattle.fuse_keeper.specs.KeeperState.{AnswersNoMore, of_service};
 ghost use Rattle.fuse_keeper.specs.Group.{ids_of};
 ghost use Rattle.fuse_keeper.specs.declared.keeper.TheConstants.{MAX_SETTLED as max_settled};
 ghost use Rattle.fuse_session.specs.Port.{IsYoung, IsQuiet};
 ghost use Rattle.fuse_session.specs.Processed.{StartsZero};
 ghost use Rattle.fuse_session.specs.Deeds.{Did};
-ghost use Rattle.fuse_session.specs.Passage.{passage};
+ghost use Rattle.fuse_session.specs.Passage.{passage_for};
 ghost use Rattle.fuse_session.specs.Starts.{KeptRecords, HoldsUnder};
 ghost use Rattle.fuse_session.specs.Ended.{ended_store, IsIntact};
 ghost use Rattle.fuse_session.specs.Serving.{KeepsFirm, TookTurn, Broken, lasts, goes_on};
@@ -90,6 +91,8 @@ impl<K: Keeper, P: Port, C: Clock> Session<'_, '_, '_, '_, K, P, C> {
     /// Serves one group: reads it off the first messages, performs it, and sends its answers once
     /// it is committed.
     pub(crate) fn serve_group(&mut self, messages: &[Bytes]) -> Result<Progress, Fault>
+        ghost service: { Service }
+        requires serves { (K.told self.old.keeper.now).service ≡ service }
         requires messages { All IsMessage messages.now }
         requires going { (K.told self.old.keeper.now).has_failed ≡ false }
         requires young { IsYoung (P.told self.old.port.now) }
@@ -100,11 +103,11 @@ impl<K: Keeper, P: Port, C: Clock> Session<'_, '_, '_, '_, K, P, C> {
             → progress.count ≡ 0 → messages.now ≡ []) }
         ensures zero { IfOk result (λ progress. progress.next ≡ Next.ZeroUnique
             → StartsZero (drop progress.count messages.now)) }
-        ensures ok { IfOk result (λ progress. TookTurn (muted (passage (K.told self.old.keeper.now)
+        ensures ok { IfOk result (λ progress. TookTurn (muted (passage_for service (K.told self.old.keeper.now)
             (K.told self.new.keeper.now) (P.told self.old.port.now) (P.told self.new.port.now)
             (Did (C.gave self.old.clock.now self.new.clock.now)
-            (Grouped K.model.service messages.now
-            (groups_of K.model.service (drop progress.count messages.now))
+            (Grouped service messages.now
+            (groups_of service (drop progress.count messages.now))
             (K.performed self.old.keeper.now self.new.keeper.now))
             (P.became self.old.port.now self.new.port.now))))
             (ids_of self.old.pending.now.items) (ids_of self.new.pending.now.items)
@@ -118,30 +121,31 @@ impl<K: Keeper, P: Port, C: Clock> Session<'_, '_, '_, '_, K, P, C> {
             → KeepsFirm (K.told self.old.keeper.now) (K.told self.new.keeper.now)) }
         ensures more { OnOk result ((P.told self.old.port.now).confirms ≡ true
             → (K.told self.new.keeper.now).is_honest → (before : KeptRecords)
-            → HandsOn before (K.told self.old.keeper.now) (ids_of self.old.pending.now.items)
-            → HandsOn before (K.told self.new.keeper.now) (ids_of self.new.pending.now.items)) }
+            → HandsOn before (of_service service (K.told self.old.keeper.now)) (ids_of self.old.pending.now.items)
+            → HandsOn before (of_service service (K.told self.new.keeper.now)) (ids_of self.new.pending.now.items)) }
         ensures failures { OnOk result
             ((P.told self.new.port.now).failures ≡ (P.told self.old.port.now).failures) }
-        ensures err { IfErr result (λ fault. Broken (muted (passage (K.told self.old.keeper.now)
+        ensures err { IfErr result (λ fault. Broken (muted (passage_for service (K.told self.old.keeper.now)
             (K.told self.new.keeper.now) (P.told self.old.port.now) (P.told self.new.port.now)
             (Did (C.gave self.old.clock.now self.new.clock.now)
-            (GroupedSome K.model.service messages.now
+            (GroupedSome service messages.now
             (K.performed self.old.keeper.now self.new.keeper.now))
             (P.became self.old.port.now self.new.port.now))))
             (ids_of self.old.pending.now.items) messages.now (ended_at fault)) }
         ensures may { AnswersNoMore (K.told self.old.keeper.now) (K.told self.new.keeper.now) }
         ensures medium { (K.told self.old.keeper.now).in_memory
             → (K.told self.new.keeper.now).in_memory }
-        ensures at_most { IfErr result (λ fault. IsIntact (K.told self.new.keeper.now) (ended_at fault)
+        ensures at_most { IfErr result (λ fault. IsIntact (of_service service (K.told self.new.keeper.now)) (ended_at fault)
             → (before : KeptRecords)
-            → HandsOn before (K.told self.old.keeper.now) (ids_of self.old.pending.now.items)
-            → HoldsUnder before (K.told self.new.keeper.now)) }
+            → HandsOn before (of_service service (K.told self.old.keeper.now)) (ids_of self.old.pending.now.items)
+            → HoldsUnder before (of_service service (K.told self.new.keeper.now))) }
         ensures failed { IfErr result (λ fault. FailedBy (ended_port (ended_at fault))
             (P.told self.old.port.now).failures (P.told self.new.port.now).failures) }
         ensures store { IfErr result (λ fault. (K.told self.new.keeper.now).has_failed
             ≡ ended_store (ended_at fault)) }
         ensures honest { (K.told self.new.keeper.now).is_honest
             → (K.told self.old.keeper.now).is_honest }
+        ensures stays { (K.told self.new.keeper.now).service ≡ service }
         ensures quiet { IsQuiet (P.told self.old.port.now) (P.told self.new.port.now) }
         ensures unopened { K.became self.old.keeper.now self.new.keeper.now 0 }
         ensures loans { SameLoans self.old self.new }
@@ -150,7 +154,7 @@ impl<K: Keeper, P: Port, C: Clock> Session<'_, '_, '_, '_, K, P, C> {
         kept_groups_grow::<K>();
         still_stands::<K>();
         seen_by_class();
-        let Ok(gathered) = gather::<K, C>(self.alloc, self.clock, messages) else {
+        let Ok(gathered) = gather(self.alloc, self.keeper, self.clock, messages) else {
             return Err(Fault::Memory);
         };
         let count = gathered.classes.len();
@@ -162,7 +166,7 @@ impl<K: Keeper, P: Port, C: Clock> Session<'_, '_, '_, '_, K, P, C> {
             Err(fault) => return Err(Fault::Store(fault)),
         };
         let answered = dones.as_slice();
-        match send_answers::<K, P>(
+        match send_answers(
             self.alloc,
             self.port,
             first,
@@ -173,7 +177,7 @@ impl<K: Keeper, P: Port, C: Clock> Session<'_, '_, '_, '_, K, P, C> {
             Ok(()) => Ok(Progress {
                 count,
                 next: next_of(gathered.ends, answered, is_stuck(count, messages)),
-                counts: count_all::<K>(first, classes, answered),
+                counts: count_all(first, classes, answered),
             }),
             Err(fault) => Err(fault),
         }

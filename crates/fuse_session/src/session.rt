@@ -4,12 +4,13 @@ ghost use Rattle.std.specs.Prelude.{length, take, IfOk, IfErr, OnOk, IfSome};
 ghost use Rattle.fuse_request.specs.Framing.{fed_of};
 ghost use Rattle.fuse_request.specs.Stream.{joined};
 ghost use Rattle.fuse_request.specs.declared.header.TheConstants.{MAX_MESSAGE as max_message};
+ghost use Rattle.fuse_request.specs.Opcodes.{Service};
 ghost use Rattle.fuse_keeper.specs.KeeperState.{AnswersNoMore};
 ghost use Rattle.fuse_keeper.specs.Group.{ids_of};
 ghost use Rattle.fuse_keeper.specs.declared.keeper.TheConstants.{MAX_SETTLED as max_settled};
 ghost use Rattle.fuse_session.specs.Port.{IsYoung};
 ghost use Rattle.fuse_session.specs.Deeds.{Did};
-ghost use Rattle.fuse_session.specs.Passage.{passage};
+ghost use Rattle.fuse_session.specs.Passage.{passage, passage_for};
 ghost use Rattle.fuse_session.specs.Ends.{counts_at};
 ghost use Rattle.fuse_session.specs.Session.{Session as SessionServed};
 ghost use Rattle.fuse_session.specs.inner.Counting.{IsBelow, plus_if};
@@ -137,6 +138,8 @@ impl<K: Keeper, P: Port, C: Clock> Session<'_, '_, '_, '_, K, P, C> {
         framer: &mut Framer,
         buffer: &mut [u8],
     ) -> Result<SessionCounts, Served>
+        ghost service: { Service }
+        requires serves { (K.told self.old.keeper.now).service ≡ service }
         requires going { (K.told self.old.keeper.now).has_failed ≡ false }
         requires young { IsYoung (P.told self.old.port.now) }
         requires spare { (P.told self.old.port.now).receives + 1 < 2 ^ 63 }
@@ -144,14 +147,14 @@ impl<K: Keeper, P: Port, C: Clock> Session<'_, '_, '_, '_, K, P, C> {
         requires opened { IsOpen framer.old }
         requires room { length buffer.old ≡ max_message }
         requires fed { fed_of framer.old + length buffer.old ≤ 2 ^ 59 }
-        ensures ok { IfOk result (λ counts. TurnPassed (passage (K.told self.old.keeper.now)
+        ensures ok { IfOk result (λ counts. TurnPassed (passage_for service (K.told self.old.keeper.now)
             (K.told self.new.keeper.now) (P.told self.old.port.now) (P.told self.new.port.now)
             (Did (C.gave self.old.clock.now self.new.clock.now)
             (K.performed self.old.keeper.now self.new.keeper.now)
             (P.became self.old.port.now self.new.port.now)))
             (waits (ids_of self.old.pending.now.items) framer.old)
             (waits (ids_of self.new.pending.now.items) framer.new) counts) }
-        ensures err { IfErr result (λ served. TurnEnded (passage (K.told self.old.keeper.now)
+        ensures err { IfErr result (λ served. TurnEnded (passage_for service (K.told self.old.keeper.now)
             (K.told self.new.keeper.now) (P.told self.old.port.now) (P.told self.new.port.now)
             (Did (C.gave self.old.clock.now self.new.clock.now)
             (K.performed self.old.keeper.now self.new.keeper.now)
@@ -170,6 +173,7 @@ impl<K: Keeper, P: Port, C: Clock> Session<'_, '_, '_, '_, K, P, C> {
             → (K.told self.new.keeper.now).in_memory }
         ensures honest { (K.told self.new.keeper.now).is_honest
             → (K.told self.old.keeper.now).is_honest }
+        ensures stays { (K.told self.new.keeper.now).service ≡ service }
         ensures unopened { K.became self.old.keeper.now self.new.keeper.now 0 }
         ensures loans { SameLoans self.old self.new }
     {
@@ -210,6 +214,8 @@ fn one_turn<K: Keeper, P: Port, C: Clock>(
     buffer: &mut [u8],
     pending: &mut Vec<Id>,
 ) -> Result<SessionCounts, Served>
+    ghost service: { Service }
+    requires serves { (K.told keeper.old).service ≡ service }
     requires going { (K.told keeper.old).has_failed ≡ false }
     requires young { IsYoung (P.told port.old) }
     requires spare { (P.told port.old).receives + 1 < 2 ^ 63 }
@@ -217,12 +223,14 @@ fn one_turn<K: Keeper, P: Port, C: Clock>(
     requires opened { IsOpen framer.old }
     requires room { length buffer.old ≡ max_message }
     requires fed { fed_of framer.old + length buffer.old ≤ 2 ^ 59 }
-    ensures ok { IfOk result (λ counts. TurnPassed (passage (K.told keeper.old) (K.told keeper.new)
+    ensures ok { IfOk result (λ counts. TurnPassed (passage_for service (K.told keeper.old)
+        (K.told keeper.new)
         (P.told port.old) (P.told port.new) (Did (C.gave clock.old clock.new)
         (K.performed keeper.old keeper.new) (P.became port.old port.new)))
         (waits (ids_of pending.old.items) framer.old) (waits (ids_of pending.new.items) framer.new)
         counts) }
-    ensures err { IfErr result (λ served. TurnEnded (passage (K.told keeper.old) (K.told keeper.new)
+    ensures err { IfErr result (λ served. TurnEnded (passage_for service (K.told keeper.old)
+        (K.told keeper.new)
         (P.told port.old) (P.told port.new) (Did (C.gave clock.old clock.new)
         (K.performed keeper.old keeper.new) (P.became port.old port.new)))
         (waits (ids_of pending.old.items) framer.old) served) }
@@ -235,6 +243,7 @@ fn one_turn<K: Keeper, P: Port, C: Clock>(
     ensures may { AnswersNoMore (K.told keeper.old) (K.told keeper.new) }
     ensures medium { (K.told keeper.old).in_memory → (K.told keeper.new).in_memory }
     ensures honest { (K.told keeper.new).is_honest → (K.told keeper.old).is_honest }
+    ensures stays { (K.told keeper.new).service ≡ service }
     ensures unopened { K.became keeper.old keeper.new 0 }
 {
     let mut session = Session {
@@ -247,23 +256,20 @@ fn one_turn<K: Keeper, P: Port, C: Clock>(
     session.serve_turn(framer, buffer)
 }
 
-/// Serves the messages of a port: receives at most `turns` times, processes all whole messages
-/// after each of them in groups of at most 16 kept and seen ones, and sends the answers of a group
-/// once it is committed. The keeper gets the ids that the answers settle with the next group that
-/// has a kept one.
-pub fn serve<K: Keeper, P: Port, C: Clock>(
+// Serves the messages of a port, as `serve` says, where `service` is what the keeper gives.
+fn serve_turns<K: Keeper, P: Port, C: Clock>(
     alloc: Global,
     keeper: &mut K,
     port: &mut P,
     clock: &mut C,
     turns: u32,
 ) -> Served
+    ghost service: { Service }
+    requires serves { (K.told keeper.old).service ≡ service }
     requires going { (K.told keeper.old).has_failed ≡ false }
     requires receives { (P.told port.old).receives < 2 ^ 62 }
     requires failures { (P.told port.old).failures < 2 ^ 62 }
-    // What a session promises of the keeper and the port: `ends`, `life`, `prompt` and the other
-    // parts of it.
-    ensures session { SessionServed (passage (K.told keeper.old) (K.told keeper.new)
+    ensures session { SessionServed (passage_for service (K.told keeper.old) (K.told keeper.new)
         (P.told port.old) (P.told port.new) (Did (C.gave clock.old clock.new)
         (K.performed keeper.old keeper.new) (P.became port.old port.new))) turns result }
     ensures unopened { K.became keeper.old keeper.new 0 }
@@ -305,4 +311,34 @@ pub fn serve<K: Keeper, P: Port, C: Clock>(
         ended: Ended::Turns,
         counts: Some(counts),
     }
+}
+
+/// Serves the messages of a port: receives at most `turns` times, processes all whole messages
+/// after each of them in groups of at most 16 kept and seen ones, and sends the answers of a group
+/// once it is committed. The keeper gets the ids that the answers settle with the next group that
+/// has a kept one.
+pub fn serve<K: Keeper, P: Port, C: Clock>(
+    alloc: Global,
+    keeper: &mut K,
+    port: &mut P,
+    clock: &mut C,
+    turns: u32,
+) -> Served
+    requires going { (K.told keeper.old).has_failed ≡ false }
+    requires receives { (P.told port.old).receives < 2 ^ 62 }
+    requires failures { (P.told port.old).failures < 2 ^ 62 }
+    // What a session promises of the keeper and the port: `ends`, `life`, `prompt` and the other
+    // parts of it.
+    ensures session { SessionServed (passage_for (K.told keeper.old).service (K.told keeper.old)
+        (K.told keeper.new) (P.told port.old) (P.told port.new) (Did (C.gave clock.old clock.new)
+        (K.performed keeper.old keeper.new) (P.became port.old port.new))) turns result }
+    // It is said with the service that the keeper gives. Where the keeper is honest, that is the
+    // service of its file system, and so all of it is said of the file system itself.
+    ensures of_model { (K.told keeper.new).is_honest
+        → SessionServed (passage (K.told keeper.old) (K.told keeper.new)
+        (P.told port.old) (P.told port.new) (Did (C.gave clock.old clock.new)
+        (K.performed keeper.old keeper.new) (P.became port.old port.new))) turns result }
+    ensures unopened { K.became keeper.old keeper.new 0 }
+{
+    serve_turns(alloc, keeper, port, clock, turns)
 }

@@ -51,7 +51,7 @@ none_gathered M group none is alive = record {
   entries = ap entries_of is;
   few = omega (arith, ap length is);
   named = subst (λ (t : List (Request × Moment)). All HasId (entries_of t)) (sym is) (All-nil HasId);
-  kept = subst (λ (t : List (Request × Moment)). All (IsPerformed M) (entries_of t)) (sym is) (All-nil (IsPerformed M));
+  kept = subst (λ (t : List (Request × Moment)). All (IsPerformed M.service) (entries_of t)) (sym is) (All-nil (IsPerformed M.service));
 }
 
 -- one more
@@ -111,11 +111,11 @@ named_more have V bytes taken taken' one t named some pushed each =
     subst (All HasId) (sym (ap entries_of pushed ∙ map-append entry_of taken (one ∷ [])))
     (All-append HasId (entries_of taken) (entry_of one ∷ []) each (only_one HasId (entry_of one) here))
 
-kept_more : (M : Model) (taken taken' : List (Request × Moment)) (one : Request × Moment) → All (IsPerformed M) (entry_of one ∷ [])
-    → taken' ≡ taken ++ one ∷ [] → All (IsPerformed M) (entries_of taken) → All (IsPerformed M) (entries_of taken')
+kept_more : (M : Model) (taken taken' : List (Request × Moment)) (one : Request × Moment) → All (IsPerformed M.service) (entry_of one ∷ [])
+    → taken' ≡ taken ++ one ∷ [] → All (IsPerformed M.service) (entries_of taken) → All (IsPerformed M.service) (entries_of taken')
 kept_more M taken taken' one here pushed each =
-    subst (All (IsPerformed M)) (sym (ap entries_of pushed ∙ map-append entry_of taken (one ∷ [])))
-    (All-append (IsPerformed M) (entries_of taken) (entry_of one ∷ []) each here)
+    subst (All (IsPerformed M.service)) (sym (ap entries_of pushed ∙ map-append entry_of taken (one ∷ [])))
+    (All-append (IsPerformed M.service) (entries_of taken) (entry_of one ∷ []) each here)
 
 entries_one : (V : Service) (run : List Event) (e : Event) (es : List Entry) → dies_before e.fate ≡ false
     → es ≡ performed_if (class_for V e.bytes) (message_entry e.bytes e.moment) → performs_in V run ++ es ≡ performs_in V (run ++ e ∷ [])
@@ -149,7 +149,7 @@ few_more n m few room is = grind (arith, few, room, is)
 
 -- an event with its request
 pub joins_kept : (M : Model) → PerformedHaveIds → (e : Event) (old new : Group) (one : Request × Moment) → old.died ≡ false → IsFit e → dies_before e.fate ≡ false
-    → entry_of one ∷ [] ≡ performed_if (class_for M.service e.bytes) (message_entry e.bytes e.moment) → All (IsPerformed M) (entry_of one ∷ [])
+    → entry_of one ∷ [] ≡ performed_if (class_for M.service e.bytes) (message_entry e.bytes e.moment) → All (IsPerformed M.service) (entry_of one ∷ [])
     → (length old.taken.items ≡ MAX_GROUP → ⊥)
     → new.classes.items ≡ old.classes.items ++ class_for M.service e.bytes ∷ [] → new.taken.items ≡ old.taken.items ++ one ∷ []
     → dies e.fate ≡ new.died → (new.died ≡ true → e.fate ≡ DiedAfterCommit) → Joins M e old new
@@ -180,5 +180,5 @@ joins_bare M e old new alive fit goes none classed same is dead =
       entries = ap entries_of same ∙ g.entries ∙ sym (append-nil (performs_in M.service run)) ∙ entries_one M.service run e [] goes none;
       few = omega (arith, g.few, ap length same);
       named = subst (λ (t : List (Request × Moment)). All HasId (entries_of t)) (sym same) g.named;
-      kept = subst (λ (t : List (Request × Moment)). All (IsPerformed M) (entries_of t)) (sym same) g.kept;
+      kept = subst (λ (t : List (Request × Moment)). All (IsPerformed M.service) (entries_of t)) (sym same) g.kept;
     }

@@ -1,5 +1,5 @@
 -- A group that was performed.
-use Rattle.std.proofs.Common.{◌≡◌, ℕ, suc, ◌<◌, true, false, List, [], ◌∷◌, ◌++◌, length, map, All, Option, Some, Err, option_map, refl, sym}
+use Rattle.std.proofs.Common.{◌≡◌, ℕ, suc, ◌<◌, true, false, List, [], ◌∷◌, ◌++◌, length, map, All, Option, Some, Ok, Err, option_map, refl, sym}
 use Rattle.std.proofs.Common.{ap, subst, ◌∙◌, arith}
 use Rattle.std.proofs.lemmas.List.{length-map, map-append}
 use Rattle.std.proofs.lemmas.List.Elements.{All-nil, All-cons}
@@ -15,8 +15,8 @@ use Rattle.fuse_request.specs.Classes.{class_for, SeenByClass}
 use Rattle.fuse_keeper.specs.History.{Entry, entry_id, History, HistoriesGrow, add, after, answer_if, answer_to, answers_over, grown, kept_of, said, unless_seen}
 use Rattle.fuse_keeper.specs.History.{IsUnsettled}
 use Rattle.fuse_keeper.specs.declared.fault.StoreFault.{StoreFault}
-use Rattle.fuse_keeper.specs.Model.{Model, IsOfGoodState}
-use Rattle.fuse_keeper.specs.KeeperState.{KeeperState, StandsFor, IsFirm, ActsOn, KeepsOthers, Called}
+use Rattle.fuse_keeper.specs.Model.{Model, serving, IsOfGoodState}
+use Rattle.fuse_keeper.specs.KeeperState.{KeeperState, of_service, StandsFor, IsFirm, ActsOn, KeepsOthers, Called}
 use Rattle.fuse_keeper.specs.Taking.{GroupsGrow}
 use Rattle.fuse_keeper.specs.Group.{entry_of, entries_of, handed_to, left_pending}
 use Rattle.fuse_keeper.specs.declared.keeper.Done.{Done}
@@ -190,15 +190,29 @@ worked M grows histories sees holds holds' run taken pending mid pending' dones 
       firm = firm;
     }
 
--- a fault is one whatever would have been answered
-pub called_err : (M : Model) → {A B : Type 0} (k k' : KeeperState M) (fault : StoreFault) → Called {M = M} {A = A} k k' (Err fault)
-    → Called {M = M} {A = B} k k' (Err fault)
-called_err M k k' fault called = record {
+-- a call of a keeper is one of the keeper of the model with its service, whatever it answers
+pub called_err : (M : Model) → {A B : Type 0} (V : Service) (k k' : KeeperState M) (fault : StoreFault) → (k'.is_clean → V ≡ M.service)
+    → Called {M = M} {A = A} k k' (Err fault) → Called {M = serving V M} {A = B} (of_service V k) (of_service V k') (Err fault)
+called_err M V k k' fault same called = record {
   failed = called.failed;
   honest = called.honest;
   medium = called.medium;
+  service = called.service;
   clean = tt;
   err = called.err;
   err_lots = called.err_lots;
-  fault = called.fault;
+  fault = λ clean s h t so. called.fault clean s h t (subst (λ W. StandsFor (of_service W k) s h t) (same clean) so);
+}
+
+pub called_ok : (M : Model) → {A B : Type 0} (V : Service) (k k' : KeeperState M) (a : A) (b : B)
+    → Called {M = M} {A = A} k k' (Ok a) → Called {M = serving V M} {A = B} (of_service V k) (of_service V k') (Ok b)
+called_ok M V k k' a b called = record {
+  failed = called.failed;
+  honest = called.honest;
+  medium = called.medium;
+  service = called.service;
+  clean = called.clean;
+  err = tt;
+  err_lots = tt;
+  fault = λ clean s h t so. tt;
 }

@@ -17,3 +17,4 @@ mod InARow
 mod Marks
 mod Pendings
 mod Lifetimes
+mod Served

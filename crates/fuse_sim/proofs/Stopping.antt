@@ -1,6 +1,6 @@
 -- Faults at the events that are run, and the keepers that they leave.
 use Rattle.std.proofs.Common.{◌≡◌, inl, inr, ℕ, zero, suc, ◌+◌, ◌-◌, ◌≤◌, ◌<◌, Bool, true, false, List, [], ◌∷◌, ◌++◌, length, take, drop, All, Option, Some}
-use Rattle.std.proofs.Common.{None, IsSomeAnd, IfSome, slice_get, refl, sym, ap, subst, ◌∙◌, append_assoc, length-append, arith}
+use Rattle.std.proofs.Common.{None, IsSomeAnd, IfSome, Result, Ok, Err, is_err, OnOk, slice_get, refl, sym, ap, subst, ◌∙◌, append_assoc, length-append, arith}
 use Rattle.std.proofs.Math.Seq.{take-append_seam}
 use Rattle.std.proofs.lemmas.List.{take-append-drop, take_all, length-take-le, length-drop, drop-drop}
 use Rattle.std.proofs.lemmas.List.Elements.{All-append, All-pop}
@@ -19,6 +19,11 @@ use Rattle.fuse_sim.specs.Driving.{told_in, IsFit, event_of, StandsIn, became_in
 use Rattle.fuse_sim.specs.Twice.{Seen}
 use Rattle.fuse_sim.specs.inner.Running.{IsGroupRun, BeginsGroup, GathersEvents, StopsAt, RefusesAfterDeath, StopsAtEvent}
 use Rattle.fuse_sim.proofs.Openings.{became_itself, deaths_first, deaths-append, medium_itself, medium_some}
+
+-- what is so of an Ok, where there was no error
+pub where_ok : {X E : Type 0} (r : Result X E) (P : Type 0) → is_err r ≡ false → OnOk r P → P
+where_ok (Ok x) P isnt so = so
+where_ok (Err e) P isnt so = absurd (cc isnt)
 
 -- ---- places
 

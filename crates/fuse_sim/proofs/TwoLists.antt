@@ -1,5 +1,6 @@
 -- A fault at the first of two lists of events, or at the second one.
-use Rattle.std.proofs.Common.{◌≡◌, inl, inr, ℕ, Bool, true, false, List, [], ◌++◌, All, Option, None, refl, sym}
+use Rattle.std.proofs.Common.{◌≡◌, inl, inr, ℕ, Bool, true, false, List, [], ◌++◌, All, Option, None, Some, IfSome, refl, sym, subst}
+use Rattle.fuse_request.specs.Opcodes.{Service}
 use Rattle.fuse_keeper.specs.declared.fault.StoreFault.{StoreFault}
 use Rattle.fuse_keeper.specs.History.{History}
 use Rattle.fuse_keeper.specs.Model.{Model}
@@ -26,7 +27,7 @@ pub record FaultOf {M : Model} {K : Type 0} (k : Seen M K) (old new : Option K) 
   pub records : LeftBy (told_in k.told new) (is_store fault) (DeletesHanded k.told old new (performances M.service (before fault list)) (before fault list))
   pub opened : (new ≡ None → ⊥) → Opened k.told k.became old new (before fault list)
   pub stood : (new ≡ None → ⊥) → StoodBefore k.told k.became old new (before fault list)
-  pub asked : (new ≡ None → ⊥) → AskedSome k.performed old new (AsksUpTo M.service list fault)
+  pub asked : (new ≡ None → ⊥) → AskedSome k.performed old new (AsksUpTo (told_in k.told old).service list fault)
   pub store : is_store fault ≡ true → (told_in k.told new).is_clean → (s : M.State) (h : History) (t : List ℕ) → StandsIn k.told old s h t
       → NoneReused M.service t (before fault list) → AnsweredBy k.told k.became old new (before fault list) fault
   pub emptied : new ≡ None → OfRestart k.became k.may_refuse old (before fault list) list fault
@@ -39,14 +40,15 @@ pub record WholeOf {M : Model} {K : Type 0} (k : Seen M K) (old new : Option K) 
   pub records : DeletesHanded k.told old new (performances M.service list) list
   pub opened : Opened k.told k.became old new list
   pub stood : StoodBefore k.told k.became old new list
-  pub asked : performed_in k.performed old new (performances M.service list)
+  pub asked : performed_in k.performed old new (performances (told_in k.told old).service list)
+  pub stays : IfSome new (λ x. (k.told x).service ≡ (told_in k.told old).service)
   pub firm : (told_in k.told new).is_honest → IsFirm (told_in k.told old) → IsFirm (told_in k.told new)
 
 -- ---- at the first list
 
-then_none : (M : Model) → {K : Type 0} (performed : K → K → List Performance → Type 0) (old new : Option K) (list : List Event) (fault : DriveFault)
-    → AskedSome performed old new (AsksUpTo M.service list fault) → AskedSome performed old new (AsksThen M.service [] list fault)
-then_none M performed old new list fault some = (some.0, (some.0, some.1, refl), some.2)
+then_none : (V : Service) → {K : Type 0} (performed : K → K → List Performance → Type 0) (old new : Option K) (list : List Event) (fault : DriveFault)
+    → AskedSome performed old new (AsksUpTo V list fault) → AskedSome performed old new (AsksThen V [] list fault)
+then_none V performed old new list fault some = (some.0, (some.0, some.1, refl), some.2)
 
 pub stopped_first : (M : Model) → {K : Type 0} (k : Seen M K) (old new : Option K) (events more : List Event) (fault : DriveFault)
     → FaultOf k old new events fault → StoppedAt k old new events more fault
@@ -56,7 +58,7 @@ stopped_first M k old new events more fault one = inl (record {
   records = one.records;
   opened = one.opened;
   stood = one.stood;
-  asked = λ there. then_none M k.performed old new events fault (one.asked there);
+  asked = λ there. then_none (told_in k.told old).service k.performed old new events fault (one.asked there);
   store = one.store;
   emptied = one.emptied;
   firm = one.firm;
@@ -83,13 +85,20 @@ records_twice : (M : Model) → {K : Type 0} (told : K → KeeperState M) (old m
 records_twice M told old mid new xs ys true was one two = λ clean. records_in_a_row M told old mid new xs ys was one (two clean)
 records_twice M told old mid new xs ys false was one two = λ honest. records_in_a_row M told old mid new xs ys was one (two honest)
 
-asked_twice : (M : Model) → {K : Type 0} (performed : K → K → List Performance → Type 0) → IsPerformanceLog performed → (old mid new : Option K)
-    (first list : List Event) (fault : DriveFault) → performed_in performed old mid (performances M.service first)
-    → AskedSome performed mid new (AsksUpTo M.service list fault) → AskedSome performed old new (AsksThen M.service first list fault)
-asked_twice M performed law old mid new first list fault asked some = (
-  performances M.service first ++ some.0,
+-- the keeper in the middle gives the service of the first
+pub serves_mid : {M : Model} {K : Type 0} (told : K → KeeperState M) (performed : K → K → List Performance → Type 0) (V : Service) (old mid : Option K)
+    (list : List Performance) → performed_in performed old mid list → IfSome mid (λ x. (told x).service ≡ V) → (told_in told mid).service ≡ V
+serves_mid told performed V None mid list asked stays = absurd asked
+serves_mid told performed V (Some a) None list asked stays = absurd asked
+serves_mid told performed V (Some a) (Some b) list asked stays = stays
+
+asked_twice : (V : Service) → {K : Type 0} (performed : K → K → List Performance → Type 0) → IsPerformanceLog performed → (old mid new : Option K)
+    (first list : List Event) (fault : DriveFault) → performed_in performed old mid (performances V first)
+    → AskedSome performed mid new (AsksUpTo V list fault) → AskedSome performed old new (AsksThen V first list fault)
+asked_twice V performed law old mid new first list fault asked some = (
+  performances V first ++ some.0,
   (some.0, some.1, refl),
-  performed_then performed law old mid new (performances M.service first) some.0 (performances M.service first ++ some.0) asked some.2 refl,
+  performed_then performed law old mid new (performances V first) some.0 (performances V first ++ some.0) asked some.2 refl,
 )
 
 answered_twice : (M : Model) → {K : Type 0} (told : K → KeeperState M) (became : K → K → ℕ → Type 0) → IsCount became → (old mid new : Option K)
@@ -128,7 +137,9 @@ stopped_second M k law log old mid new events more fault too was one two =
         opened = λ there. opened_twice M k.told k.became law old mid new events ys was one.stands one.opened (two.opened there);
         stood = λ there. stood_twice M k.told k.became law old mid new events ys was one.stands one.opened.often (two.opened there).often one.stood
             (two.stood there);
-        asked = λ there. asked_twice M k.performed log old mid new events more fault one.asked (two.asked there);
+        asked = λ there. asked_twice (told_in k.told old).service k.performed log old mid new events more fault one.asked
+            (subst (λ V. AskedSome k.performed mid new (AsksUpTo V more fault))
+            (serves_mid k.told k.performed (told_in k.told old).service old mid _ one.asked one.stays) (two.asked there));
         store = λ kind clean s h t so none.
             let parts = reused-parts M.service t events ys none in
             answered_twice M k.told k.became law old mid new events ys fault one.opened.often

@@ -12,9 +12,9 @@ use Rattle.fuse_request.specs.Opcodes.{Service}
 use Rattle.fuse_request.specs.Stream.{cut}
 use Rattle.fuse_keeper.specs.declared.fault.StoreFault.{StoreFault}
 use Rattle.fuse_keeper.specs.History.{Entry, History, answer_to, after, grown, said}
-use Rattle.fuse_keeper.specs.Model.{Model}
+use Rattle.fuse_keeper.specs.Model.{Model, serving}
 use Rattle.fuse_keeper.specs.Lots.{no_lots}
-use Rattle.fuse_keeper.specs.KeeperState.{KeeperState, StandsFor, KeepsHeld}
+use Rattle.fuse_keeper.specs.KeeperState.{KeeperState, of_service, StandsFor, KeepsHeld}
 use Rattle.fuse_keeper.specs.Bounds.{max_group_len}
 use Rattle.fuse_keeper.specs.Performance.{Performance}
 use Rattle.fuse_session.specs.Processed.{unique_of, message_id, message_entry, entry_if, performed_if}
@@ -141,7 +141,7 @@ NoneReused V t (e ∷ es) = MayCome V t e.bytes × NoneReused V (t ++ settles V 
 
 -- the state of the keeper, if there is one: nothing holds of none
 abbrev pub told_in : {M : Model} {K : Type 0} → (K → KeeperState M) → Option K → KeeperState M
-told_in told None = record {
+told_in {M} told None = record {
   holds = λ rows records. ⊥;
   is_honest = ⊥;
   is_clean = ⊥;
@@ -151,8 +151,13 @@ told_in told None = record {
   may_leave = λ rows records. ⊥;
   may_answer = λ fault. ⊥;
   lots = no_lots;
+  service = M.service;
 }
-told_in told (Some k) = told k
+told_in {M} told (Some k) = told k
+
+-- the keepers of a type, as those of the model with this service
+abbrev pub told_for : {M : Model} {K : Type 0} → (V : Service) → (K → KeeperState M) → K → KeeperState (serving V M)
+told_for V told k = of_service V (told k)
 
 abbrev pub StandsIn : {M : Model} {K : Type 0} → (K → KeeperState M) → Option K → M.State → History → List ℕ → Type 0
 StandsIn told keeper = StandsFor (told_in told keeper)

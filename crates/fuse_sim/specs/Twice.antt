@@ -34,7 +34,7 @@ pub record StoppedInSecond {M : Model} {K : Type 0} (k : Seen M K) (old new : Op
       (DeletesHanded k.told old new (performances M.service first ++ performances M.service (before fault list)) (first ++ before fault list))
   pub opened : ¬ (new ≡ None) → Opened k.told k.became old new (first ++ before fault list)
   pub stood : ¬ (new ≡ None) → StoodBefore k.told k.became old new (first ++ before fault list)
-  pub asked : ¬ (new ≡ None) → AskedSome k.performed old new (AsksThen M.service first list fault)
+  pub asked : ¬ (new ≡ None) → AskedSome k.performed old new (AsksThen (told_in k.told old).service first list fault)
   pub store : is_store fault ≡ true → (told_in k.told new).is_clean → (s : M.State) (h : History) (t : List ℕ) → StandsIn k.told old s h t
       → NoneReused M.service t (first ++ before fault list) → AnsweredBy k.told k.became old new (first ++ before fault list) fault
   pub emptied : new ≡ None → OfRestart k.became k.may_refuse old (first ++ before fault list) list fault

@@ -1,247 +1,22 @@
 // Events, run to their end.
-ghost use Rattle.std.specs.Prelude.{◌≡◌, ◌≤◌, ◌<◌, ◌+◌, ◌++◌, ℕ, List, [], false, true};
-ghost use Rattle.std.specs.Prelude.{if◌then◌else◌, length, map, take, drop, All, vec_capacity};
-ghost use Rattle.std.specs.Prelude.{None, IsSome, IsSomeAnd, IfSome, is_err};
-ghost use Rattle.std.specs.Prelude.{IfOk, IfErr, OnOk, OnErr, MatchResult};
+ghost use Rattle.std.specs.Prelude.{◌≡◌, ◌++◌, List, ℕ, false, true, length, All, None};
+ghost use Rattle.std.specs.Prelude.{IsSomeAnd, IfSome, IfOk, IfErr, OnOk, MatchResult};
 ghost use Rattle.fuse_keeper.specs.History.{History};
-ghost use Rattle.fuse_keeper.specs.KeeperState.{Called, KeepsHeld, IsFirm};
-ghost use Rattle.fuse_keeper.specs.Group.{ids_of};
-ghost use Rattle.fuse_keeper.specs.declared.keeper.TheConstants.{MAX_SETTLED as max_settled};
+ghost use Rattle.fuse_keeper.specs.KeeperState.{IsFirm};
 ghost use Rattle.fuse_sim.specs.Driving.{told_in, StandsIn, committed};
-ghost use Rattle.fuse_sim.specs.Driving.{settled_by, NoneReused, IsFit, Names, event_of, before};
-ghost use Rattle.fuse_sim.specs.Driving.{is_store, IsStoreFault, LeftBy, OfRestart};
-ghost use Rattle.fuse_sim.specs.Driving.{became_in, performed_in, Opened, AnsweredBy, StoodBefore};
+ghost use Rattle.fuse_sim.specs.Driving.{settled_by, NoneReused, IsFit, Names, before};
+ghost use Rattle.fuse_sim.specs.Driving.{is_store, LeftBy, OfRestart};
+ghost use Rattle.fuse_sim.specs.Driving.{performed_in, Opened, AnsweredBy, StoodBefore};
 ghost use Rattle.fuse_sim.specs.Driving.{MayRefuse, KeepsMedium};
 ghost use Rattle.fuse_sim.specs.AfterEvents.{StandsAfter, AnswersAre, FirstAnswersAre};
 ghost use Rattle.fuse_sim.specs.AfterEvents.{DeletesHanded, KeepsUnhanded};
 ghost use Rattle.fuse_sim.specs.HandedOn.{performances, AsksUpTo, AskedSome};
 ghost use Rattle.fuse_sim.specs.Twice.{seen_of, StoppedAt};
-ghost use Rattle.fuse_sim.specs.inner.HandedBy.{IsOneGroup};
-ghost use Rattle.fuse_sim.specs.inner.Running.{stage, GathersEvents, BeginsGroup, Worked, Moved};
-ghost use Rattle.fuse_sim.specs.inner.Running.{Opens, StopsAtEvent, AsksGroup, StopsAsking};
 
 use crate::event::{DriveFault, Event, Outcome};
-use crate::group::{Group, answer_group, gather, is_before_commit, test_event};
-use fuse_keeper::{
-    Restart, StoreFault, histories_grow, kept_groups_grow, perform_group, still_stands,
-};
-use fuse_request::seen_by_class;
-use fuse_wire::Id;
-use std::alloc::{AllocError, Global};
-
-// Opens the keeper again. A fault leaves none.
-fn reopen<K: Restart>(keeper: &mut Option<K>) -> Result<(), StoreFault>
-    requires { IsSome keeper.old }
-    ensures same { OnOk result ((told_in K.told keeper.new).is_honest
-        → KeepsHeld (told_in K.told keeper.old) (told_in K.told keeper.new)) }
-    ensures honest { (told_in K.told keeper.new).is_honest → (told_in K.told keeper.old).is_honest }
-    ensures going { OnOk result (IsSomeAnd keeper.new (λ k. (K.told k).has_failed ≡ false)) }
-    ensures err { OnErr result (keeper.new ≡ None) }
-    ensures refused { IfErr result
-        (λ f. IsSomeAnd keeper.old (λ k. MayRefuse K.refuses k f)) }
-    ensures once { OnOk result (became_in K.became keeper.old keeper.new 1) }
-    ensures unasked { OnOk result (performed_in K.performed keeper.old keeper.new []) }
-    ensures firm { OnOk result ((told_in K.told keeper.new).is_honest
-        → IsFirm (told_in K.told keeper.new)) }
-    ensures medium { OnOk result (KeepsMedium K.told keeper.old keeper.new) }
-{
-    let old = keeper.take().unwrap();
-    match old.restart() {
-        Ok(opened) => {
-            *keeper = Some(opened);
-            Ok(())
-        }
-        Err((fault, _rest)) => Err(fault),
-    }
-}
-
-// Where the server dies at an event, of this number, it starts again, and nothing is pending.
-fn end_group<K: Restart>(
-    keeper: &mut Option<K>,
-    dies: bool,
-    event: usize,
-    pending: &mut Vec<Id>,
-) -> Result<(), DriveFault>
-    requires { IsSomeAnd keeper.old (λ k. (K.told k).has_failed ≡ false) }
-    ensures same { OnOk result ((told_in K.told keeper.new).is_honest
-        → KeepsHeld (told_in K.told keeper.old) (told_in K.told keeper.new)) }
-    ensures honest { (told_in K.told keeper.new).is_honest → (told_in K.told keeper.old).is_honest }
-    ensures going { OnOk result (IsSomeAnd keeper.new (λ k. (K.told k).has_failed ≡ false)) }
-    ensures pending { OnOk result
-        (pending.new.items ≡ (if dies then [] else pending.old.items)) }
-    ensures err { OnErr result ((keeper.new ≡ None) × (dies ≡ true)) }
-    ensures fault { IfErr result (λ f. (is_store f ≡ true) × (event_of f ≡ event)) }
-    ensures refused { IfErr result
-        (λ f. IsSomeAnd keeper.old (λ k. IsStoreFault (MayRefuse K.refuses k) f)) }
-    ensures opened { OnOk result
-        (became_in K.became keeper.old keeper.new (if dies then 1 else 0)) }
-    ensures unasked { OnOk result (performed_in K.performed keeper.old keeper.new []) }
-    ensures firm { OnOk result ((told_in K.told keeper.new).is_honest
-        → IsFirm (told_in K.told keeper.old) → IsFirm (told_in K.told keeper.new)) }
-    ensures medium { OnOk result (KeepsMedium K.told keeper.old keeper.new) }
-{
-    if !dies {
-        return Ok(());
-    }
-    pending.clear();
-    match reopen(keeper) {
-        Ok(()) => Ok(()),
-        Err(fault) => Err(DriveFault::Store { event, fault }),
-    }
-}
-
-// Room for the outcomes of so many events, and for so many ids.
-fn make_room(
-    outcomes: &mut Vec<Option<Outcome>>,
-    events: usize,
-    pending: &mut Vec<Id>,
-    ids: usize,
-) -> Result<(), AllocError>
-    ensures outcomes { outcomes.new.items ≡ outcomes.old.items }
-    ensures pending { pending.new.items ≡ pending.old.items }
-    ensures room { OnOk result (length outcomes.new.items + events ≤ vec_capacity outcomes.new) }
-    ensures places { OnOk result (length pending.new.items + ids ≤ vec_capacity pending.new) }
-{
-    outcomes.reserve(events)?;
-    pending.reserve(ids)
-}
-
-// Performs a group that was read off events, on the keeper that is there, and gives them their
-// outcomes. There is room for these, and for the ids that they settle.
-fn work_group<K: Restart>(
-    alloc: Global,
-    keeper: &mut Option<K>,
-    run: &[Event],
-    group: &Group<'_>,
-    pending: &mut Vec<Id>,
-    outcomes: &mut Vec<Option<Outcome>>,
-) -> Result<(), StoreFault>
-    requires gathers { GathersEvents K.model run.now group.now }
-    requires few { length pending.old.items ≤ max_settled }
-    requires going { IsSomeAnd keeper.old (λ k. (K.told k).has_failed ≡ false) }
-    requires room { length outcomes.old.items + length run.now ≤ vec_capacity outcomes.old }
-    requires places { length pending.old.items + length group.now.taken.items
-        ≤ vec_capacity pending.old }
-    ensures ok { OnOk result (Worked
-        (stage (told_in K.told keeper.old) (ids_of pending.old.items) outcomes.old.items)
-        (stage (told_in K.told keeper.new) (ids_of pending.new.items) outcomes.new.items)
-        run.now) }
-    ensures called { Called (told_in K.told keeper.old) (told_in K.told keeper.new) result }
-    ensures same { became_in K.became keeper.old keeper.new 0 }
-    ensures failed { IsSomeAnd keeper.new (λ k. (K.told k).has_failed ≡ is_err result) }
-    ensures asked { AsksGroup K.model.service K.performed keeper.old keeper.new
-        (ids_of pending.old.items) run.now }
-    ensures some { OnErr result (0 < length group.now.taken.items) }
-{
-    kept_groups_grow::<K>();
-    histories_grow::<K>();
-    still_stands::<K>();
-    seen_by_class();
-    let inner = keeper.as_mut().unwrap();
-    let dones = perform_group(alloc, inner, group.taken.as_slice(), pending)?;
-    answer_group::<K>(
-        alloc,
-        run,
-        group.classes.as_slice(),
-        dones,
-        pending,
-        outcomes,
-    );
-    Ok(())
-}
-
-// Runs the group that begins at a place, and says how many events it has.
-fn run_group<K: Restart>(
-    alloc: Global,
-    keeper: &mut Option<K>,
-    events: &[Event],
-    at: usize,
-    pending: &mut Vec<Id>,
-    outcomes: &mut Vec<Option<Outcome>>,
-) -> Result<usize, DriveFault>
-    requires begins { BeginsGroup (drop at events.now) }
-    requires few { length pending.old.items ≤ max_settled }
-    requires going { IsSomeAnd keeper.old (λ k. (K.told k).has_failed ≡ false) }
-    ensures moves { IfOk result (λ n. 0 < n) }
-    ensures within { IfOk result (λ n. at + n ≤ length events.now) }
-    ensures ok { IfOk result (λ n. Moved
-        (stage (told_in K.told keeper.old) (ids_of pending.old.items) outcomes.old.items)
-        (stage (told_in K.told keeper.new) (ids_of pending.new.items) outcomes.new.items)
-        (take n (drop at events.now)) (drop (at + n) events.now)) }
-    ensures opens { IfOk result (λ n. Opens K.told K.became keeper.old keeper.new
-        (ids_of pending.old.items) (take n (drop at events.now))) }
-    ensures few { OnOk result (length pending.new.items ≤ max_settled) }
-    ensures going { OnOk result (IsSomeAnd keeper.new (λ k. (K.told k).has_failed ≡ false)) }
-    ensures honest { (told_in K.told keeper.new).is_honest → (told_in K.told keeper.old).is_honest }
-    ensures err { IfErr result (StopsAtEvent (seen_of K.told K.became K.performed K.refuses)
-        keeper.old keeper.new events.now at) }
-    ensures one { IfOk result (λ n. IsOneGroup K.model.service (take n (drop at events.now))) }
-    ensures asked { IfOk result (λ n. AsksGroup K.model.service K.performed keeper.old keeper.new
-        (ids_of pending.old.items) (take n (drop at events.now))) }
-    ensures err_asked { IfErr result (StopsAsking (seen_of K.told K.became K.performed K.refuses)
-        keeper.old keeper.new (ids_of pending.old.items) (drop at events.now)) }
-{
-    still_stands::<K>();
-    seen_by_class();
-    let Ok(group) = gather::<K>(alloc, &events[at..]) else {
-        return Err(DriveFault::Memory { event: at });
-    };
-    let count = group.classes.len();
-    let run = &events[at..at + count];
-    if make_room(outcomes, count, pending, group.taken.len()).is_err() {
-        return Err(DriveFault::Memory { event: at });
-    }
-    if let Err(fault) = work_group(alloc, keeper, run, &group, pending, outcomes) {
-        return Err(DriveFault::Store { event: at, fault });
-    }
-    end_group(keeper, group.died, at + count - 1, pending)?;
-    Ok(count)
-}
-
-// Runs the events that come next, a group of them or one that is lost, and says how many.
-fn run_next<K: Restart>(
-    alloc: Global,
-    keeper: &mut Option<K>,
-    events: &[Event],
-    at: usize,
-    pending: &mut Vec<Id>,
-    outcomes: &mut Vec<Option<Outcome>>,
-) -> Result<usize, DriveFault>
-    requires at { at < length events.now }
-    requires few { length pending.old.items ≤ max_settled }
-    requires going { IsSomeAnd keeper.old (λ k. (K.told k).has_failed ≡ false) }
-    ensures moves { IfOk result (λ n. 0 < n) }
-    ensures within { IfOk result (λ n. at + n ≤ length events.now) }
-    ensures ok { IfOk result (λ n. Moved
-        (stage (told_in K.told keeper.old) (ids_of pending.old.items) outcomes.old.items)
-        (stage (told_in K.told keeper.new) (ids_of pending.new.items) outcomes.new.items)
-        (take n (drop at events.now)) (drop (at + n) events.now)) }
-    ensures opens { IfOk result (λ n. Opens K.told K.became keeper.old keeper.new
-        (ids_of pending.old.items) (take n (drop at events.now))) }
-    ensures few { OnOk result (length pending.new.items ≤ max_settled) }
-    ensures going { OnOk result (IsSomeAnd keeper.new (λ k. (K.told k).has_failed ≡ false)) }
-    ensures honest { (told_in K.told keeper.new).is_honest → (told_in K.told keeper.old).is_honest }
-    ensures err { IfErr result (StopsAtEvent (seen_of K.told K.became K.performed K.refuses)
-        keeper.old keeper.new events.now at) }
-    ensures one { IfOk result (λ n. IsOneGroup K.model.service (take n (drop at events.now))) }
-    ensures asked { IfOk result (λ n. AsksGroup K.model.service K.performed keeper.old keeper.new
-        (ids_of pending.old.items) (take n (drop at events.now))) }
-    ensures err_asked { IfErr result (StopsAsking (seen_of K.told K.became K.performed K.refuses)
-        keeper.old keeper.new (ids_of pending.old.items) (drop at events.now)) }
-{
-    still_stands::<K>();
-    let event = &events[at];
-    test_event(event, at)?;
-    if !is_before_commit(event.fate) {
-        return run_group(alloc, keeper, events, at, pending, outcomes);
-    }
-    if make_room(outcomes, 1, pending, 0).is_err() {
-        return Err(DriveFault::Memory { event: at });
-    }
-    end_group(keeper, true, at, pending)?;
-    outcomes.push_reserved(None);
-    Ok(1)
-}
+use crate::running::run_all;
+use fuse_keeper::{Restart, histories_grow};
+use std::alloc::Global;
 
 /// Runs events over a keeper, in groups, and returns the answer that the kernel takes for each.
 ///
@@ -277,10 +52,11 @@ pub fn drive<K: Restart>(
     // The keeper is opened again once for each event at which the server dies, after its commit.
     ensures opened { OnOk result (Opened K.told K.became keeper.old keeper.new events.now) }
 
-    // It is asked to perform just what the ledger of the events says: the groups, and with each that
-    // has a kept message the ids whose answers were taken before it.
+    // It is asked to perform just what the ledger of the events says, by the service that it gives:
+    // the groups, and with each that has a kept message the ids whose answers were taken before it.
     ensures asked { OnOk result
-        (performed_in K.performed keeper.old keeper.new (performances K.model.service events.now)) }
+        (performed_in K.performed keeper.old keeper.new
+        (performances (told_in K.told keeper.old).service events.now)) }
 
     // Why it faults; and where it does not, each event can be run.
     ensures fault_causes { MatchResult result
@@ -308,7 +84,7 @@ pub fn drive<K: Restart>(
     // was asked for what these ask for and, where the store answered the fault, for one group more,
     ensures asked_before { IfErr result (λ fault. ¬ (keeper.new ≡ None)
         → AskedSome K.performed keeper.old keeper.new
-        (AsksUpTo K.model.service events.now fault)) }
+        (AsksUpTo (told_in K.told keeper.old).service events.now fault)) }
     // and a fault of the store is one that the keeper may answer which was in place.
     ensures store { IfErr result (λ fault. is_store fault ≡ true
         → (told_in K.told keeper.new).is_clean
@@ -327,9 +103,11 @@ pub fn drive<K: Restart>(
         (λ fault. IfSome keeper.new (λ k. (K.told k).has_failed ≡ is_store fault)) }
 
     // A store that gave back the bytes that were written did so before, and a keeper that lay in
-    // memory alone does so.
+    // memory alone does so. Its service stays.
     ensures honest { (told_in K.told keeper.new).is_honest → (told_in K.told keeper.old).is_honest }
     ensures medium { KeepsMedium K.told keeper.old keeper.new }
+    ensures stays { IfSome keeper.new
+        (λ k. (K.told k).service ≡ (told_in K.told keeper.old).service) }
 
     // A keeper of which a crash could leave nothing but what it holds is such a one still, unless its
     // store answered a fault.
@@ -346,15 +124,10 @@ pub fn drive<K: Restart>(
     ensures kept { OnOk result (KeepsUnhanded K.told keeper.old keeper.new
         (performances K.model.service events.now) events.now) }
 {
-    histories_grow::<K>();
-    still_stands::<K>();
-    let mut outcomes = Vec::new(alloc);
-    let mut pending = Vec::new(alloc);
-    let mut at = 0;
-    while at < events.len() {
-        at += run_next(alloc, keeper, events, at, &mut pending, &mut outcomes)?;
+    match run_all(alloc, keeper, events) {
+        Ok(outcomes) => Ok(outcomes),
+        Err(fault) => Err(fault),
     }
-    Ok(outcomes)
 }
 
 /// Runs events, and then more of them. Where it goes to the end, the clauses of `drive` for one list
@@ -380,7 +153,8 @@ pub fn drive_twice<K: Restart>(
     ensures opened { OnOk result
         (Opened K.told K.became keeper.old keeper.new (events.now ++ more.now)) }
     ensures asked { OnOk result (performed_in K.performed keeper.old keeper.new
-        (performances K.model.service events.now ++ performances K.model.service more.now)) }
+        (performances (told_in K.told keeper.old).service events.now
+        ++ performances (told_in K.told keeper.old).service more.now)) }
     ensures fit { OnOk result (All IsFit (events.now ++ more.now)) }
 
     // The fault came at the first list, or at the second one after all of the first.

@@ -6,6 +6,8 @@ ghost use Rattle.std.specs.Vec.Iter.{into_iter_items};
 ghost use Rattle.fuse_answer.specs.Wire.{wire};
 ghost use Rattle.fuse_request.specs.Stream.{IsMessage};
 ghost use Rattle.fuse_request.specs.Classes.{class_for};
+ghost use Rattle.fuse_request.specs.Opcodes.{Service};
+ghost use Rattle.fuse_keeper.specs.Model.{serving};
 ghost use Rattle.fuse_keeper.specs.Group.{entries_of, IsPerformed, ids_of};
 ghost use Rattle.fuse_session.specs.Grouping.{is_performed_class};
 ghost use Rattle.fuse_session.specs.Processed.{performed_if, message_entry};
@@ -84,13 +86,14 @@ fn stands_apart(event: &Event) -> bool
 
 // The request of an event whose message is of this class, and its moment: only a kept or a seen one
 // has it.
-fn read_one<'a, K: Keeper>(event: &'a Event, class: Class) -> Option<(Request<'a>, Moment)>
+fn read_one<'a>(event: &'a Event, class: Class) -> Option<(Request<'a>, Moment)>
+    ghost service: { Service }
     requires message { IsMessage event.now.bytes }
-    requires class { class ≡ class_for K.model.service event.now.bytes }
+    requires class { class ≡ class_for service event.now.bytes }
     ensures entry { entries_of (as_list result)
-        ≡ performed_if (class_for K.model.service event.now.bytes)
+        ≡ performed_if (class_for service event.now.bytes)
         (message_entry event.now.bytes event.now.moment) }
-    ensures kept { All (IsPerformed K.model) (entries_of (as_list result)) }
+    ensures kept { All (IsPerformed service) (entries_of (as_list result)) }
 {
     match class {
         Class::Kept | Class::Seen => match decode(event.bytes.as_slice()) {
@@ -104,18 +107,24 @@ fn read_one<'a, K: Keeper>(event: &'a Event, class: Class) -> Option<(Request<'a
 
 // Takes an event into a group. False where the group ends before it: the server died, the event
 // stands apart, or it has a request and the group is full.
-fn take_in<'a, K: Keeper>(group: &mut Group<'a>, event: &'a Event) -> Result<bool, AllocError>
+fn take_in<'a, K: Keeper>(
+    keeper: &K,
+    group: &mut Group<'a>,
+    event: &'a Event,
+) -> Result<bool, AllocError>
+    ghost service: { Service }
+    requires serves { (K.told keeper.now).service ≡ service }
     ensures joins { IfOk result
-        (λ joins. joins ≡ true → Joins K.model event.now group.old group.new) }
+        (λ joins. joins ≡ true → Joins (serving service K.model) event.now group.old group.new) }
     ensures ends { IfOk result (λ joins. joins ≡ false
-        → (group.new ≡ group.old) × EndsWith K.model.service group.old event.now) }
+        → (group.new ≡ group.old) × EndsWith service group.old event.now) }
 {
     performed_have_ids();
     if group.died || stands_apart(event) {
         return Ok(false);
     }
-    let class = classify::<K>(event.bytes.as_slice());
-    if let Some(one) = read_one::<K>(event, class) {
+    let class = classify(keeper, event.bytes.as_slice());
+    if let Some(one) = read_one(event, class) {
         if group.taken.len() == MAX_GROUP {
             return Ok(false);
         }
@@ -130,13 +139,16 @@ fn take_in<'a, K: Keeper>(group: &mut Group<'a>, event: &'a Event) -> Result<boo
 /// and none after a crash.
 pub(crate) fn gather<'a, K: Keeper>(
     alloc: Global,
+    keeper: &K,
     events: &'a [Event],
 ) -> Result<Group<'a>, AllocError>
+    ghost service: { Service }
+    requires serves { (K.told keeper.now).service ≡ service }
     ensures within { IfOk result (λ r. length r.classes.items ≤ length events.now) }
     ensures gathers { IfOk result
-        (λ r. GathersEvents K.model (take (length r.classes.items) events.now) r) }
+        (λ r. GathersEvents (serving service K.model) (take (length r.classes.items) events.now) r) }
     ensures stops { IfOk result
-        (λ r. StopsAt K.model.service r (drop (length r.classes.items) events.now)) }
+        (λ r. StopsAt service r (drop (length r.classes.items) events.now)) }
 {
     let mut group = Group {
         classes: Vec::new(alloc),
@@ -144,7 +156,7 @@ pub(crate) fn gather<'a, K: Keeper>(
         died: false,
     };
     for event in events {
-        if !take_in::<K>(&mut group, event)? {
+        if !take_in(keeper, &mut group, event)? {
             return Ok(group);
         }
     }
@@ -170,20 +182,21 @@ fn outcome_with(unique: u64, answer: Answer) -> Outcome
 
 // The answer that the kernel takes to an event whose message is of this class. A kept or a seen one
 // uses the next answer.
-fn outcome_of_event<K: Keeper>(
+fn outcome_of_event(
     alloc: Global,
     event: &Event,
     class: Class,
     answers: &mut IntoIter<Done>,
 ) -> Option<Outcome>
+    ghost service: { Service }
     requires message { IsMessage event.now.bytes }
-    requires class { class ≡ class_for K.model.service event.now.bytes }
-    requires enough { is_performed_class (class_for K.model.service event.now.bytes) ≡ true
+    requires class { class ≡ class_for service event.now.bytes }
+    requires enough { is_performed_class (class_for service event.now.bytes) ≡ true
         → 0 < length (into_iter_items answers.old) }
     ensures outcome { bytes_given result
-        ≡ head_outcome K.model.service event.now (answers_in (into_iter_items answers.old)) }
+        ≡ head_outcome service event.now (answers_in (into_iter_items answers.old)) }
     ensures left { answers_in (into_iter_items answers.new)
-        ≡ left_by (class_for K.model.service event.now.bytes)
+        ≡ left_by (class_for service event.now.bytes)
         (answers_in (into_iter_items answers.old)) }
 {
     let answer = match class {
@@ -199,13 +212,14 @@ fn outcome_of_event<K: Keeper>(
 }
 
 // Adds the id that an event settles to the pending ones.
-fn settle<K: Keeper>(pending: &mut Vec<Id>, event: &Event, class: Class)
+fn settle(pending: &mut Vec<Id>, event: &Event, class: Class)
+    ghost service: { Service }
     requires message { IsMessage event.now.bytes }
-    requires class { class ≡ class_for K.model.service event.now.bytes }
-    requires place { class_for K.model.service event.now.bytes ≡ Class.Kept
+    requires class { class ≡ class_for service event.now.bytes }
+    requires place { class_for service event.now.bytes ≡ Class.Kept
         → length pending.old.items < vec_capacity pending.old }
     ensures settled { ids_of pending.new.items ≡ ids_of pending.old.items
-        ++ settles K.model.service event.now }
+        ++ settles service event.now }
     ensures capacity { vec_capacity pending.new ≡ vec_capacity pending.old }
 {
     let taken = is_answered(event.fate);
@@ -222,7 +236,7 @@ fn settle<K: Keeper>(pending: &mut Vec<Id>, event: &Event, class: Class)
 /// Gives the events of a group, whose messages are of these classes, their outcomes by the answers
 /// to the kept and the seen ones, and adds the ids that they settle to the pending ones. Allocates
 /// nothing.
-pub(crate) fn answer_group<K: Keeper>(
+pub(crate) fn answer_group(
     alloc: Global,
     run: &[Event],
     classes: &[Class],
@@ -230,21 +244,22 @@ pub(crate) fn answer_group<K: Keeper>(
     pending: &mut Vec<Id>,
     outcomes: &mut Vec<Option<Outcome>>,
 )
+    ghost service: { Service }
     requires fit { All IsFit run.now }
-    requires classes { classes.now ≡ classes_of_events K.model.service run.now }
-    requires enough { HasAnswers K.model.service run.now (answers_in dones.items) }
+    requires classes { classes.now ≡ classes_of_events service run.now }
+    requires enough { HasAnswers service run.now (answers_in dones.items) }
     requires room { length outcomes.old.items + length run.now ≤ vec_capacity outcomes.old }
     requires places { length pending.old.items + length dones.items ≤ vec_capacity pending.old }
     ensures outcomes { Adds outcomes.old.items outcomes.new.items
-        (outcomes_by K.model.service run.now (answers_in dones.items)) }
+        (outcomes_by service run.now (answers_in dones.items)) }
     ensures pending { ids_of pending.new.items ≡ ids_of pending.old.items
-        ++ settles_in K.model.service run.now }
+        ++ settles_in service run.now }
 {
     one_cut();
     let mut answers = dones.into_iter();
     for (place, event) in run.iter().enumerate() {
         let class = classes[place];
-        outcomes.push_reserved(outcome_of_event::<K>(alloc, event, class, &mut answers));
-        settle::<K>(pending, event, class);
+        outcomes.push_reserved(outcome_of_event(alloc, event, class, &mut answers));
+        settle(pending, event, class);
     }
 }

@@ -7,6 +7,7 @@ mod group;
 mod handing;
 mod kernel;
 mod life;
+mod running;
 
 pub use driving::{drive, drive_twice};
 pub use event::{DriveFault, Event, Fate, Outcome};

@@ -2,7 +2,7 @@
 ghost use Rattle.std.specs.Prelude.{◌≡◌, List, []};
 ghost use Rattle.fuse_keeper.specs.History.{Distinct, grown};
 ghost use Rattle.fuse_session.specs.Deeds.{Did};
-ghost use Rattle.fuse_session.specs.Passage.{passage};
+ghost use Rattle.fuse_session.specs.Passage.{passage_for};
 ghost use Rattle.fuse_session.specs.Processed.{kept_in};
 ghost use Rattle.fuse_sim.specs.Lives.{Lifetime, AreLives, after_lives, all_processed, AllSend};
 ghost use Rattle.fuse_sim.specs.Lives.{RunsAreLives};
@@ -27,9 +27,10 @@ pub fn lives<K: Keeper>()
 }
 
 /// Each run of `serve` is such a life, of a keeper that was `k` and is `k'`, at whatever end. Its port
-/// was `p` and is `p'`, its clock was `c` and is `c'`.
+/// was `p` and is `p'`, its clock was `c` and is `c'`. It is said with the service that the keeper
+/// gave.
 pub fn runs_are_lives<K: Keeper, P: Port, C: Clock>()
     ensures { (k k' : K) (p p' : P) (c c' : C)
-        → RunsAreLives (passage (K.told k) (K.told k') (P.told p) (P.told p')
+        → RunsAreLives (passage_for (K.told k).service (K.told k) (K.told k') (P.told p) (P.told p')
         (Did (C.gave c c') (K.performed k k') (P.became p p'))) }
 {}

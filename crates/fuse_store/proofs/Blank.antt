@@ -6,7 +6,7 @@ use Rattle.sqlite.specs.State.{State, IsLive, Survives}
 use Rattle.sqlite.proofs.StateLemmas.{survives_weaker}
 use Rattle.sqlite_schema.specs.Names.{table_named}
 use Rattle.fuse_keeper.specs.declared.fault.StoreFault.{StoreFault}
-use Rattle.fuse_keeper.specs.declared.fault.StoreFault.TheVariants.{Memory, Sql, NotAStore, Version, Damaged}
+use Rattle.fuse_keeper.specs.declared.fault.StoreFault.TheVariants.{Memory, Sql, NotAStore, Version, Damaged, Guest}
 use Rattle.fuse_store_tree.specs.StoreState.{StoreState}
 use Rattle.fuse_store_tables.specs.Faults.{IsOutside}
 use Rattle.fuse_store_tables.specs.Saying.{IsRefusal}
@@ -33,6 +33,7 @@ no_refusal (Sql e) outside refused = absurd refused
 no_refusal NotAStore outside refused = absurd outside
 no_refusal (Version n) outside refused = absurd outside
 no_refusal Damaged outside refused = absurd outside
+no_refusal Guest outside refused = absurd outside
 
 pub bare_is_blank : (s : State) → RestsAs (IsBare no_schema tt) s → IsBlank s
 bare_is_blank s bare = (bare.autocommit, bare.holds.schema)

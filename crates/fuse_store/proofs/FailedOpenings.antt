@@ -9,7 +9,7 @@ use Rattle.fuse_data.specs.State.{DataState}
 use Rattle.fuse_init.specs.declared.profile.Profile.{Profile}
 use Rattle.fuse_init.specs.declared.profile.Profile.TheVariants.{Plain, Everyday}
 use Rattle.fuse_keeper.specs.declared.fault.StoreFault.{StoreFault}
-use Rattle.fuse_keeper.specs.declared.fault.StoreFault.TheVariants.{Memory, Sql, NotAStore, Version, Damaged}
+use Rattle.fuse_keeper.specs.declared.fault.StoreFault.TheVariants.{Memory, Sql, NotAStore, Version, Damaged, Guest}
 use Rattle.fuse_tree.specs.State.{profile_of}
 use Rattle.fuse_store_tables.specs.Content.{LeftAs}
 use Rattle.fuse_store_tables.specs.Faults.{IsOutside}
@@ -132,6 +132,7 @@ says_outside d (Sql e) outside = tt
 says_outside d NotAStore outside = absurd outside
 says_outside d (Version n) outside = absurd outside
 says_outside d Damaged outside = absurd outside
+says_outside d Guest outside = absurd outside
 
 pub refuses_none : {X : Type 0} (f : StoreFault) → IsOutside f → IsRefusal f → X
 refuses_none Memory outside refused = absurd refused
@@ -139,6 +140,7 @@ refuses_none (Sql e) outside refused = absurd refused
 refuses_none NotAStore outside refused = absurd outside
 refuses_none (Version n) outside refused = absurd outside
 refuses_none Damaged outside refused = absurd outside
+refuses_none Guest outside refused = absurd outside
 
 module _ (made : Stored → Holding) (Changes : Database → Type 0) (wanted : Option Profile) (number : Option ℕ) (a b : State) (f : StoreFault)
     (rests : (file : List ℕ) (z : Stored) → WasOver file z a → RestsAs (StoredFor file z) a)

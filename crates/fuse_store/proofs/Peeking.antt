@@ -13,7 +13,7 @@ use Rattle.fuse_keeper.specs.KeeperState.{Called, Looked, AnswersNoMore}
 use Rattle.fuse_keeper.specs.declared.fault.StoreFault.{StoreFault}
 use Rattle.fuse_data.specs.State.{DataState}
 use Rattle.fuse_store_tables.specs.Content.{LeftAs}
-use Rattle.fuse_keeper.specs.declared.fault.StoreFault.TheVariants.{Memory, Sql, NotAStore, Version, Damaged}
+use Rattle.fuse_keeper.specs.declared.fault.StoreFault.TheVariants.{Memory, Sql, NotAStore, Version, Damaged, Guest}
 use Rattle.fuse_store_tables.specs.Faults.{IsPlain, IsOutside}
 use Rattle.fuse_store_tables.specs.Moves.{RestsAs}
 use Rattle.fuse_store_tree.specs.Holding.{Holding, HeldFor, lots_of}
@@ -46,6 +46,7 @@ outside_may m lot s (Sql e) is = tt
 outside_may m lot s NotAStore is = absurd is
 outside_may m lot s (Version n) is = absurd is
 outside_may m lot s Damaged is = absurd is
+outside_may m lot s Guest is = absurd is
 
 pub held_rests : (m : Option Meta) (y : Holding) (s : StoreState) → IsAtRest m y s → RestsAs (HeldFor s.contents.seen y) s.tables
 held_rests m y s at =
@@ -70,6 +71,7 @@ lot_may one m lot a b Memory plain safe clean y at = tt
 lot_may one m lot a b (Sql e) plain safe clean y at = tt
 lot_may one m lot a b NotAStore plain safe clean y at = absurd plain
 lot_may one m lot a b (Version n) plain safe clean y at = absurd plain
+lot_may one m lot a b Guest plain safe clean y at = absurd plain
 lot_may one m lot a b Damaged plain safe clean y at = elim (is_left lot y) [
   | inl left ↦ absurd (safe clean y at left)
   | inr used ↦ record {
@@ -87,6 +89,7 @@ still_may m n lot a b was kept Memory may = tt
 still_may m n lot a b was kept (Sql e) may = tt
 still_may m n lot a b was kept NotAStore may = absurd may
 still_may m n lot a b was kept (Version v) may = absurd may
+still_may m n lot a b was kept Guest may = absurd may
 still_may m n lot a b was kept Damaged may =
     record { usable = was may.usable; none = may.none; used_up = λ y at. may.used_up y (kept may.usable y at) }
 
@@ -96,6 +99,7 @@ lotted_may m n now lot a b Memory some may = tt
 lotted_may m n now lot a b (Sql e) some may = tt
 lotted_may m n now lot a b NotAStore some may = absurd may
 lotted_may m n now lot a b (Version v) some may = absurd may
+lotted_may m n now lot a b Guest some may = absurd may
 lotted_may m n now lot a b Damaged some may = absurd (some may.none)
 
 -- a call that changes nothing, or has a lot then
@@ -123,6 +127,7 @@ begun_may p m n f a b x same serves stays lot now was is none clean Memory may =
 begun_may p m n f a b x same serves stays lot now was is none clean (Sql e) may = tt
 begun_may p m n f a b x same serves stays lot now was is none clean NotAStore may = absurd may
 begun_may p m n f a b x same serves stays lot now was is none clean (Version v) may = absurd may
+begun_may p m n f a b x same serves stays lot now was is none clean Guest may = absurd may
 begun_may p m n f a b x same serves stays lot now was is none clean Damaged may = record {
   usable = stays.was clean may.usable;
   none = none;
@@ -137,6 +142,7 @@ went_well p m n f a b x y serves stays lot now failed = record {
   failed = sym (or_false failed);
   honest = serves.honest;
   medium = λ memory. memory;
+  service = refl;
   clean = λ was clean. (clean, stays.still clean was.1);
   err = tt;
   err_lots = tt;
@@ -150,6 +156,7 @@ went_wrong p one told m n f a b e still serves lot may failed = record {
   failed = sym (or_true failed);
   honest = serves.honest;
   medium = λ memory. memory;
+  service = refl;
   clean = tt;
   err = λ clean rows records at. kept_held one m n f a b e rows records still serves clean.0 clean.1 at;
   err_lots = λ clean rows records at.

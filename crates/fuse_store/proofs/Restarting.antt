@@ -226,5 +226,6 @@ module _ (p : Profile) (one : OneHolding) (told : LotsAreSame) (m n : Option Met
         record { numbers = new.numbers ∙ sym old.numbers; current = new.current; under = λ i. new.under i ∙ sym (old.under i) };
     honest = o.honest;
     medium = λ memory. memory;
+    service = refl;
     going = is_going;
   }

@@ -11,7 +11,7 @@ use Rattle.fuse_data.specs.declared.gaps.Gap.{Gap}
 use Rattle.fuse_init.specs.declared.profile.Profile.{Profile}
 use Rattle.fuse_init.specs.declared.profile.Profile.TheVariants.{Plain, Everyday}
 use Rattle.fuse_keeper.specs.declared.fault.StoreFault.{StoreFault}
-use Rattle.fuse_keeper.specs.declared.fault.StoreFault.TheVariants.{Memory, Sql, NotAStore, Version, Damaged}
+use Rattle.fuse_keeper.specs.declared.fault.StoreFault.TheVariants.{Memory, Sql, NotAStore, Version, Damaged, Guest}
 use Rattle.fuse_tree.specs.State.{profile_of}
 use Rattle.fuse_store_tables.specs.Clearing.{cleared}
 use Rattle.fuse_store_tables.specs.Content.{Content, LeftAs}
@@ -63,6 +63,7 @@ says_plain d (Sql e) plain tabled = tt
 says_plain d NotAStore plain tabled = absurd plain
 says_plain d (Version n) plain tabled = absurd plain
 says_plain d Damaged plain tabled = says_damaged d tabled
+says_plain d Guest plain tabled = absurd plain
 
 -- ---- the opening of a store with nine tables
 

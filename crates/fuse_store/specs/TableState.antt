@@ -103,4 +103,5 @@ table_told p memory known s lot failed = record {
   may_leave = MayLeave p s;
   may_answer = MayAnswer known lot s;
   lots = lots_in lot s.tables.now;
+  service = (tree_of p).service;
 }

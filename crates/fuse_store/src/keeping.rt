@@ -22,7 +22,7 @@ use sqlite_disk::Disk;
 
 impl<P: Profiled, S: Alter + Drop, D: Disk + Drop> Keeper for TableKeeper<P, S, D> {
     ghost use Rattle.fuse_tree.specs.TheTree.{tree_of};
-    ghost use Rattle.std.specs.Prelude.{◌⊎◌, length, true, false, is_err, IfOk, IfErr, OnOk, OnErr};
+    ghost use Rattle.std.specs.Prelude.{◌⊎◌, length, true, false, is_err, IfOk, IfErr, OnOk, OnErr, refl};
     ghost use Rattle.sqlite.specs.State.{HasCleanDisk};
     ghost use Rattle.fuse_rows.specs.Rows.{Rows};
     ghost use Rattle.fuse_keeper.specs.KeeperState.{AnswersNoMore, Called, Looked};
@@ -50,11 +50,11 @@ impl<P: Profiled, S: Alter + Drop, D: Disk + Drop> Keeper for TableKeeper<P, S, 
 
     ghost performed = { λ a b list. Unit {0} };
 
-    fn serves(opcode: u32) -> bool {
+    fn serves(&self, opcode: u32) -> bool {
         serves_further(P::PROFILE, opcode)
     }
 
-    fn sees(opcode: u32) -> bool {
+    fn sees(&self, opcode: u32) -> bool {
         sees_requests(P::PROFILE, opcode)
     }
 
@@ -280,6 +280,7 @@ impl<P: Profiled, S: Alter + Drop, D: Disk + Drop> Keeper for TableKeeper<P, S, 
     ghost sound = { λ k. record {
       one_holding = λ x y p q one two. one_held _ _ _ _ _ _ one two;
       clean_is_honest = λ clean. clean.0;
+      service = λ honest. refl;
     } };
 
     ghost memory_is_clean = { λ k memory. memory_clean _ _ k memory };

@@ -140,5 +140,6 @@ module _ {D : Type 0} {g : Ghosts D} (crashed : D → D → Type 0) (conn again 
             record { numbers = later.numbers ∙ sym earlier.numbers; current = later.current; under = λ i. later.under i ∙ sym (earlier.under i) };
         honest = back;
         medium = λ memory. memory;
+        service = refl;
         going = going;
       }

@@ -49,6 +49,7 @@ impl<P: Profiled, D: Disk, E: Disk> CrashKeeper<P, D, E> {
 }
 
 impl<P: Profiled, D: Disk + Drop, E: Disk + Drop> Keeper for CrashKeeper<P, D, E> {
+    ghost use Rattle.std.specs.Prelude.{refl};
     ghost use Rattle.fuse_tree.specs.TheTree.{tree_of};
     ghost use Rattle.fuse_store.specs.inner.Laws.{one_held};
     ghost use Rattle.fuse_store_files.specs.Restarting.{crash_told};
@@ -62,12 +63,12 @@ impl<P: Profiled, D: Disk + Drop, E: Disk + Drop> Keeper for CrashKeeper<P, D, E
 
     ghost performed = { λ a b list. Unit {0} };
 
-    fn serves(opcode: u32) -> bool {
-        TableKeeper::<P, FileStore<D>, E>::serves(opcode)
+    fn serves(&self, opcode: u32) -> bool {
+        self.inner.serves(opcode)
     }
 
-    fn sees(opcode: u32) -> bool {
-        TableKeeper::<P, FileStore<D>, E>::sees(opcode)
+    fn sees(&self, opcode: u32) -> bool {
+        self.inner.sees(opcode)
     }
 
     fn perform(
@@ -105,6 +106,7 @@ impl<P: Profiled, D: Disk + Drop, E: Disk + Drop> Keeper for CrashKeeper<P, D, E
     ghost sound = { λ k. record {
       one_holding = λ x y p q one two. one_held _ _ _ _ _ _ one two;
       clean_is_honest = λ clean. clean.0;
+      service = λ honest. refl;
     } };
 
     ghost memory_is_clean = { λ k memory. clean_in_memory _ _ memory k.inner.look.conn k.inner.look.contents.file };

@@ -6,7 +6,7 @@ use Rattle.sqlite.specs.Effect.{Database}
 use Rattle.sqlite.specs.declared.error.Error.{Error}
 use Rattle.fuse_keeper.specs.Faults.{fault_of}
 use Rattle.fuse_keeper.specs.declared.fault.StoreFault.{StoreFault}
-use Rattle.fuse_keeper.specs.declared.fault.StoreFault.TheVariants.{Memory, Sql, NotAStore, Version, Damaged}
+use Rattle.fuse_keeper.specs.declared.fault.StoreFault.TheVariants.{Memory, Sql, NotAStore, Version, Damaged, Guest}
 use Rattle.fuse_store_tables.specs.Faults.{IsOutside}
 use Rattle.fuse_store_tables.specs.Moves.{Undoes}
 use Rattle.fuse_store_tables.specs.Readying.{LeavesReadied}
@@ -19,6 +19,7 @@ outside_says d (Sql e) out = tt
 outside_says d NotAStore out = absurd out
 outside_says d (Version n) out = absurd out
 outside_says d Damaged out = absurd out
+outside_says d Guest out = absurd out
 
 module _ {T : Type 0} (makes leaves : T → T → Type 0) where
   -- nothing was begun

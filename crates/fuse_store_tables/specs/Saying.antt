@@ -10,7 +10,7 @@ use Rattle.sqlite.specs.Listing.{understood, reads_listing, IsSourceOf}
 use Rattle.sqlite_resolve.specs.declared.compiled.Compiled.{Compiled}
 use Rattle.sqlite_schema.specs.Names.{table_named}
 use Rattle.fuse_keeper.specs.declared.fault.StoreFault.{StoreFault}
-use Rattle.fuse_keeper.specs.declared.fault.StoreFault.TheVariants.{NotAStore, Version, Damaged}
+use Rattle.fuse_keeper.specs.declared.fault.StoreFault.TheVariants.{NotAStore, Version, Damaged, Guest}
 use Rattle.fuse_store_tables.specs.Layout.{with_answers, with_kept, store_schema, third_schema}
 
 abbrev pub version_text : List ℕ
@@ -47,6 +47,7 @@ HasOwn (row ∷ rows) = IsOwn (column row 0)
 abbrev pub Says : Database → StoreFault → Type 0
 Says d NotAStore = (table_named d.schema (codes "meta") ≡ None) ⊎ ShowsVersion d []
 Says d (Version n) = (n ≢ 1) × (n ≢ 2) × (n ≢ 3) × ReportsVersion d n
+Says d Guest = ⊥
 Says d Damaged = (rows : List Row) × ShowsVersion d rows × HasOwn rows
 Says d _ = ⊤
 

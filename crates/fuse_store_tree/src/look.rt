@@ -68,6 +68,7 @@ fn told_fault(fault: &StoreFault) -> LookFault
         StoreFault::NotAStore => LookFault::Failed,
         StoreFault::Version(_) => LookFault::Failed,
         StoreFault::Damaged => LookFault::Failed,
+        StoreFault::Guest => LookFault::Failed,
     }
 }
 

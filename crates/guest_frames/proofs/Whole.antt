@@ -21,6 +21,7 @@ use Rattle.guest_frames.specs.Reading.{word_at}
 use Rattle.guest_frames.specs.Heads.{head_of, guest_head_in}
 use Rattle.guest_frames.specs.Laws.{FramesStand}
 use Rattle.guest_frames.proofs.OneFrame.{one_frame, spelled}
+use Rattle.guest_frames.proofs.Payloads.{payload_again}
 
 -- ---- layouts of which no byte is free
 
@@ -121,4 +122,4 @@ payload numbers laws f is =
     subst (SpellsFrame f) (sym dropped) (spelled laws f is)
 
 pub frames_stand : NumbersRead → LayoutsStand → FramesStand
-frames_stand numbers laws = record { one = one_frame numbers laws; payload = payload numbers laws; whole = whole numbers }
+frames_stand numbers laws = record { one = one_frame numbers laws; payload = payload numbers laws; whole = whole numbers; read = payload_again numbers laws }

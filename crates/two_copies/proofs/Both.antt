@@ -128,6 +128,7 @@ module _ {F : Type 0} (M : Model) (held : F → M.Rows) where
     failed = ap (λ b. b || (plain_told M held new.working).has_failed) is ∙ sym (or-true (old.in_doubt || (plain_told M held old.working).has_failed));
     honest = λ honest. honest;
     medium = λ memory. memory;
+    service = refl;
     clean = tt;
     err = λ clean. absurd (let e = clean in cc);
     err_lots = λ clean. absurd (let e = clean in cc);
@@ -145,6 +146,7 @@ module _ {F : Type 0} (M : Model) (held : F → M.Rows) where
         closed made.closed (ap (λ p. (plain_told M held p).has_failed) made.working ∙ failed);
     honest = λ honest. honest;
     medium = λ memory. memory;
+    service = refl;
     clean = λ clean honest. made.closed;
     err = tt;
     err_lots = tt;
@@ -160,6 +162,7 @@ module _ {F : Type 0} (M : Model) (held : F → M.Rows) where
         ∙ or-append old.in_doubt (plain_told M held old.working).has_failed false;
     honest = λ honest. honest;
     medium = λ memory. memory;
+    service = refl;
     clean = λ clean honest. alike ∙ clean;
     err = tt;
     err_lots = tt;
@@ -170,6 +173,7 @@ module _ {F : Type 0} (M : Model) (held : F → M.Rows) where
         ∙ or-append old.in_doubt (plain_told M held old.working).has_failed true;
     honest = λ honest. honest;
     medium = λ memory. memory;
+    service = refl;
     clean = tt;
     err = λ clean x r so. (subst (λ p. (plain_told M held p).holds x r) (sym committed) so.0, called.err tt x r so.1, alike ∙ so.2);
     err_lots = λ clean x r so. lots_stay;
@@ -219,6 +223,7 @@ module _ {F : Type 0} (M : Model) (held : F → M.Rows) where
     lots = λ honest x r so. record { numbers = refl; current = refl; under = λ i. refl };
     honest = λ honest. honest;
     medium = λ memory. memory;
+    service = refl;
     going = rw (closed, going) refl;
   }
 

@@ -28,6 +28,7 @@ two_told M held k = record {
   may_leave = (plain_told M held k.committed).holds;
   may_answer = (plain_told M held k.working).may_answer;
   lots = no_lots;
+  service = M.service;
 }
 
 -- how its commits go

@@ -115,12 +115,16 @@ impl<F: FileSystem> TwoCopies<F> {
 }
 
 // Whether nothing is to be kept.
-fn only_sees<F: FileSystem>(group: &[(Request<'_>, Moment)], settled: &[Id]) -> bool
+fn only_sees<F: FileSystem>(
+    working: &PlainKeeper<F>,
+    group: &[(Request<'_>, Moment)],
+    settled: &[Id],
+) -> bool
     ensures some { result ≡ true → OnlySees F.model.service (entries_of group.now) (ids_of settled.now) }
     ensures none { result ≡ false
         → ¬ (OnlySees F.model.service (entries_of group.now) (ids_of settled.now)) }
 {
-    settled.is_empty() && !has_kept::<PlainKeeper<F>>(group)
+    settled.is_empty() && !has_kept(working, group)
 }
 
 impl<F: FileSystem> Keeper for TwoCopies<F> {
@@ -136,11 +140,11 @@ impl<F: FileSystem> Keeper for TwoCopies<F> {
 
     ghost performed = { λ a b list. Unit {0} };
 
-    fn serves(opcode: u32) -> bool {
+    fn serves(&self, opcode: u32) -> bool {
         F::serves(opcode)
     }
 
-    fn sees(opcode: u32) -> bool {
+    fn sees(&self, opcode: u32) -> bool {
         F::sees(opcode)
     }
 
@@ -153,7 +157,7 @@ impl<F: FileSystem> Keeper for TwoCopies<F> {
         requires short { length group.now ≤ max_group }
         requires few { length settled.now ≤ max_settled }
         requires named { All HasId (entries_of group.now) }
-        requires performed { All (IsPerformed F.model) (entries_of group.now) }
+        requires performed { All (IsPerformed F.model.service) (entries_of group.now) }
         ensures count { IfOk result (λ dones. length dones.items ≡ length group.now) }
         ensures called { Called (two_told F.model F.held self.old) (two_told F.model F.held self.new) result }
         ensures may { AnswersNoMore (two_told F.model F.held self.old) (two_told F.model F.held self.new) }
@@ -196,7 +200,7 @@ impl<F: FileSystem> Keeper for TwoCopies<F> {
         }
         match self.working.perform(group, settled) {
             Ok(dones) => {
-                if only_sees::<F>(group, settled) {
+                if only_sees(&self.working, group, settled) {
                     return Ok(dones);
                 }
                 self.commit()?;
@@ -292,6 +296,7 @@ impl<F: FileSystem> Keeper for TwoCopies<F> {
     ghost sound = { λ k. record {
       one_holding = λ x y p q one two. (one.0.0 ∙ sym two.0.0, λ i. one.0.1 i ∙ sym (two.0.1 i));
       clean_is_honest = λ clean. tt;
+      service = λ honest. refl;
     } };
 
     ghost memory_is_clean = { λ k memory. absurd memory };

@@ -79,7 +79,7 @@ pub record GathersEvents (M : Model) (run : List Event) (group : Group) : Type 0
   pub entries : entries_of group.taken.items ≡ performs_in M.service run
   pub few : length group.taken.items ≤ max_group_len
   pub named : All HasId (entries_of group.taken.items)
-  pub kept : All (IsPerformed M) (entries_of group.taken.items)
+  pub kept : All (IsPerformed M.service) (entries_of group.taken.items)
 
 -- one more event joined it
 abbrev pub Joins : Model → Event → Group → Group → Type 0

@@ -7,7 +7,7 @@ use Rattle.sqlite.specs.declared.types.Value.TheVariants.{Int}
 use Rattle.sqlite.specs.Order.{Row}
 use Rattle.sqlite.specs.Effect.{Database}
 use Rattle.fuse_keeper.specs.declared.fault.StoreFault.{StoreFault}
-use Rattle.fuse_keeper.specs.declared.fault.StoreFault.TheVariants.{Memory, Sql, NotAStore, Version, Damaged}
+use Rattle.fuse_keeper.specs.declared.fault.StoreFault.TheVariants.{Memory, Sql, NotAStore, Version, Damaged, Guest}
 use Rattle.fuse_store_tables.specs.Faults.{IsPlain}
 use Rattle.fuse_store_tables.specs.Saying.{HasFirst, HasOwn, IsOwn, ReportsVersion, Says, IsTabled}
 
@@ -34,6 +34,7 @@ plain_says d (Sql e) damaged plain = tt
 plain_says d NotAStore damaged plain = absurd plain
 plain_says d (Version n) damaged plain = absurd plain
 plain_says d Damaged damaged plain = damaged
+plain_says d Guest damaged plain = absurd plain
 
 pub tabled_says : (d : Database) (f : StoreFault) → IsTabled d → IsPlain f → Says d f
 tabled_says d f (inl first) plain = plain_says d f (reported_damaged d 1 first.0 (inl refl)) plain

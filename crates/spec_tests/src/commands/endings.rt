@@ -37,7 +37,7 @@ fn of_streams() -> [Case; 7] {
     ]
 }
 
-fn others() -> [Case; 14] {
+fn others() -> [Case; 15] {
     [
         (Ending::Usage, 2, ""),
         (Ending::Modes, 2, "usage: one of --fresh and --resume"),
@@ -53,6 +53,7 @@ fn others() -> [Case; 14] {
         (Ending::PortFailed, 4, "port: failed"),
         (Ending::PortTurns, 4, "port: turns"),
         (Ending::Memory, 5, "memory"),
+        (Ending::Guest, 5, ""),
     ]
 }
 
@@ -78,6 +79,6 @@ fn right_in(alloc: Global, cases: &[Case]) -> Result<usize, Fail> {
 fn endings(rt: HostRuntime) -> Result<(), Fail> {
     let streams = right_in(rt.alloc(), &of_streams())?;
     let others = right_in(rt.alloc(), &others())?;
-    assert_eq!(rt; [streams, others], [7, 14]);
+    assert_eq!(rt; [streams, others], [7, 15]);
     Ok(())
 }

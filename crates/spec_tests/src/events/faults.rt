@@ -17,7 +17,7 @@ impl Keeper for Closed {
     ghost use Rattle.fuse_init.specs.declared.profile.Profile.TheVariants.{Plain};
     ghost use Rattle.fuse_tree.specs.TheTree.{tree_of};
     ghost use Rattle.spec_tests.specs.inner.TreeInLists.{tree_told};
-    ghost use Rattle.std.proofs.Common.{sym, ◌∙◌};
+    ghost use Rattle.std.proofs.Common.{sym, ◌∙◌, refl};
 
     ghost model = { tree_of Plain };
 
@@ -27,12 +27,12 @@ impl Keeper for Closed {
 
     ghost performed = { λ _ _ _. Unit {0} };
 
-    fn serves(opcode: u32) -> bool {
-        TreeKeeper::serves(opcode)
+    fn serves(&self, opcode: u32) -> bool {
+        self.inner.serves(opcode)
     }
 
-    fn sees(opcode: u32) -> bool {
-        TreeKeeper::sees(opcode)
+    fn sees(&self, opcode: u32) -> bool {
+        self.inner.sees(opcode)
     }
 
     fn perform(
@@ -70,6 +70,7 @@ impl Keeper for Closed {
     ghost sound = { λ k. record {
       one_holding = λ x y p q one two. (one.0 ∙ sym two.0, λ i. one.1 i ∙ sym (two.1 i));
       clean_is_honest = λ clean. clean;
+      service = λ honest. refl;
     } };
 
     ghost memory_is_clean = { λ k memory. memory };

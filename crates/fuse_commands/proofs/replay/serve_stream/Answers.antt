@@ -6,14 +6,15 @@ use Rattle.fuse_session.specs.Stream.{stream_told}
 use Rattle.fuse_commands.specs.Endings.{IsOfStream}
 use Rattle.fuse_commands.specs.Replaying.{Replayed}
 use Rattle.fuse_commands.specs.inner.Sending.{SendsAnswers}
-use Rattle.fuse_commands.proofs.Streams.{session_replayed, session_faulted, session_kept, counts_shown}
+use Rattle.fuse_commands.proofs.Streams.{session_replayed, session_faulted, session_kept, counts_shown, at_model}
 use Rattle.fuse_commands.proofs.replay.serve_stream.Goals as goal
 
 pub returns-clause-replayed : goal.returns-clause-replayed
 returns-clause-replayed g c = λ of_stream input known.
     let start = c.new-port.ensures ∙ ap (λ o. fresh o (Some c.new.result.items) false) known
     ∙ ap (λ (x : List ℕ). fresh (Some input) (Some x) false) c.new.ensures.items in
-    let session = c.serve-served.ensures.session in
+    let session = at_model (g.K.Keeper.told c.args.keeper.now) (g.K.Keeper.told c.serve-served.new.keeper) _ _ _ _ _ c.requires.serves
+    c.serve-served.ensures.session in
     let ends = session.ends in
     let n =
     counts_shown c.serve-served.result.ended ends.counts c.counts_of.result c.serve-served.result.counts _ (subst IsOfStream c.of_session.ensures of_stream)
@@ -29,7 +30,8 @@ returns-clause-replayed g c = λ of_stream input known.
 
 pub returns-clause-faulted : goal.returns-clause-faulted
 returns-clause-faulted g c = λ three input known.
-    let session = c.serve-served.ensures.session in
+    let session = at_model (g.K.Keeper.told c.args.keeper.now) (g.K.Keeper.told c.serve-served.new.keeper) _ _ _ _ _ c.requires.serves
+    c.serve-served.ensures.session in
     let start = c.new-port.ensures ∙ ap (λ o. fresh o (Some c.new.result.items) false) known
     ∙ ap (λ (x : List ℕ). fresh (Some input) (Some x) false) c.new.ensures.items in
     session_faulted c.cut_joins.ensures (g.K.Keeper.told c.args.keeper.now)
@@ -41,7 +43,8 @@ returns-clause-faulted g c = λ three input known.
 
 pub returns-clause-kept : goal.returns-clause-kept
 returns-clause-kept g c = λ input known.
-    let session = c.serve-served.ensures.session in
+    let session = at_model (g.K.Keeper.told c.args.keeper.now) (g.K.Keeper.told c.serve-served.new.keeper) _ _ _ _ _ c.requires.serves
+    c.serve-served.ensures.session in
     let start = c.new-port.ensures ∙ ap (λ o. fresh o (Some c.new.result.items) false) known
     ∙ ap (λ (x : List ℕ). fresh (Some input) (Some x) false) c.new.ensures.items in
     session_kept c.cut_joins.ensures (g.K.Keeper.told c.args.keeper.now)

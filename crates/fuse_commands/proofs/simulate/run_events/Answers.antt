@@ -1,7 +1,7 @@
 use Rattle.std.proofs.Common.{[], subst, sym}
 use Rattle.fuse_sim.specs.Driving.{told_in}
 use Rattle.fuse_commands.specs.Simulating.{driven}
-use Rattle.fuse_commands.proofs.Simulations.{IsUnfit, never_unfit, went, counts_are, asked_all, opened_all, all_left, keeps_by, fault_left, reused_prefix, drive_ended, counts_ended, refused_again, never_emptied}
+use Rattle.fuse_commands.proofs.Simulations.{IsUnfit, never_unfit, went, counts_are, asked_all, opened_all, all_left, keeps_by, fault_left, reused_prefix, drive_ended, counts_ended, asked_for, asked_before_for, refused_again, never_emptied}
 use Rattle.fuse_commands.proofs.simulate.run_events.Goals as goal
 
 pub returns-in-Ok-counts-clause-counts : goal.returns-in-Ok-counts-clause-counts
@@ -23,7 +23,7 @@ returns-in-Ok-counts-clause-begin g c = λ honest earlier later parts s so none.
 pub returns-in-Ok-counts-clause-asked : goal.returns-in-Ok-counts-clause-asked
 returns-in-Ok-counts-clause-asked g c =
     asked_all g.K.Keeper.performed c.args.keeper.now c.drive.new.keeper c.in-Some.keeper c.counts.new.self _ g.met.K.Keeper.log c.in-Some.is
-    c.in-Ok.ensures.asked c.counts.ensures.unasked
+    (asked_for g.K.Keeper.told g.K.Keeper.performed c.args.keeper.now c.drive.new.keeper c.args.events.now c.requires.serves c.in-Ok.ensures.asked) c.counts.ensures.unasked
 
 pub returns-in-Ok-counts-clause-kept : goal.returns-in-Ok-counts-clause-kept
 returns-in-Ok-counts-clause-kept g c =
@@ -33,7 +33,7 @@ returns-in-Ok-counts-clause-kept g c =
     (keeps_by (k.told c.in-Some.keeper) (k.told c.counts.new.self) c.counts.result (g.met.K.Keeper.sound c.counts.new.self) c.counts.ensures.looked)
     c.in-Ok.ensures.tree_stands c.in-Ok.ensures.records
     (asked_all k.performed c.args.keeper.now c.drive.new.keeper c.in-Some.keeper c.counts.new.self _ g.met.K.Keeper.log c.in-Some.is
-    c.in-Ok.ensures.asked c.counts.ensures.unasked)
+    (asked_for g.K.Keeper.told g.K.Keeper.performed c.args.keeper.now c.drive.new.keeper c.args.events.now c.requires.serves c.in-Ok.ensures.asked) c.counts.ensures.unasked)
 
 pub returns-in-Err-clause-kept : goal.returns-in-Err-clause-kept
 returns-in-Err-clause-kept g c =
@@ -43,21 +43,23 @@ returns-in-Err-clause-kept g c =
     (keeps_by (k.told c.in-Some.keeper) (k.told c.counts.new.self) c.counts.result (g.met.K.Keeper.sound c.counts.new.self) c.counts.ensures.looked)
     c.in-Ok.ensures.tree_stands c.in-Ok.ensures.records
     (asked_all k.performed c.args.keeper.now c.drive.new.keeper c.in-Some.keeper c.counts.new.self _ g.met.K.Keeper.log c.in-Some.is
-    c.in-Ok.ensures.asked c.counts.ensures.unasked)
+    (asked_for g.K.Keeper.told g.K.Keeper.performed c.args.keeper.now c.drive.new.keeper c.args.events.now c.requires.serves c.in-Ok.ensures.asked) c.counts.ensures.unasked)
 
 pub returns-in-Err-Store-clause-kept : goal.returns-in-Err-Store-clause-kept
 returns-in-Err-Store-clause-kept g c =
     let k = g.K.Keeper in
     fault_left (driven k.told k.became k.performed g.K.Restart.refuses) c.args.keeper.now c.drive.new.keeper c.args.events.now c.in-Err-Store.field-0
     g.met.K.Keeper.sound c.in-Err-Store.ensures.after_fault c.in-Err-Store.ensures.records_at_fault
-    c.in-Err-Store.ensures.asked_before
+    (asked_before_for g.K.Keeper.told g.K.Keeper.performed c.args.keeper.now c.drive.new.keeper c.args.events.now c.in-Err-Store.field-0 c.requires.serves
+    c.in-Err-Store.ensures.asked_before)
 
 pub returns-in-Err-Memory-clause-kept : goal.returns-in-Err-Memory-clause-kept
 returns-in-Err-Memory-clause-kept g c =
     let k = g.K.Keeper in
     fault_left (driven k.told k.became k.performed g.K.Restart.refuses) c.args.keeper.now c.drive.new.keeper c.args.events.now c.in-Err-Memory.field-0
     g.met.K.Keeper.sound c.in-Err-Memory.ensures.after_fault c.in-Err-Memory.ensures.records_at_fault
-    c.in-Err-Memory.ensures.asked_before
+    (asked_before_for g.K.Keeper.told g.K.Keeper.performed c.args.keeper.now c.drive.new.keeper c.args.events.now c.in-Err-Memory.field-0 c.requires.serves
+    c.in-Err-Memory.ensures.asked_before)
 
 pub unreachable-requires : goal.unreachable-requires
 unreachable-requires g c =

@@ -12,7 +12,7 @@ use Rattle.fuse_keeper.proofs.InARow.{one_more_taken_of}
 use Rattle.fuse_keeper.proofs.group.take_all.Goals as goal
 
 pub take_one-requires-clause-performed : goal.take_one-requires-clause-performed
-take_one-requires-clause-performed g c = entry_at_place (IsPerformed g.F.FileSystem.model) c.args.group.now c.loop-one.one-index _ c.loop-one-test.true c.requires
+take_one-requires-clause-performed g c = entry_at_place (IsPerformed g.F.FileSystem.model.service) c.args.group.now c.loop-one.one-index _ c.loop-one-test.true c.requires
 
 pub returns-in-Err-clause-fault : goal.returns-in-Err-clause-fault
 returns-in-Err-clause-fault g c = λ rowed. c.in-Err.ensures.fault (c.loop-one.invariant.rowed rowed)

@@ -10,16 +10,16 @@ loop-one-init g c = refl
 
 pub returns-then-not-sees-clause-some : goal.returns-then-not-sees-clause-some
 returns-then-not-sees-clause-some g c = λ there.
-    let V = g.K.Keeper.model.service in
+    let V = (g.K.Keeper.told c.args.keeper.now).service in
     some_kept V c.args.group.now c.loop-one.one-index _ c.loop-one-test.true (sym (ap V.sees c.opcode.ensures) ∙ sym c.sees.ensures ∙ c.if-not-sees.true)
 
 pub loop-one-preserved : goal.loop-one-preserved
 loop-one-preserved g c =
-    let V = g.K.Keeper.model.service in
+    let V = (g.K.Keeper.told c.args.keeper.now).service in
     none_more V c.args.group.now c.loop-one.one-index _ c.loop-one-test.true c.loop-one.invariant
     (sym (ap V.sees c.opcode.ensures) ∙ sym c.sees.ensures ∙ c.if-not-sees.false)
 
 pub returns-clause-none : goal.returns-clause-none
 returns-clause-none g c = λ none.
     let past : length c.args.group.now ≤ c.loop-one.one-index = c.loop-one-test.false in
-    subst (λ group. kept_of g.K.Keeper.model.service (entries_of group) ≡ []) (take_all c.loop-one.one-index c.args.group.now past) c.loop-one.invariant
+    subst (λ group. kept_of (g.K.Keeper.told c.args.keeper.now).service (entries_of group) ≡ []) (take_all c.loop-one.one-index c.args.group.now past) c.loop-one.invariant

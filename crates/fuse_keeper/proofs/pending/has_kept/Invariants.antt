@@ -5,4 +5,4 @@ use Rattle.fuse_keeper.proofs.pending.has_kept.Given as goal
 
 -- none of the first ones is kept
 abbrev pub invariant-loop-one : goal.invariant-loop-one
-invariant-loop-one g l = kept_of g.K.Keeper.model.service (entries_of (take l.one-index l.group)) ≡ []
+invariant-loop-one g l = kept_of (g.K.Keeper.told l.keeper).service (entries_of (take l.one-index l.group)) ≡ []

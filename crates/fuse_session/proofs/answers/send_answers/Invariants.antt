@@ -8,6 +8,9 @@ use Rattle.fuse_session.proofs.answers.send_answers.Given as goal
 abbrev pub invariant-loop-place : goal.invariant-loop-place
 invariant-loop-place g l = record {
   next : l.next ≤ length l.dones;
-  enough : AreEnough g.K.Keeper.model.service (drop l.place l.messages) (drop l.next (answers_in l.dones));
-  sent : SentFirst g.K.Keeper.model.service (sending (g.P.Port.became l.fn.port l.port) (g.P.Port.told l.fn.port) (g.P.Port.told l.port) (ids_of l.fn.pending.items) (ids_of l.pending.items)) (take l.place l.messages) (wires g.K.Keeper.model.service l.messages (answers_in l.dones)) (wires g.K.Keeper.model.service (drop l.place l.messages) (drop l.next (answers_in l.dones)));
+  enough : AreEnough g.service (drop l.place l.messages) (drop l.next (answers_in l.dones));
+  sent : SentFirst g.service (sending (g.P.Port.became l.fn.port l.port) (g.P.Port.told l.fn.port) (g.P.Port.told l.port) (ids_of l.fn.pending.items) (ids_of l.pending.items)) (take l.place l.messages) (wires g.service l.messages (answers_in l.dones)) (wires g.service (drop l.place l.messages) (drop l.next (answers_in l.dones)));
 }
+
+abbrev pub ghost-send_next : goal.ghost-send_next
+ghost-send_next g a = g.service

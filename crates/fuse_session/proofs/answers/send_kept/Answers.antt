@@ -21,7 +21,7 @@ returns-then-is_settled-clause-ok g c =
     c.unique_of-unique.ensures c.in-Ok.ensures.ok in
     let hands = subst (λ u. Hands (g.P.Port.became c.args.port.now c.send_reply.new.port) (wire a.errno a.body u) true) c.unique_of-unique.ensures
     c.in-Ok.ensures.hands in
-    kept_next g.K.Keeper.model.service _ _ _ c.args.message.now _ (reports_gone c.in-Ok.passed) (ids_of p) _ c.requires.kept sent hands (λ _. pushed)
+    kept_next g.service _ _ _ c.args.message.now _ (reports_gone c.in-Ok.passed) (ids_of p) _ c.requires.1.1.0 sent hands (λ _. pushed)
     (λ isnt. absurd (let e = c.if-is_settled.ensures in cc (isnt, e)))
 
 pub returns-else-is_settled-clause-ok : goal.returns-else-is_settled-clause-ok
@@ -32,5 +32,5 @@ returns-else-is_settled-clause-ok g c =
     c.unique_of-unique.ensures c.in-Ok.ensures.ok in
     let hands = subst (λ u. Hands (g.P.Port.became c.args.port.now c.send_reply.new.port) (wire a.errno a.body u) true) c.unique_of-unique.ensures
     c.in-Ok.ensures.hands in
-    kept_next g.K.Keeper.model.service _ _ _ c.args.message.now _ (reports_gone c.in-Ok.passed) (ids_of p) _ c.requires.kept sent hands
+    kept_next g.service _ _ _ c.args.message.now _ (reports_gone c.in-Ok.passed) (ids_of p) _ c.requires.1.1.0 sent hands
     (λ is. absurd (let e = c.if-is_settled.ensures in cc (is, e))) (λ _. ap ids_of c.reserve.ensures.items)

@@ -12,7 +12,7 @@ use Rattle.fuse_session.proofs.counts.count_all.Goals as goal
 pub loop-place-init : goal.loop-place-init
 loop-place-init g c = record {
   next = omega arith;
-  so_far = none_plus (tallied g.K.Keeper.model.service c.args.messages.now (repeats_in c.args.dones.now));
+  so_far = none_plus (tallied g.service c.args.messages.now (repeats_in c.args.dones.now));
   below = record {
     messages = omega arith;
     kept = omega arith;
@@ -31,14 +31,14 @@ loop-place-preserved g c =
     let i = c.loop-place.place in
     let repeated = drop c.loop-place.next (repeats_in c.args.dones.now) in
     let bytes = c.as_slice.result.now in
-    let class = class_at g.K.Keeper.model.service messages c.args.classes.now i c.index-messages-place.result bytes Silent c.requires.classes c.loop-place-test.true
+    let class = class_at g.service messages c.args.classes.now i c.index-messages-place.result bytes Silent c.requires.1.0 c.loop-place-test.true
     c.index-messages-place.is c.as_slice.ensures in
     let one = c.count_one-one.ensures ∙ ap (λ k. counted_one k c.repeat_at.result (is_interrupt bytes)) class
-    ∙ ap (λ b. counted_one (class_for g.K.Keeper.model.service bytes) b (is_interrupt bytes)) c.repeat_at.ensures in
+    ∙ ap (λ b. counted_one (class_for g.service bytes) b (is_interrupt bytes)) c.repeat_at.ensures in
     let lt = c.loop-place-test.true in
     record {
       next = c.used_after-next.ensures.within;
-      so_far = tallied_more g.K.Keeper.model.service (drop i messages) (drop (i + 1) messages) repeated _ bytes c.loop-place.counts c.count_one-one.result c.sum_of-counts.result _
+      so_far = tallied_more g.service (drop i messages) (drop (i + 1) messages) repeated _ bytes c.loop-place.counts c.count_one-one.result c.sum_of-counts.result _
           (left_at messages i c.index-messages-place.result bytes lt c.index-messages-place.is c.as_slice.ensures) one c.sum_of-counts.ensures
           (c.used_after-next.ensures.left ∙ ap (λ k. left_by k repeated) class) c.loop-place.invariant.so_far;
       below = subst (λ x. IsBelow x (i + 1)) (sym c.sum_of-counts.ensures)
@@ -47,7 +47,7 @@ loop-place-preserved g c =
     }
 
 pub sum_of-counts-requires-clause-a : goal.sum_of-counts-requires-clause-a
-sum_of-counts-requires-clause-a g c = below_more c.loop-place.counts c.loop-place.place (2 ^ 63 - 1) (omega (arith, c.loop-place-test.true, c.requires.few))
+sum_of-counts-requires-clause-a g c = below_more c.loop-place.counts c.loop-place.place (2 ^ 63 - 1) (omega (arith, c.loop-place-test.true, c.requires.1.1))
     c.loop-place.invariant.below
 
 pub sum_of-counts-requires-clause-b : goal.sum_of-counts-requires-clause-b
@@ -58,7 +58,7 @@ pub returns-clause-tallied : goal.returns-clause-tallied
 returns-clause-tallied g c =
     let messages = c.args.messages.now in
     let i = c.loop-place.place in
-    sym (plus_none c.loop-place.counts) ∙ ap (λ x. plus c.loop-place.counts (tallied g.K.Keeper.model.service x (drop c.loop-place.next (repeats_in c.args.dones.now))))
+    sym (plus_none c.loop-place.counts) ∙ ap (λ x. plus c.loop-place.counts (tallied g.service x (drop c.loop-place.next (repeats_in c.args.dones.now))))
     (sym (drop_all i messages c.loop-place-test.false)) ∙ c.loop-place.invariant.so_far
 
 pub returns-clause-below : goal.returns-clause-below

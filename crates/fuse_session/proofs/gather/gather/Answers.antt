@@ -1,7 +1,8 @@
-use Rattle.std.proofs.Common.{◌≡◌, sym, subst, ap, arith, ◌∙◌, ◌+◌, ◌++◌, All, length, length-append, take, drop, true, false, ◌∷◌, []}
+use Rattle.std.proofs.Common.{◌≡◌, sym, subst, rules, ap, arith, ◌∙◌, ◌+◌, ◌++◌, All, length, length-append, take, drop, true, false, ◌∷◌, []}
 use Rattle.fuse_session.specs.Grouping.{asked_in, groups_of, one_group}
 use Rattle.fuse_session.proofs.Grouping.{groups_next, groups_some, groups_none, groups_destroy, groups_full, groups_zero, groups_end, full_stuck, zero_stuck}
 use Rattle.std.proofs.lemmas.List.Elements.{All-nil}
+use Rattle.fuse_request.specs.Classes.{class_for}
 use Rattle.fuse_keeper.specs.Group.{HasId, IsPerformed, entries_of}
 use Rattle.fuse_session.specs.inner.Group.{Gathers, classes_in}
 use Rattle.fuse_session.proofs.Gathering.{none_yet_gathered, gathers_none, gathers_some, named_some, kept_some, classes_more, destroys_is}
@@ -13,18 +14,18 @@ pub loop-message-init : goal.loop-message-init
 loop-message-init g c = record {
   count = ap length c.new-classes.ensures.items;
   classes = c.new-classes.ensures.items;
-  gathers = none_yet_gathered g.K.Keeper.model.service (g.C.Clock.gave c.args.clock.now c.args.clock.now) c.new-taken.result.items ((g.met.C.Clock.logged).none c.args.clock.now)
+  gathers = none_yet_gathered g.service (g.C.Clock.gave c.args.clock.now c.args.clock.now) c.new-taken.result.items ((g.met.C.Clock.logged).none c.args.clock.now)
       c.new-taken.ensures.items;
   few = omega (arith, ap length c.new-taken.ensures.items);
   named = subst (All HasId) (sym (ap entries_of c.new-taken.ensures.items)) (All-nil HasId);
-  kept = subst (All (IsPerformed g.K.Keeper.model)) (sym (ap entries_of c.new-taken.ensures.items)) (All-nil (IsPerformed g.K.Keeper.model));
-  groups = ap (λ l. groups_next g.K.Keeper.model.service (asked_in (entries_of l)) c.args.messages.now) (sym c.new-taken.ensures.items);
+  kept = subst (All (IsPerformed g.service)) (sym (ap entries_of c.new-taken.ensures.items)) (All-nil (IsPerformed g.service));
+  groups = ap (λ l. groups_next g.service (asked_in (entries_of l)) c.args.messages.now) (sym c.new-taken.ensures.items);
 }
 
 pub returns-then-ends-clause-gathers : goal.returns-then-ends-clause-gathers
 returns-then-ends-clause-gathers g c =
     let some = c.in-Some.ensures.entry in
-    subst (λ n. Gathers g.K.Keeper.model.service (g.C.Clock.gave c.args.clock.now c.read_one.new.clock) (take n c.args.messages.now) c.push-in-Some.new.self.items
+    subst (λ n. Gathers g.service (g.C.Clock.gave c.args.clock.now c.read_one.new.clock) (take n c.args.messages.now) c.push-in-Some.new.self.items
     c.is_kept_destroy-ends.result)
     (omega (
       arith,
@@ -33,23 +34,23 @@ returns-then-ends-clause-gathers g c =
           (c.classify-class.result ∷ []),
       c.loop-message.invariant.count,
     ))
-    (gathers_some g.K.Keeper.model.service (g.C.Clock.gave c.args.clock.now c.loop-message.clock) (g.C.Clock.gave c.loop-message.clock c.read_one.new.clock)
+    (gathers_some g.service (g.C.Clock.gave c.args.clock.now c.loop-message.clock) (g.C.Clock.gave c.loop-message.clock c.read_one.new.clock)
     (g.C.Clock.gave c.args.clock.now c.read_one.new.clock) ((g.met.C.Clock.logged).onward c.args.clock.now c.loop-message.clock c.read_one.new.clock)
     c.args.messages.now c.loop-message.message-index c.message-item.result c.as_slice-bytes.result.now c.loop-message.taken.items
     c.push-in-Some.new.self.items c.in-Some.one some.0 c.is_kept_destroy-ends.result
     c.loop-message-test.true c.message-item.is c.as_slice-bytes.ensures c.loop-message.invariant.gathers
     (sym c.if-has_zero_unique.ensures) some.1 c.in_ok-push-2.ensures.items
-    (destroys_is g.K.Keeper.model.service c.as_slice-bytes.result.now c.classify-class.result c.is_kept_destroy-ends.result
-    c.classify-class.ensures c.is_kept_destroy-ends.ensures) some.2)
+    (destroys_is g.service c.as_slice-bytes.result.now c.classify-class.result c.is_kept_destroy-ends.result
+    (c.classify-class.ensures ∙ ap (λ V. class_for V c.as_slice-bytes.result.now) c.requires.1.1.0) c.is_kept_destroy-ends.ensures) some.2)
 
 pub returns-then-ends-clause-named : goal.returns-then-ends-clause-named
 returns-then-ends-clause-named g c =
     let some = c.in-Some.ensures.entry in
-    named_some g.K.Keeper.model.service c.as_slice-bytes.result.now c.loop-message.taken.items c.push-in-Some.new.self.items c.in-Some.one some.0 c.loop-message.invariant.named
+    named_some g.service c.as_slice-bytes.result.now c.loop-message.taken.items c.push-in-Some.new.self.items c.in-Some.one some.0 c.loop-message.invariant.named
     (sym c.if-has_zero_unique.ensures) some.1 c.in_ok-push-2.ensures.items
 
 pub returns-then-ends-clause-kept : goal.returns-then-ends-clause-kept
-returns-then-ends-clause-kept g c = kept_some g.K.Keeper.model c.loop-message.taken.items c.push-in-Some.new.self.items c.in-Some.one c.loop-message.invariant.kept
+returns-then-ends-clause-kept g c = kept_some g.service c.loop-message.taken.items c.push-in-Some.new.self.items c.in-Some.one c.loop-message.invariant.kept
     c.in-Some.ensures.kept c.in_ok-push-2.ensures.items
 
 pub loop-message-preserved : goal.loop-message-preserved
@@ -57,7 +58,7 @@ loop-message-preserved g c = elim c.match-read_one.branch [
   | in-Some+in_ok-push-2+else-ends w ↦
       let some = w.in-Some.ensures.entry in
       let pushed = ap (λ v. v.items) w.taken-is ∙ w.in_ok-push-2.ensures.items in
-      let isnt = destroys_is g.K.Keeper.model.service c.as_slice-bytes.result.now c.classify-class.result false c.classify-class.ensures
+      let isnt = destroys_is g.service c.as_slice-bytes.result.now c.classify-class.result false (c.classify-class.ensures ∙ ap (λ V. class_for V c.as_slice-bytes.result.now) c.requires.1.1.0)
       w.if-ends.ensures in
       record {
         count = omega (
@@ -67,11 +68,11 @@ loop-message-preserved g c = elim c.match-read_one.branch [
               (c.classify-class.result ∷ []),
           c.loop-message.invariant.count,
         );
-        classes = classes_more g.K.Keeper.model.service c.args.messages.now c.loop-message.message-index c.message-item.result c.as_slice-bytes.result.now c.loop-message.classes.items
+        classes = classes_more g.service c.args.messages.now c.loop-message.message-index c.message-item.result c.as_slice-bytes.result.now c.loop-message.classes.items
             c.push.new.self.items
             c.classify-class.result c.loop-message-test.true c.message-item.is c.as_slice-bytes.ensures c.loop-message.invariant.classes
-            c.classify-class.ensures c.in_ok-push.ensures.items;
-        gathers = gathers_some g.K.Keeper.model.service (g.C.Clock.gave c.args.clock.now c.loop-message.clock) (g.C.Clock.gave c.loop-message.clock c.read_one.new.clock)
+            (c.classify-class.ensures ∙ ap (λ V. class_for V c.as_slice-bytes.result.now) c.requires.1.1.0) c.in_ok-push.ensures.items;
+        gathers = gathers_some g.service (g.C.Clock.gave c.args.clock.now c.loop-message.clock) (g.C.Clock.gave c.loop-message.clock c.read_one.new.clock)
             (g.C.Clock.gave c.args.clock.now c.read_one.new.clock) ((g.met.C.Clock.logged).onward c.args.clock.now c.loop-message.clock c.read_one.new.clock)
             c.args.messages.now c.loop-message.message-index c.message-item.result c.as_slice-bytes.result.now c.loop-message.taken.items
             c.match-read_one.taken.items w.in-Some.one some.0 false
@@ -85,10 +86,10 @@ loop-message-preserved g c = elim c.match-read_one.branch [
           c.loop-message.taken.ok.0,
           c.if-len-ge-MAX_GROUP.false,
         );
-        named = named_some g.K.Keeper.model.service c.as_slice-bytes.result.now c.loop-message.taken.items c.match-read_one.taken.items w.in-Some.one some.0
+        named = named_some g.service c.as_slice-bytes.result.now c.loop-message.taken.items c.match-read_one.taken.items w.in-Some.one some.0
             c.loop-message.invariant.named (sym c.if-has_zero_unique.ensures) some.1 pushed;
-        kept = kept_some g.K.Keeper.model c.loop-message.taken.items c.match-read_one.taken.items w.in-Some.one c.loop-message.invariant.kept w.in-Some.ensures.kept pushed;
-        groups = groups_some g.K.Keeper.model.service c.args.messages.now c.loop-message.message-index c.message-item.result c.as_slice-bytes.result.now
+        kept = kept_some g.service c.loop-message.taken.items c.match-read_one.taken.items w.in-Some.one c.loop-message.invariant.kept w.in-Some.ensures.kept pushed;
+        groups = groups_some g.service c.args.messages.now c.loop-message.message-index c.message-item.result c.as_slice-bytes.result.now
             c.loop-message.taken.items c.match-read_one.taken.items w.in-Some.one some.0 c.loop-message-test.true c.message-item.is c.as_slice-bytes.ensures
             (omega (arith, c.len.ensures, c.loop-message.taken.ok.0, c.if-len-ge-MAX_GROUP.false)) (sym c.if-has_zero_unique.ensures) some.1 pushed
             (sym isnt) c.loop-message.invariant.groups;
@@ -104,22 +105,22 @@ loop-message-preserved g c = elim c.match-read_one.branch [
               (c.classify-class.result ∷ []),
           c.loop-message.invariant.count,
         );
-        classes = classes_more g.K.Keeper.model.service c.args.messages.now c.loop-message.message-index c.message-item.result c.as_slice-bytes.result.now c.loop-message.classes.items
+        classes = classes_more g.service c.args.messages.now c.loop-message.message-index c.message-item.result c.as_slice-bytes.result.now c.loop-message.classes.items
             c.push.new.self.items
             c.classify-class.result c.loop-message-test.true c.message-item.is c.as_slice-bytes.ensures c.loop-message.invariant.classes
-            c.classify-class.ensures c.in_ok-push.ensures.items;
-        gathers = subst (λ xs. Gathers g.K.Keeper.model.service (g.C.Clock.gave c.args.clock.now c.read_one.new.clock) (take (c.loop-message.message-index + 1) c.args.messages.now) xs
-            false) (sym same) (gathers_none g.K.Keeper.model.service (g.C.Clock.gave c.args.clock.now c.loop-message.clock) (g.C.Clock.gave c.loop-message.clock c.read_one.new.clock)
+            (c.classify-class.ensures ∙ ap (λ V. class_for V c.as_slice-bytes.result.now) c.requires.1.1.0) c.in_ok-push.ensures.items;
+        gathers = subst (λ xs. Gathers g.service (g.C.Clock.gave c.args.clock.now c.read_one.new.clock) (take (c.loop-message.message-index + 1) c.args.messages.now) xs
+            false) (sym same) (gathers_none g.service (g.C.Clock.gave c.args.clock.now c.loop-message.clock) (g.C.Clock.gave c.loop-message.clock c.read_one.new.clock)
             (g.C.Clock.gave c.args.clock.now c.read_one.new.clock) ((g.met.C.Clock.logged).onward c.args.clock.now c.loop-message.clock c.read_one.new.clock)
             c.args.messages.now c.loop-message.message-index c.message-item.result c.as_slice-bytes.result.now c.loop-message.taken.items none.0
             c.loop-message-test.true c.message-item.is c.as_slice-bytes.ensures c.loop-message.invariant.gathers
             (sym c.if-has_zero_unique.ensures) none.1 none.2);
         few = omega (arith, ap length same, c.loop-message.invariant.few);
         named = subst (λ xs. All HasId (entries_of xs)) (sym same) c.loop-message.invariant.named;
-        kept = subst (λ xs. All (IsPerformed g.K.Keeper.model) (entries_of xs)) (sym same) c.loop-message.invariant.kept;
-        groups = subst (λ xs. groups_of g.K.Keeper.model.service c.args.messages.now ≡ groups_next g.K.Keeper.model.service (asked_in (entries_of xs))
+        kept = subst (λ xs. All (IsPerformed g.service) (entries_of xs)) (sym same) c.loop-message.invariant.kept;
+        groups = subst (λ xs. groups_of g.service c.args.messages.now ≡ groups_next g.service (asked_in (entries_of xs))
             (drop (c.loop-message.message-index + 1) c.args.messages.now)) (sym same)
-            (groups_none g.K.Keeper.model.service c.args.messages.now c.loop-message.message-index c.message-item.result c.as_slice-bytes.result.now
+            (groups_none g.service c.args.messages.now c.loop-message.message-index c.message-item.result c.as_slice-bytes.result.now
             c.loop-message.taken.items none.0 c.loop-message-test.true c.message-item.is c.as_slice-bytes.ensures
             (omega (arith, c.len.ensures, c.loop-message.taken.ok.0, c.if-len-ge-MAX_GROUP.false)) (sym c.if-has_zero_unique.ensures) none.1
             c.loop-message.invariant.groups);
@@ -145,7 +146,7 @@ returns-in_err-push-clause-logged g c = (_, c.loop-message.invariant.gathers.mom
 
 pub returns-then-ends-clause-classes : goal.returns-then-ends-clause-classes
 returns-then-ends-clause-classes g c =
-    subst (λ n. c.push.new.self.items ≡ classes_in g.K.Keeper.model.service (take n c.args.messages.now))
+    subst (λ n. c.push.new.self.items ≡ classes_in g.service (take n c.args.messages.now))
     (omega (
       arith,
       ap length c.in_ok-push.ensures.items,
@@ -153,16 +154,16 @@ returns-then-ends-clause-classes g c =
           (c.classify-class.result ∷ []),
       c.loop-message.invariant.count,
     ))
-    (classes_more g.K.Keeper.model.service c.args.messages.now c.loop-message.message-index c.message-item.result c.as_slice-bytes.result.now c.loop-message.classes.items
+    (classes_more g.service c.args.messages.now c.loop-message.message-index c.message-item.result c.as_slice-bytes.result.now c.loop-message.classes.items
     c.push.new.self.items
-    c.classify-class.result c.loop-message-test.true c.message-item.is c.as_slice-bytes.ensures c.loop-message.invariant.classes c.classify-class.ensures
+    c.classify-class.result c.loop-message-test.true c.message-item.is c.as_slice-bytes.ensures c.loop-message.invariant.classes (c.classify-class.ensures ∙ ap (λ V. class_for V c.as_slice-bytes.result.now) c.requires.1.1.0)
     c.in_ok-push.ensures.items)
 
 pub returns-then-len-ge-MAX_GROUP-clause-stuck : goal.returns-then-len-ge-MAX_GROUP-clause-stuck
 returns-then-len-ge-MAX_GROUP-clause-stuck g c = λ none.
     let first = sym c.loop-message.invariant.count ∙ none in
     elim c.then-len-ge-MAX_GROUP.branch [
-      | then-len-ge-MAX_GROUP-via-then-len-ge-MAX_GROUP w ↦ absurd (full_stuck g.K.Keeper.model.service
+      | then-len-ge-MAX_GROUP-via-then-len-ge-MAX_GROUP w ↦ absurd (full_stuck g.service
           (g.C.Clock.gave c.args.clock.now c.loop-message.clock) c.args.messages.now c.loop-message.message-index c.loop-message.taken.items first
           c.loop-message.invariant.gathers (omega (arith, c.len.ensures, c.loop-message.taken.ok.0, w.if-len-ge-MAX_GROUP.true)))
       | then-len-ge-MAX_GROUP-via-else-len-ge-MAX_GROUP+then-has_zero_unique w ↦ zero_stuck c.args.messages.now c.loop-message.message-index
@@ -171,12 +172,12 @@ returns-then-len-ge-MAX_GROUP-clause-stuck g c = λ none.
 
 pub returns-then-len-ge-MAX_GROUP-clause-groups : goal.returns-then-len-ge-MAX_GROUP-clause-groups
 returns-then-len-ge-MAX_GROUP-clause-groups g c =
-    subst (λ n. groups_of g.K.Keeper.model.service c.args.messages.now ≡ one_group (asked_in (entries_of c.loop-message.taken.items))
-    ++ groups_of g.K.Keeper.model.service (drop n c.args.messages.now)) (sym c.loop-message.invariant.count)
+    subst (λ n. groups_of g.service c.args.messages.now ≡ one_group (asked_in (entries_of c.loop-message.taken.items))
+    ++ groups_of g.service (drop n c.args.messages.now)) (sym c.loop-message.invariant.count)
     (elim c.then-len-ge-MAX_GROUP.branch [
-      | then-len-ge-MAX_GROUP-via-then-len-ge-MAX_GROUP w ↦ groups_full g.K.Keeper.model.service c.args.messages.now c.loop-message.message-index
+      | then-len-ge-MAX_GROUP-via-then-len-ge-MAX_GROUP w ↦ groups_full g.service c.args.messages.now c.loop-message.message-index
           c.loop-message.taken.items (omega (arith, c.len.ensures, c.loop-message.taken.ok.0, w.if-len-ge-MAX_GROUP.true)) c.loop-message.invariant.groups
-      | then-len-ge-MAX_GROUP-via-else-len-ge-MAX_GROUP+then-has_zero_unique w ↦ groups_zero g.K.Keeper.model.service c.args.messages.now
+      | then-len-ge-MAX_GROUP-via-else-len-ge-MAX_GROUP+then-has_zero_unique w ↦ groups_zero g.service c.args.messages.now
           c.loop-message.message-index c.message-item.result c.as_slice-bytes.result.now c.loop-message.taken.items c.loop-message-test.true
           c.message-item.is c.as_slice-bytes.ensures (omega (arith, c.len.ensures, c.loop-message.taken.ok.0, w.if-len-ge-MAX_GROUP.false))
           (sym w.if-has_zero_unique.ensures) c.loop-message.invariant.groups
@@ -185,8 +186,8 @@ returns-then-len-ge-MAX_GROUP-clause-groups g c =
 pub returns-then-ends-clause-groups : goal.returns-then-ends-clause-groups
 returns-then-ends-clause-groups g c =
     let some = c.in-Some.ensures.entry in
-    subst (λ n. groups_of g.K.Keeper.model.service c.args.messages.now ≡ one_group (asked_in (entries_of c.push-in-Some.new.self.items))
-    ++ groups_of g.K.Keeper.model.service (drop n c.args.messages.now))
+    subst (λ n. groups_of g.service c.args.messages.now ≡ one_group (asked_in (entries_of c.push-in-Some.new.self.items))
+    ++ groups_of g.service (drop n c.args.messages.now))
     (omega (
       arith,
       ap length c.in_ok-push.ensures.items,
@@ -194,17 +195,22 @@ returns-then-ends-clause-groups g c =
           (c.classify-class.result ∷ []),
       c.loop-message.invariant.count,
     ))
-    (groups_destroy g.K.Keeper.model.service c.args.messages.now c.loop-message.message-index c.message-item.result c.as_slice-bytes.result.now
+    (groups_destroy g.service c.args.messages.now c.loop-message.message-index c.message-item.result c.as_slice-bytes.result.now
     c.loop-message.taken.items c.push-in-Some.new.self.items c.in-Some.one some.0 c.loop-message-test.true c.message-item.is c.as_slice-bytes.ensures
     (omega (arith, c.len.ensures, c.loop-message.taken.ok.0, c.if-len-ge-MAX_GROUP.false)) (sym c.if-has_zero_unique.ensures) some.1
     c.in_ok-push-2.ensures.items
-    (sym (destroys_is g.K.Keeper.model.service c.as_slice-bytes.result.now c.classify-class.result true c.classify-class.ensures
+    (sym (destroys_is g.service c.as_slice-bytes.result.now c.classify-class.result true (c.classify-class.ensures ∙ ap (λ V. class_for V c.as_slice-bytes.result.now) c.requires.1.1.0)
     c.if-ends.ensures))
     c.loop-message.invariant.groups)
 
 pub returns-clause-groups : goal.returns-clause-groups
 returns-clause-groups g c =
-    subst (λ n. groups_of g.K.Keeper.model.service c.args.messages.now ≡ one_group (asked_in (entries_of c.loop-message.taken.items))
-    ++ groups_of g.K.Keeper.model.service (drop n c.args.messages.now)) (sym c.loop-message.invariant.count)
-    (groups_end g.K.Keeper.model.service c.args.messages.now c.loop-message.message-index c.loop-message.taken.items
+    subst (λ n. groups_of g.service c.args.messages.now ≡ one_group (asked_in (entries_of c.loop-message.taken.items))
+    ++ groups_of g.service (drop n c.args.messages.now)) (sym c.loop-message.invariant.count)
+    (groups_end g.service c.args.messages.now c.loop-message.message-index c.loop-message.taken.items
     (omega (arith, c.loop-message-test.false)) c.loop-message.invariant.groups)
+
+pub read_one-requires : goal.read_one-requires
+read_one-requires g c =
+    let class = c.classify-class.ensures ∙ ap (λ V. class_for V c.as_slice-bytes.result.now) c.requires.1.1.0 in
+    search rules

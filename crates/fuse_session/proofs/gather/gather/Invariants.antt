@@ -8,10 +8,13 @@ use Rattle.fuse_session.proofs.gather.gather.Given as goal
 abbrev pub invariant-loop-message : goal.invariant-loop-message
 invariant-loop-message g l = record {
   count : length l.classes.items ≡ l.message-index;
-  classes : l.classes.items ≡ classes_in g.K.Keeper.model.service (take l.message-index l.messages);
-  gathers : Gathers g.K.Keeper.model.service (g.C.Clock.gave l.fn.clock l.clock) (take l.message-index l.messages) l.taken.items false;
+  classes : l.classes.items ≡ classes_in g.service (take l.message-index l.messages);
+  gathers : Gathers g.service (g.C.Clock.gave l.fn.clock l.clock) (take l.message-index l.messages) l.taken.items false;
   few : length l.taken.items ≤ 16;
   named : All HasId (entries_of l.taken.items);
-  kept : All (IsPerformed g.K.Keeper.model) (entries_of l.taken.items);
-  groups : groups_of g.K.Keeper.model.service l.messages ≡ groups_next g.K.Keeper.model.service (asked_in (entries_of l.taken.items)) (drop l.message-index l.messages);
+  kept : All (IsPerformed g.service) (entries_of l.taken.items);
+  groups : groups_of g.service l.messages ≡ groups_next g.service (asked_in (entries_of l.taken.items)) (drop l.message-index l.messages);
 }
+
+abbrev pub ghost-read_one : goal.ghost-read_one
+ghost-read_one g a = g.service

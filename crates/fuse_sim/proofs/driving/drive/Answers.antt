@@ -1,184 +1,211 @@
-use Rattle.std.proofs.Common.{◌≡◌, false, [], length, drop, ap, subst, arith}
-use Rattle.std.proofs.lemmas.List.{take_all}
-use Rattle.std.proofs.lemmas.Result.{err_from_is_err_and}
-use Rattle.fuse_keeper.specs.Group.{ids_of}
-use Rattle.fuse_sim.specs.Driving.{told_in, Opened, StoodBefore, performed_in}
-use Rattle.fuse_sim.specs.Twice.{seen_of}
+use Rattle.std.proofs.Common.{◌≡◌, ℕ, List, true, subst}
+use Rattle.fuse_keeper.specs.History.{History}
+use Rattle.fuse_keeper.specs.KeeperState.{IsFirm}
+use Rattle.fuse_sim.specs.Driving.{told_in, told_for, StandsIn, committed, settled_by, NoneReused, before, is_store, LeftBy, StoodBefore, AnsweredBy}
+use Rattle.fuse_sim.specs.AfterEvents.{StandsAfter, AnswersAre, FirstAnswersAre, DeletesHanded, KeepsUnhanded}
 use Rattle.fuse_sim.specs.HandedOn.{performances}
-use Rattle.fuse_sim.proofs.Openings.{opened_none, stood_none, medium_itself, medium_then}
-use Rattle.fuse_sim.proofs.Endings.{moved_none, moved_more, moved_opened, stopped_opened, stopped_emptied, moved_all, moved_stands, moved_left, moved_outcomes}
-use Rattle.fuse_sim.proofs.Endings.{moved_stood, moved_outcomes_before, moved_asked, stopped_stood, stopped_medium, stopped_firm, stopped_asked}
-use Rattle.fuse_sim.proofs.Endings.{moved_count, moved_records, stopped, stopped_store, stopped_records}
-use Rattle.fuse_sim.proofs.AskedGroups.{performed_none}
+use Rattle.fuse_sim.proofs.Endings.{clean_too}
+use Rattle.fuse_sim.proofs.Served.{serves_itself, gives_in, left_by, honest_of, medium_of, opened_of}
 use Rattle.fuse_sim.proofs.driving.drive.Goals as goal
 
-pub loop-at-init : goal.loop-at-init
-loop-at-init g c =
-    let k = g.K.Keeper in
-    record {
-      within = omega arith;
-      moved = moved_none k.model (told_in k.told c.args.keeper.now) c.args.events.now (ids_of c.new-pending.result.items) c.new-outcomes.result.items
-          (ap ids_of {y = []} c.new-pending.ensures.items) c.new-outcomes.ensures.items;
-      few = omega (arith, ap length c.new-pending.ensures.items);
-      going = c.requires.present;
-      opened = opened_none k.model k.told k.became g.met.K.Keeper.counted (λ x. (k.told x).has_failed ≡ false) c.args.keeper.now c.requires.present;
-      honest = λ is. is;
-      stood = stood_none k.model k.told k.became g.met.K.Keeper.counted (λ x. (k.told x).has_failed ≡ false) c.args.keeper.now c.requires.present;
-      asked = performed_none k.performed g.met.K.Keeper.log (λ x. (k.told x).has_failed ≡ false) c.args.keeper.now c.requires.present;
-      medium = medium_itself k.model k.told c.args.keeper.now;
-    }
+pub run_all-requires : goal.run_all-requires
+run_all-requires g c = λ κs lives. (lives.0, (lives.1, (serves_itself g.K.Keeper.told c.args.keeper.now, c.requires.present)))
 
-pub loop-at-preserved : goal.loop-at-preserved
-loop-at-preserved g c =
-    let k = g.K.Keeper in
-    record {
-      within = c.in_ok-at.ensures.within;
-      moved = moved_more g.K.Keeper.model c.histories_grow.ensures (told_in k.told c.args.keeper.now) (told_in k.told c.loop-at.keeper)
-          (told_in k.told c.run_next.new.keeper)
-          c.args.events.now c.loop-at.at c.in_ok-at.field-0 (ids_of c.loop-at.pending.items) (ids_of c.run_next.new.pending.items) c.loop-at.outcomes.items
-          c.run_next.new.outcomes.items c.run_next.ensures.honest c.loop-at.invariant.moved c.in_ok-at.ensures.ok;
-      few = c.in_ok-at.ensures.few;
-      going = c.in_ok-at.ensures.going;
-      opened = moved_opened g.K.Keeper.model c.still_stands.ensures k.told k.became g.met.K.Keeper.counted c.args.keeper.now c.loop-at.keeper c.run_next.new.keeper c.args.events.now
-          c.loop-at.at c.in_ok-at.field-0
-          (ids_of c.loop-at.pending.items) c.loop-at.outcomes.items c.loop-at.invariant.moved c.loop-at.invariant.opened c.in_ok-at.ensures.opens;
-      honest = λ is. c.loop-at.invariant.honest (c.run_next.ensures.honest is);
-      stood = moved_stood g.K.Keeper.model c.still_stands.ensures k.told k.became g.met.K.Keeper.counted c.args.keeper.now c.loop-at.keeper c.run_next.new.keeper c.args.events.now
-          c.loop-at.at c.in_ok-at.field-0
-          (ids_of c.loop-at.pending.items) c.loop-at.outcomes.items c.loop-at.invariant.moved c.loop-at.invariant.opened c.loop-at.invariant.stood
-          c.in_ok-at.ensures.opens;
-      asked = moved_asked g.K.Keeper.model k.performed g.met.K.Keeper.log (told_in k.told c.args.keeper.now) (told_in k.told c.loop-at.keeper)
-          (told_in k.told c.run_next.new.keeper) c.args.keeper.now c.loop-at.keeper c.run_next.new.keeper c.args.events.now c.loop-at.at c.in_ok-at.field-0
-          (ids_of c.loop-at.pending.items) (ids_of c.run_next.new.pending.items) c.loop-at.outcomes.items c.run_next.new.outcomes.items
-          c.loop-at.invariant.moved c.loop-at.invariant.asked c.in_ok-at.ensures.ok c.in_ok-at.ensures.one c.in_ok-at.ensures.asked;
-      medium = medium_then g.K.Keeper.model k.told c.args.keeper.now c.loop-at.keeper c.run_next.new.keeper (λ x. (k.told x).has_failed ≡ false)
-          c.loop-at.invariant.going c.loop-at.invariant.medium c.in_ok-at.ensures.opens.medium;
-    }
+pub returns-in-Ok-clause-tree_stands : goal.returns-in-Ok-clause-tree_stands
+returns-in-Ok-clause-tree_stands g c = λ honest.
+    let told = g.K.Keeper.told in
+    let old = c.args.keeper.now in
+    let new = c.run_all.new.keeper in
+    let events = c.args.events.now in
+    let V = (told_in told old).service in
+    let same = gives_in g.K.Keeper.model V told new c.run_all.ensures.stays g.met.K.Keeper.sound in
+    subst (λ W. StandsAfter (told_for W told) old new events) (same honest) c.in-Ok.ensures.tree_stands honest
 
-pub returns-in_err-at-clause-after_fault : goal.returns-in_err-at-clause-after_fault
-returns-in_err-at-clause-after_fault g c =
-    let k = g.K.Keeper in
-    let p = err_from_is_err_and c.from_residual.result c.from_residual.ensures.1 in
-    rw (p.1, p.2) (stopped g.K.Keeper.model c.still_stands.ensures (seen_of k.told k.became k.performed g.K.Restart.refuses) c.args.keeper.now c.loop-at.keeper c.run_next.new.keeper c.args.events.now
-    c.loop-at.at c.in_err-at.field-0.0 (ids_of c.loop-at.pending.items) c.loop-at.outcomes.items
-    (λ k. (g.met.K.Keeper.sound k).clean_is_honest) c.loop-at.invariant.moved c.in_err-at.ensures.err)
+pub returns-in-Ok-clause-outcomes : goal.returns-in-Ok-clause-outcomes
+returns-in-Ok-clause-outcomes g c = λ honest.
+    let told = g.K.Keeper.told in
+    let old = c.args.keeper.now in
+    let new = c.run_all.new.keeper in
+    let events = c.args.events.now in
+    let V = (told_in told old).service in
+    let same = gives_in g.K.Keeper.model V told new c.run_all.ensures.stays g.met.K.Keeper.sound in
+    subst (λ W. AnswersAre (told_for W told) old new events c.in-Ok.outcomes.items) (same honest) c.in-Ok.ensures.outcomes honest
 
-pub returns-in_err-at-clause-records_at_fault : goal.returns-in_err-at-clause-records_at_fault
-returns-in_err-at-clause-records_at_fault g c =
-    let k = g.K.Keeper in
-    let p = err_from_is_err_and c.from_residual.result c.from_residual.ensures.1 in
-    rw (p.1, p.2) (stopped_records g.K.Keeper.model (seen_of k.told k.became k.performed g.K.Restart.refuses) c.args.keeper.now c.loop-at.keeper c.run_next.new.keeper c.args.events.now
-    c.loop-at.at c.in_err-at.field-0.0 (ids_of c.loop-at.pending.items) c.loop-at.outcomes.items
-    (λ k. (g.met.K.Keeper.sound k).clean_is_honest) c.loop-at.invariant.moved c.in_err-at.ensures.err)
+pub returns-in-Ok-clause-outcomes_before : goal.returns-in-Ok-clause-outcomes_before
+returns-in-Ok-clause-outcomes_before g c = λ honest.
+    let told = g.K.Keeper.told in
+    let old = c.args.keeper.now in
+    let new = c.run_all.new.keeper in
+    let events = c.args.events.now in
+    let V = (told_in told old).service in
+    let same = gives_in g.K.Keeper.model V told new c.run_all.ensures.stays g.met.K.Keeper.sound in
+    subst (λ W. FirstAnswersAre (told_for W told) old new events c.in-Ok.outcomes.items) (same honest) c.in-Ok.ensures.outcomes_before honest
 
-pub returns-in_err-at-clause-store : goal.returns-in_err-at-clause-store
-returns-in_err-at-clause-store g c =
-    let k = g.K.Keeper in
-    let p = err_from_is_err_and c.from_residual.result c.from_residual.ensures.1 in
-    rw (p.1, p.2) (stopped_store g.K.Keeper.model c.still_stands.ensures (seen_of k.told k.became k.performed g.K.Restart.refuses) c.args.keeper.now c.loop-at.keeper c.run_next.new.keeper
-    c.args.events.now c.loop-at.at c.in_err-at.field-0.0 (ids_of c.loop-at.pending.items) c.loop-at.outcomes.items
-    (λ k. (g.met.K.Keeper.sound k).clean_is_honest) c.loop-at.invariant.moved c.loop-at.invariant.opened c.in_err-at.ensures.err)
+pub returns-in-Ok-clause-stood_before : goal.returns-in-Ok-clause-stood_before
+returns-in-Ok-clause-stood_before g c = λ honest.
+    let told = g.K.Keeper.told in
+    let old = c.args.keeper.now in
+    let new = c.run_all.new.keeper in
+    let events = c.args.events.now in
+    let V = (told_in told old).service in
+    let same = gives_in g.K.Keeper.model V told new c.run_all.ensures.stays g.met.K.Keeper.sound in
+    subst (λ W. StoodBefore (told_for W told) g.K.Keeper.became old new events) (same honest) c.in-Ok.ensures.stood_before honest
 
-pub returns-in_err-at-clause-opened_before : goal.returns-in_err-at-clause-opened_before
-returns-in_err-at-clause-opened_before g c =
-    let k = g.K.Keeper in
-    let p = err_from_is_err_and c.from_residual.result c.from_residual.ensures.1 in
-    rw (p.1, p.2) (stopped_opened g.K.Keeper.model (seen_of k.told k.became k.performed g.K.Restart.refuses) g.met.K.Keeper.counted c.args.keeper.now c.loop-at.keeper
-    c.run_next.new.keeper c.args.events.now c.loop-at.at c.in_err-at.field-0.0
-    c.loop-at.invariant.opened c.in_err-at.ensures.err)
+pub returns-in-Ok-clause-opened : goal.returns-in-Ok-clause-opened
+returns-in-Ok-clause-opened g c =
+    let told = g.K.Keeper.told in
+    let old = c.args.keeper.now in
+    let new = c.run_all.new.keeper in
+    let events = c.args.events.now in
+    let V = (told_in told old).service in
+    let same = gives_in g.K.Keeper.model V told new c.run_all.ensures.stays g.met.K.Keeper.sound in
+    opened_of g.K.Keeper.model V told g.K.Keeper.became old new events same c.in-Ok.ensures.opened
 
-pub returns-in_err-at-clause-emptied : goal.returns-in_err-at-clause-emptied
-returns-in_err-at-clause-emptied g c =
-    let k = g.K.Keeper in
-    let p = err_from_is_err_and c.from_residual.result c.from_residual.ensures.1 in
-    rw (p.1, p.2) (stopped_emptied g.K.Keeper.model (seen_of k.told k.became k.performed g.K.Restart.refuses) g.met.K.Keeper.counted c.args.keeper.now c.loop-at.keeper
-    c.run_next.new.keeper c.args.events.now c.loop-at.at c.in_err-at.field-0.0
-    c.loop-at.invariant.opened c.in_err-at.ensures.err)
+pub returns-in-Ok-clause-records : goal.returns-in-Ok-clause-records
+returns-in-Ok-clause-records g c = λ honest.
+    let told = g.K.Keeper.told in
+    let old = c.args.keeper.now in
+    let new = c.run_all.new.keeper in
+    let events = c.args.events.now in
+    let V = (told_in told old).service in
+    let same = gives_in g.K.Keeper.model V told new c.run_all.ensures.stays g.met.K.Keeper.sound in
+    subst (λ W. DeletesHanded (told_for W told) old new (performances W events) events) (same honest) c.in-Ok.ensures.records honest
 
-pub returns-in_err-at-clause-honest : goal.returns-in_err-at-clause-honest
-returns-in_err-at-clause-honest g c = λ is. c.loop-at.invariant.honest (c.run_next.ensures.honest is)
+pub returns-in-Ok-clause-kept : goal.returns-in-Ok-clause-kept
+returns-in-Ok-clause-kept g c = λ honest.
+    let told = g.K.Keeper.told in
+    let old = c.args.keeper.now in
+    let new = c.run_all.new.keeper in
+    let events = c.args.events.now in
+    let V = (told_in told old).service in
+    let same = gives_in g.K.Keeper.model V told new c.run_all.ensures.stays g.met.K.Keeper.sound in
+    subst (λ W. KeepsUnhanded (told_for W told) old new (performances W events) events) (same honest) c.in-Ok.ensures.kept honest
 
-pub returns-clause-opened : goal.returns-clause-opened
-returns-clause-opened g c =
-    subst (Opened g.K.Keeper.told g.K.Keeper.became c.args.keeper.now c.loop-at.keeper) (take_all c.loop-at.at c.args.events.now c.loop-at-test.false)
-    c.loop-at.invariant.opened
+pub returns-in-Ok-clause-firm : goal.returns-in-Ok-clause-firm
+returns-in-Ok-clause-firm g c = λ honest.
+    let told = g.K.Keeper.told in
+    let old = c.args.keeper.now in
+    let new = c.run_all.new.keeper in
+    let events = c.args.events.now in
+    let V = (told_in told old).service in
+    let same = gives_in g.K.Keeper.model V told new c.run_all.ensures.stays g.met.K.Keeper.sound in
+    subst (λ W. (told_in (told_for W told) new).is_honest → IsFirm (told_in (told_for W told) old) → IsFirm (told_in (told_for W told) new)) (same honest) c.in-Ok.ensures.firm honest
 
-pub returns-clause-tree_stands : goal.returns-clause-tree_stands
-returns-clause-tree_stands g c =
-    moved_stands g.K.Keeper.model c.still_stands.ensures _ _ c.args.events.now _ _ _
-    (moved_all g.K.Keeper.model (told_in g.K.Keeper.told c.args.keeper.now) (told_in g.K.Keeper.told c.loop-at.keeper) c.args.events.now _ c.loop-at.at _ _
-    c.loop-at-test.false c.loop-at.invariant.moved)
+pub returns-in-Ok-clause-honest : goal.returns-in-Ok-clause-honest
+returns-in-Ok-clause-honest g c =
+    let told = g.K.Keeper.told in
+    let old = c.args.keeper.now in
+    let new = c.run_all.new.keeper in
+    let events = c.args.events.now in
+    let V = (told_in told old).service in
+    honest_of V told old new c.run_all.ensures.honest
 
-pub returns-clause-kept : goal.returns-clause-kept
-returns-clause-kept g c =
-    moved_left g.K.Keeper.model g.K.Keeper.told c.args.keeper.now c.loop-at.keeper c.args.events.now _ _ _ (λ k. (g.met.K.Keeper.sound k).one_holding)
-    (moved_all g.K.Keeper.model (told_in g.K.Keeper.told c.args.keeper.now) (told_in g.K.Keeper.told c.loop-at.keeper) c.args.events.now _ c.loop-at.at _ _
-    c.loop-at-test.false c.loop-at.invariant.moved)
+pub returns-in-Ok-clause-medium : goal.returns-in-Ok-clause-medium
+returns-in-Ok-clause-medium g c =
+    let told = g.K.Keeper.told in
+    let old = c.args.keeper.now in
+    let new = c.run_all.new.keeper in
+    let events = c.args.events.now in
+    let V = (told_in told old).service in
+    medium_of V told old new c.run_all.ensures.medium
 
-pub returns-clause-outcomes : goal.returns-clause-outcomes
-returns-clause-outcomes g c =
-    moved_outcomes g.K.Keeper.model _ _ c.args.events.now _ _ _
-    (moved_all g.K.Keeper.model (told_in g.K.Keeper.told c.args.keeper.now) (told_in g.K.Keeper.told c.loop-at.keeper) c.args.events.now _ c.loop-at.at _ _
-    c.loop-at-test.false c.loop-at.invariant.moved)
+pub returns-in-Err-clause-honest : goal.returns-in-Err-clause-honest
+returns-in-Err-clause-honest g c =
+    let told = g.K.Keeper.told in
+    let old = c.args.keeper.now in
+    let new = c.run_all.new.keeper in
+    let events = c.args.events.now in
+    let V = (told_in told old).service in
+    honest_of V told old new c.run_all.ensures.honest
 
-pub returns-clause-count : goal.returns-clause-count
-returns-clause-count g c =
-    moved_count g.K.Keeper.model _ _ c.args.events.now _ _ _
-    (moved_all g.K.Keeper.model (told_in g.K.Keeper.told c.args.keeper.now) (told_in g.K.Keeper.told c.loop-at.keeper) c.args.events.now _ c.loop-at.at _ _
-    c.loop-at-test.false c.loop-at.invariant.moved)
+pub returns-in-Err-clause-medium : goal.returns-in-Err-clause-medium
+returns-in-Err-clause-medium g c =
+    let told = g.K.Keeper.told in
+    let old = c.args.keeper.now in
+    let new = c.run_all.new.keeper in
+    let events = c.args.events.now in
+    let V = (told_in told old).service in
+    medium_of V told old new c.run_all.ensures.medium
 
-pub returns-clause-records : goal.returns-clause-records
-returns-clause-records g c =
-    moved_records g.K.Keeper.model _ _ c.args.events.now _ _ _
-    (moved_all g.K.Keeper.model (told_in g.K.Keeper.told c.args.keeper.now) (told_in g.K.Keeper.told c.loop-at.keeper) c.args.events.now _ c.loop-at.at _ _
-    c.loop-at-test.false c.loop-at.invariant.moved)
+pub returns-in-Err-clause-after_fault : goal.returns-in-Err-clause-after_fault
+returns-in-Err-clause-after_fault g c = λ start h settled stood none.
+    let told = g.K.Keeper.told in
+    let old = c.args.keeper.now in
+    let new = c.run_all.new.keeper in
+    let events = c.args.events.now in
+    let V = (told_in told old).service in
+    let same = gives_in g.K.Keeper.model V told new c.run_all.ensures.stays g.met.K.Keeper.sound in
+    let fault = c.in-Err.fault in
+    let clean = clean_too g.K.Keeper.model told new (λ x. (g.met.K.Keeper.sound x).clean_is_honest) in
+    left_by (told_in told new) (is_store fault) _ clean (λ honest.
+    subst (λ W. (s : g.K.Keeper.model.State) (h' : History) (t : List ℕ) → StandsIn (told_for W told) old s h' t → NoneReused W t (before fault events)
+    → LeftBy (told_in (told_for W told) new) (is_store fault)
+    (StandsIn (told_for W told) new s (committed W h' (before fault events)) (settled_by W t (before fault events))))
+    (same honest) c.in-Err.ensures.after_fault start h settled stood none)
 
-pub returns-in_err-at-clause-stood_at_fault : goal.returns-in_err-at-clause-stood_at_fault
-returns-in_err-at-clause-stood_at_fault g c =
-    let k = g.K.Keeper in
-    let p = err_from_is_err_and c.from_residual.result c.from_residual.ensures.1 in
-    rw (p.1, p.2) (stopped_stood g.K.Keeper.model (seen_of k.told k.became k.performed g.K.Restart.refuses) g.met.K.Keeper.counted c.args.keeper.now c.loop-at.keeper
-    c.run_next.new.keeper c.args.events.now c.loop-at.at c.in_err-at.field-0.0
-    c.loop-at.invariant.stood c.in_err-at.ensures.err)
+pub returns-in-Err-clause-records_at_fault : goal.returns-in-Err-clause-records_at_fault
+returns-in-Err-clause-records_at_fault g c =
+    let told = g.K.Keeper.told in
+    let old = c.args.keeper.now in
+    let new = c.run_all.new.keeper in
+    let events = c.args.events.now in
+    let V = (told_in told old).service in
+    let same = gives_in g.K.Keeper.model V told new c.run_all.ensures.stays g.met.K.Keeper.sound in
+    let fault = c.in-Err.fault in
+    let clean = clean_too g.K.Keeper.model told new (λ x. (g.met.K.Keeper.sound x).clean_is_honest) in
+    left_by (told_in told new) (is_store fault) _ clean (λ honest.
+    subst (λ W. LeftBy (told_in (told_for W told) new) (is_store fault)
+    (DeletesHanded (told_for W told) old new (performances W (before fault events)) (before fault events)))
+    (same honest) c.in-Err.ensures.records_at_fault)
 
-pub returns-in_err-at-clause-asked_before : goal.returns-in_err-at-clause-asked_before
-returns-in_err-at-clause-asked_before g c =
-    let k = g.K.Keeper in
-    let p = err_from_is_err_and c.from_residual.result c.from_residual.ensures.1 in
-    rw (p.1, p.2) (stopped_asked g.K.Keeper.model (seen_of k.told k.became k.performed g.K.Restart.refuses) g.met.K.Keeper.log c.args.keeper.now
-    c.loop-at.keeper c.run_next.new.keeper c.args.events.now c.loop-at.at c.in_err-at.field-0.0
-    (ids_of c.loop-at.pending.items) c.loop-at.outcomes.items c.loop-at.invariant.moved c.loop-at.invariant.asked c.in_err-at.ensures.err
-    c.in_err-at.ensures.err_asked)
+pub returns-in-Err-clause-opened_before : goal.returns-in-Err-clause-opened_before
+returns-in-Err-clause-opened_before g c = λ there.
+    let told = g.K.Keeper.told in
+    let old = c.args.keeper.now in
+    let new = c.run_all.new.keeper in
+    let events = c.args.events.now in
+    let V = (told_in told old).service in
+    let same = gives_in g.K.Keeper.model V told new c.run_all.ensures.stays g.met.K.Keeper.sound in
+    let fault = c.in-Err.fault in
+    let clean = clean_too g.K.Keeper.model told new (λ x. (g.met.K.Keeper.sound x).clean_is_honest) in
+    opened_of g.K.Keeper.model V told g.K.Keeper.became old new (before fault events) same (c.in-Err.ensures.opened_before there)
 
-pub returns-in_err-at-clause-medium : goal.returns-in_err-at-clause-medium
-returns-in_err-at-clause-medium g c =
-    let k = g.K.Keeper in
-    stopped_medium g.K.Keeper.model (seen_of k.told k.became k.performed g.K.Restart.refuses) (λ x. (k.told x).has_failed ≡ false) c.args.keeper.now c.loop-at.keeper
-    c.run_next.new.keeper c.args.events.now c.loop-at.at c.in_err-at.field-0.0 c.loop-at.invariant.going c.loop-at.invariant.medium c.in_err-at.ensures.err
+pub returns-in-Err-clause-stood_at_fault : goal.returns-in-Err-clause-stood_at_fault
+returns-in-Err-clause-stood_at_fault g c = λ there honest.
+    let told = g.K.Keeper.told in
+    let old = c.args.keeper.now in
+    let new = c.run_all.new.keeper in
+    let events = c.args.events.now in
+    let V = (told_in told old).service in
+    let same = gives_in g.K.Keeper.model V told new c.run_all.ensures.stays g.met.K.Keeper.sound in
+    let fault = c.in-Err.fault in
+    let clean = clean_too g.K.Keeper.model told new (λ x. (g.met.K.Keeper.sound x).clean_is_honest) in
+    subst (λ W. StoodBefore (told_for W told) g.K.Keeper.became old new (before fault events)) (same honest)
+    (c.in-Err.ensures.stood_at_fault there) honest
 
-pub returns-in_err-at-clause-firm : goal.returns-in_err-at-clause-firm
-returns-in_err-at-clause-firm g c =
-    let k = g.K.Keeper in
-    let p = err_from_is_err_and c.from_residual.result c.from_residual.ensures.1 in
-    rw (p.1, p.2) (stopped_firm g.K.Keeper.model (seen_of k.told k.became k.performed g.K.Restart.refuses) c.args.keeper.now c.loop-at.keeper c.run_next.new.keeper
-    c.args.events.now (drop c.loop-at.at c.args.events.now) c.loop-at.at c.in_err-at.field-0.0 (ids_of c.loop-at.pending.items) c.loop-at.outcomes.items
-    c.loop-at.invariant.moved c.in_err-at.ensures.err)
+pub returns-in-Err-clause-store : goal.returns-in-Err-clause-store
+returns-in-Err-clause-store g c = λ is left.
+    let told = g.K.Keeper.told in
+    let old = c.args.keeper.now in
+    let new = c.run_all.new.keeper in
+    let events = c.args.events.now in
+    let V = (told_in told old).service in
+    let same = gives_in g.K.Keeper.model V told new c.run_all.ensures.stays g.met.K.Keeper.sound in
+    let fault = c.in-Err.fault in
+    let clean = clean_too g.K.Keeper.model told new (λ x. (g.met.K.Keeper.sound x).clean_is_honest) in
+    subst (λ W. (told_in (told_for W told) new).is_clean → (s : g.K.Keeper.model.State) (h' : History) (t : List ℕ) → StandsIn (told_for W told) old s h' t
+    → NoneReused W t (before fault events) → AnsweredBy (told_for W told) g.K.Keeper.became old new (before fault events) fault)
+    (same (clean left)) (c.in-Err.ensures.store is) left
 
-pub returns-clause-firm : goal.returns-clause-firm
-returns-clause-firm g c = c.loop-at.invariant.moved.ran.firm
-
-pub returns-clause-stood_before : goal.returns-clause-stood_before
-returns-clause-stood_before g c =
-    subst (StoodBefore g.K.Keeper.told g.K.Keeper.became c.args.keeper.now c.loop-at.keeper) (take_all c.loop-at.at c.args.events.now c.loop-at-test.false)
-    c.loop-at.invariant.stood
-
-pub returns-clause-asked : goal.returns-clause-asked
-returns-clause-asked g c =
-    subst (λ es. performed_in g.K.Keeper.performed c.args.keeper.now c.loop-at.keeper (performances g.K.Keeper.model.service es))
-    (take_all c.loop-at.at c.args.events.now c.loop-at-test.false) c.loop-at.invariant.asked
-
-pub returns-clause-outcomes_before : goal.returns-clause-outcomes_before
-returns-clause-outcomes_before g c =
-    moved_outcomes_before g.K.Keeper.model _ _ c.args.events.now _ _ _
-    (moved_all g.K.Keeper.model (told_in g.K.Keeper.told c.args.keeper.now) (told_in g.K.Keeper.told c.loop-at.keeper) c.args.events.now _ c.loop-at.at _ _
-    c.loop-at-test.false c.loop-at.invariant.moved)
+pub returns-in-Err-clause-firm : goal.returns-in-Err-clause-firm
+returns-in-Err-clause-firm g c = λ is honest.
+    let told = g.K.Keeper.told in
+    let old = c.args.keeper.now in
+    let new = c.run_all.new.keeper in
+    let events = c.args.events.now in
+    let V = (told_in told old).service in
+    let same = gives_in g.K.Keeper.model V told new c.run_all.ensures.stays g.met.K.Keeper.sound in
+    let fault = c.in-Err.fault in
+    let clean = clean_too g.K.Keeper.model told new (λ x. (g.met.K.Keeper.sound x).clean_is_honest) in
+    subst (λ W. (told_in (told_for W told) new).is_honest → IsFirm (told_in (told_for W told) old) → IsFirm (told_in (told_for W told) new)) (same honest)
+    (c.in-Err.ensures.firm is) honest

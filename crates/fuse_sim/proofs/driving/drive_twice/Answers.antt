@@ -1,11 +1,13 @@
-use Rattle.std.proofs.Common.{◌++◌, map, ap, sym, ◌∙◌}
+use Rattle.std.proofs.Common.{◌++◌, map, ap, sym, subst, refl, ◌∙◌}
 use Rattle.std.proofs.lemmas.List.{map-append}
 use Rattle.std.proofs.lemmas.Result.{err_from_is_err_and}
-use Rattle.fuse_sim.specs.Driving.{bytes_given, committed, outcomes_of, settled_by}
+use Rattle.fuse_sim.specs.Driving.{told_in, bytes_given, committed, outcomes_of, performed_in, settled_by}
+use Rattle.fuse_sim.specs.HandedOn.{performances}
 use Rattle.fuse_sim.specs.Twice.{seen_of}
 use Rattle.fuse_sim.proofs.Driven.{outcomes-append, reused-parts}
 use Rattle.fuse_sim.proofs.Openings.{stands_twice, opened_twice, stood_twice}
-use Rattle.fuse_sim.proofs.TwoLists.{stopped_first, stopped_second}
+use Rattle.fuse_sim.proofs.AskedGroups.{performed_then}
+use Rattle.fuse_sim.proofs.TwoLists.{stopped_first, stopped_second, serves_mid}
 use Rattle.fuse_sim.proofs.InARow.{answers_in_a_row, records_in_a_row, kept_in_a_row}
 use Rattle.fuse_sim.proofs.driving.drive_twice.Goals as goal
 
@@ -28,7 +30,7 @@ returns-clause-outcomes g c = λ is start h settled so none.
     ∙ ap (λ os. os ++ map bytes_given c.in_ok-second.second.items) (c.in_ok-first.ensures.outcomes was start h settled so parts.0)
     ∙ ap (λ os. outcomes_of M start h xs ++ os) (c.in_ok-second.ensures.outcomes is start (committed V h xs) (settled_by V settled xs) stands
     parts.1)
-    ∙ sym (outcomes-append M c.histories_grow.ensures start h xs ys)
+    ∙ sym (outcomes-append M (c.histories_grow.ensures g.K.Keeper.model.service) start h xs ys)
 
 pub returns-clause-opened : goal.returns-clause-opened
 returns-clause-opened g c =
@@ -69,6 +71,7 @@ returns-in_err-second-clause-stopped g c =
       opened = first.opened;
       stood = first.stood_before;
       asked = first.asked;
+      stays = first.stays;
       firm = first.firm;
     }) (record {
       named = e.fault_causes;
@@ -96,7 +99,7 @@ pub returns-clause-outcomes_before : goal.returns-clause-outcomes_before
 returns-clause-outcomes_before g c =
     let k = g.K.Keeper in
     let first = c.in_ok-first.ensures in
-    answers_in_a_row k.model c.histories_grow.ensures k.told c.args.keeper.now c.drive.new.keeper c.drive-2.new.keeper c.args.events.now c.args.more.now
+    answers_in_a_row k.model (c.histories_grow.ensures g.K.Keeper.model.service) k.told c.args.keeper.now c.drive.new.keeper c.drive-2.new.keeper c.args.events.now c.args.more.now
     c.in_ok-first.first.items c.in_ok-second.second.items c.drive-2.ensures.honest first.tree_stands first.outcomes first.outcomes_before
     c.in_ok-second.ensures.outcomes_before
 
@@ -111,3 +114,15 @@ returns-clause-kept g c =
     let k = g.K.Keeper in
     kept_in_a_row k.model k.told c.args.keeper.now c.drive.new.keeper c.drive-2.new.keeper c.args.events.now c.args.more.now c.drive-2.ensures.honest
     c.in_ok-first.ensures.tree_stands c.in_ok-first.ensures.kept c.in_ok-second.ensures.kept
+
+pub returns-clause-asked : goal.returns-clause-asked
+returns-clause-asked g c =
+    let k = g.K.Keeper in
+    let V = (told_in k.told c.args.keeper.now).service in
+    let xs = c.args.events.now in
+    let ys = c.args.more.now in
+    let first = c.in_ok-first.ensures in
+    let second = subst (λ W. performed_in k.performed c.drive.new.keeper c.drive-2.new.keeper (performances W ys))
+    (serves_mid k.told k.performed V c.args.keeper.now c.drive.new.keeper (performances V xs) first.asked first.stays) c.in_ok-second.ensures.asked in
+    performed_then k.performed g.met.K.Keeper.log c.args.keeper.now c.drive.new.keeper c.drive-2.new.keeper (performances V xs) (performances V ys)
+    (performances V xs ++ performances V ys) first.asked second refl

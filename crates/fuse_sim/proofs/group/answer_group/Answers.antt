@@ -8,7 +8,7 @@ use Rattle.fuse_sim.proofs.group.answer_group.Goals as goal
 
 pub loop-place-preserved : goal.loop-place-preserved
 loop-place-preserved g c =
-    let V = g.K.Keeper.model.service in
+    let V = g.service in
     let inv = c.loop-place.invariant in
     let run = c.args.run.now in
     let i = c.loop-place.place in

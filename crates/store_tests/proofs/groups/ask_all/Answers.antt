@@ -21,6 +21,6 @@ perform-requires-clause-named g c = All-map HasId entry_of c.args.group.now c.re
 
 pub perform-requires-clause-performed : goal.perform-requires-clause-performed
 perform-requires-clause-performed g c =
-    All-map (IsPerformed g.K.Keeper.model) entry_of c.args.group.now
-    (All-weaker (λ p. IsPerformedFor profile_alone (entry_of p).asked.act) (λ p. IsPerformed g.K.Keeper.model (entry_of p))
-    (λ p h. performed_by_any g.K.Keeper.model.service (entry_of p).asked.act h) c.args.group.now c.requires.performed)
+    All-map (IsPerformed (g.K.Keeper.told c.args.keeper.now).service) entry_of c.args.group.now
+    (All-weaker (λ p. IsPerformedFor profile_alone (entry_of p).asked.act) (λ p. IsPerformed (g.K.Keeper.told c.args.keeper.now).service (entry_of p))
+    (λ p h. performed_by_any (g.K.Keeper.told c.args.keeper.now).service (entry_of p).asked.act h) c.args.group.now c.requires.performed)

@@ -13,6 +13,7 @@ restart-tells g = λ d x c. rw (c.ensures) (record {
     lots = λ _ rows records held. record { numbers = refl; current = refl; under = λ i. refl };
     honest = λ honest. honest;
     medium = λ memory. memory;
+    service = refl;
     going = refl;
   };
   refused = tt;

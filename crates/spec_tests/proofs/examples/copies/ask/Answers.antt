@@ -8,4 +8,4 @@ pub perform-requires-clause-named : goal.perform-requires-clause-named
 perform-requires-clause-named c = all_one HasId _ c.requires
 
 pub perform-requires-clause-performed : goal.perform-requires-clause-performed
-perform-requires-clause-performed c = all_one (IsPerformed the_files) _ refl
+perform-requires-clause-performed c = all_one (IsPerformed the_files.service) _ refl

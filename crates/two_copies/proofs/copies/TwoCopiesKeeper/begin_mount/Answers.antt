@@ -20,7 +20,7 @@ returns-in_ok-commit-in-Ok-clause-crash g c = λ s h t so firm.
 
 pub returns-in_err-commit-in-Ok-clause-crash : goal.returns-in_err-commit-in-Ok-clause-crash
 returns-in_err-commit-in-Ok-clause-crash g c = λ s h t so firm.
-    leaves_either g.F.FileSystem.model g.F.FileSystem.held c.still_stands.ensures c.args.self.now c.commit.new.self c.begin_mount.new.self s h t _
+    leaves_either g.F.FileSystem.model g.F.FileSystem.held (c.still_stands.ensures g.F.FileSystem.model.service) c.args.self.now c.commit.new.self c.begin_mount.new.self s h t _
     c.in_err-commit-in-Ok.ensures.err so (λ x r stands. inl stands)
     (c.in-Ok.ensures.crash s h t (working_stands g.F.FileSystem.model g.F.FileSystem.held c.args.self.now s h t so)
     (plain_firm g.F.FileSystem.model g.F.FileSystem.held c.args.self.now.working))

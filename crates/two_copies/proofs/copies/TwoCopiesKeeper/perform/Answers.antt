@@ -47,7 +47,7 @@ returns-in_ok-commit-in-Ok-clause-crash g c = λ s h t so within fresh firm.
 -- the committed copy is that of before, or the new one
 pub returns-in_err-commit-in-Ok-clause-crash : goal.returns-in_err-commit-in-Ok-clause-crash
 returns-in_err-commit-in-Ok-clause-crash g c = λ s h t so within fresh firm.
-    leaves_either g.F.FileSystem.model g.F.FileSystem.held c.still_stands.ensures c.args.self.now c.commit.new.self c.perform.new.self s h t _
+    leaves_either g.F.FileSystem.model g.F.FileSystem.held (c.still_stands.ensures g.F.FileSystem.model.service) c.args.self.now c.commit.new.self c.perform.new.self s h t _
     c.in_err-commit-in-Ok.ensures.err so (λ x r stands. inl stands)
     (c.in-Ok.ensures.crash s h t (working_stands g.F.FileSystem.model g.F.FileSystem.held c.args.self.now s h t so) within fresh
     (plain_firm g.F.FileSystem.model g.F.FileSystem.held c.args.self.now.working))
@@ -91,7 +91,7 @@ returns-in-Err-clause-called g c =
 
 pub returns-in-Err-clause-crash : goal.returns-in-Err-clause-crash
 returns-in-Err-clause-crash g c = λ s h t so within fresh firm.
-    (tt, λ x r left. inl (leaves_old g.F.FileSystem.model g.F.FileSystem.held c.still_stands.ensures c.args.self.now c.args.self.now s h t x r refl so left))
+    (tt, λ x r left. inl (leaves_old g.F.FileSystem.model g.F.FileSystem.held (c.still_stands.ensures g.F.FileSystem.model.service) c.args.self.now c.args.self.now s h t x r refl so left))
 
 pub returns-in-Err-clause-by_plan : goal.returns-in-Err-clause-by_plan
 returns-in-Err-clause-by_plan g c = λ s h t so.

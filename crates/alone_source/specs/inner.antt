@@ -1,0 +1,4 @@
+-- What the code does on its way: no public contract cites it (defined by this project).
+pub mod Places
+pub mod Waiting
+pub mod Passing

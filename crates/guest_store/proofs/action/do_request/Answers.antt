@@ -1,0 +1,11 @@
+use Rattle.fuse_keeper.specs.Group.{entry_of}
+use Rattle.guest_store.specs.Keeping.{store_of}
+use Rattle.guest_store.proofs.Acts.{carried}
+use Rattle.guest_store.proofs.action.do_request.Goals as goal
+
+pub returns-in-Ok : goal.returns-in-Ok
+returns-in-Ok g c =
+    let tell = store_of g.S.Store g.R.Read.remaining g.W.Write.contents in
+    let G = g.G.Guested.GUEST in
+    carried G (entry_of (c.args.request.now, c.args.now)) (tell c.args.store.now) (tell c.plan.new.store) (tell c.carry_out.new.store) c.in-Ok.decision
+    c.carry_out.result c.in-Ok.ensures c.carry_out.ensures

@@ -1,0 +1,10 @@
+pub mod Holding
+pub mod Group
+pub mod Repeats
+pub mod Performing
+pub mod Mounting
+pub mod StoreState
+pub mod TableState
+pub mod Keeping
+pub mod Starts
+pub mod inner

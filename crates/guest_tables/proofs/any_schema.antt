@@ -1,0 +1,26 @@
+-- Lemmas on the statements of a store, whatever its schema: those of fuse_store_tables, whose proofs no other crate may cite.
+pub mod Apart
+pub mod Control
+pub mod Edits
+pub mod Either
+pub mod Indexed
+pub mod Joining
+pub mod Keyed
+pub mod Lifting
+pub mod Queries
+pub mod Reading
+pub mod Removing
+pub mod Resting
+pub mod RowLemmas
+pub mod SortedQuery
+pub mod Sorting
+pub mod Strictly
+pub mod Tables
+pub mod Updating
+pub mod Within
+pub mod Writing
+pub mod Alone
+pub mod Counting
+pub mod Deletes
+pub mod Ordered
+pub mod SchemaLemmas

@@ -1,0 +1,15 @@
+pub mod Layout
+pub mod Rows
+pub mod Content
+pub mod Opening
+pub mod Holding
+pub mod Moves
+pub mod Making
+pub mod Settling
+pub mod Clearing
+pub mod Saying
+pub mod Reading
+pub mod Stepping
+pub mod inner
+pub mod PairSteps
+pub mod Scanned

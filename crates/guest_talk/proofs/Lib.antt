@@ -1,0 +1,14 @@
+mod Steps
+mod Ends
+mod Frames
+mod Told
+mod Asked
+mod OneTurn
+mod Outcomes
+mod GivenUp
+mod Looks
+mod Records
+mod Requested
+mod Handed
+mod Judged
+mod Noting

@@ -1,0 +1,10 @@
+pub mod Events
+pub mod Showing
+pub mod Bytes
+pub mod Answered
+pub mod TalkState
+pub mod Greeting
+pub mod Asking
+pub mod GivingUp
+pub mod Growing
+pub mod inner

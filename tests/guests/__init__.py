@@ -1,0 +1,1 @@
+"""The engine's side of the guest protocol, over frames."""
