@@ -97,6 +97,10 @@ class Bodies:
                 return False
         return True
 
+    def has_names(self, body):
+        """Whether each name of an attribute has a byte at least, and a NUL after it."""
+        return not body or body.endswith(b"\0") and all(body[:-1].split(b"\0"))
+
     def written_at_most(self, opcode, request):
         return len(request) - 40 if opcode == WRITE else struct.unpack_from("<Q", request, 40)[0]
 
@@ -108,4 +112,6 @@ class Bodies:
             return self.has_entry(opcode, request, body)
         if opcode in (READDIR, READDIRPLUS):
             return self.has_listing(body, 128 if opcode == READDIRPLUS else 0)
+        if opcode == LISTXATTR and struct.unpack_from("<I", request)[0]:
+            return self.has_names(body)
         return opcode not in (WRITE, COPY) or struct.unpack_from("<I", body)[0] <= self.written_at_most(opcode, request)

@@ -561,6 +561,27 @@ class MoreThanWasCopied(WrongBodies):
             return super().written_at_most(opcode, request) + (opcode == COPY)
 
 
+@mistake("LISTXATTR")
+class AnyAttributeNames(WrongBodies):
+    class bodies(Bodies):
+        def has_names(self, body):
+            return True
+
+
+@mistake("LISTXATTR")
+class EmptyAttributeNames(WrongBodies):
+    class bodies(Bodies):
+        def has_names(self, body):
+            return not body or body.endswith(b"\0")
+
+
+@mistake("LISTXATTR")
+class AttributeNameWithoutNul(WrongBodies):
+    class bodies(Bodies):
+        def has_names(self, body):
+            return not body or all(body.removesuffix(b"\0").split(b"\0"))
+
+
 @mistake("READDIR")
 class AnyName(WrongBodies):
     class bodies(Bodies):

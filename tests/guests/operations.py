@@ -122,10 +122,20 @@ def with_names(name, opcode, make, head):
     return Operation(name, opcode, asked(ASKED), right, wrong, sizes)
 
 
-def with_xattr(name, opcode, tail):
+def getxattrs():
     """Two operations that are answered with a size or with bytes."""
-    bare = of_size(8, f"{name} of size 0", opcode, struct.pack("<II", 0, 0) + tail)
-    return [bare, with_data(name, opcode, struct.pack("<II", 16, 0) + tail, 16)]
+    name = b"user.a\0"
+    return [of_size(8, "GETXATTR of size 0", GETXATTR, struct.pack("<II", 0, 0) + name),
+            with_data("GETXATTR", GETXATTR, struct.pack("<II", 16, 0) + name, 16)]
+
+
+def listxattrs():
+    """Two operations that are answered with a size or with names."""
+    right = {"none": b"", "one": b"user.a\0", "the shortest": b"u\0", "two": b"user.a\0u\0", "as many as are asked for": b"user.a\0user.bcd\0"}
+    wrong = {"an empty name": b"\0", "no NUL": b"user.a", "one byte": b"u", "an empty name first": b"\0user.a\0", "an empty name last": b"user.a\0\0",
+             "an empty name between": b"a\0\0b\0", "a second without NUL": b"user.a\0user.b", "nothing but NULs": bytes(16), "16 bytes without NUL": b"u" * 16}
+    return [of_size(8, "LISTXATTR of size 0", LISTXATTR, struct.pack("<II", 0, 0)),
+            Operation("LISTXATTR", LISTXATTR, struct.pack("<II", 16, 0), right, wrong, {"one too many": b"user.abcdefghij\0\0", "twice as many": bytes(32)})]
 
 
 def empty(name, opcode, body):
@@ -155,8 +165,8 @@ def operations():
         Operation("WRITE", m.WRITE, m.write_body(0, 0, b"abc"), {f"{n} written": written(n) for n in range(4)},
                   {"one more than came": written(4), "all": written((1 << 32) - 1)}, {"0 bytes": b"", "7 bytes": bytes(7), "16 bytes": bytes(16)}),
         of_size(80, "STATFS", m.STATFS, b""), empty("RELEASE", m.RELEASE, release), empty("FSYNC", m.FSYNC, fsync),
-        empty("SETXATTR", SETXATTR, struct.pack("<II", 2, 0) + b"user.a\0vv"), *with_xattr("GETXATTR", GETXATTR, b"user.a\0"),
-        *with_xattr("LISTXATTR", LISTXATTR, b""), empty("REMOVEXATTR", REMOVEXATTR, b"user.a\0"), empty("FLUSH", FLUSH, release),
+        empty("SETXATTR", SETXATTR, struct.pack("<II", 2, 0) + b"user.a\0vv"), *getxattrs(),
+        *listxattrs(), empty("REMOVEXATTR", REMOVEXATTR, b"user.a\0"), empty("FLUSH", FLUSH, release),
         of_size(16, "OPENDIR", m.OPENDIR, m.open_body(0)), with_names("READDIR", m.READDIR, dirent, 0), empty("RELEASEDIR", m.RELEASEDIR, release),
         empty("FSYNCDIR", m.FSYNCDIR, fsync), empty("ACCESS", ACCESS, struct.pack("<II", 4, 0)),
         with_entries("CREATE", m.CREATE, m.create_body(b"a", 2), [8], bytes(16)), empty("FALLOCATE", FALLOCATE, struct.pack("<QQQII", 0, 0, 10, 0, 0)),

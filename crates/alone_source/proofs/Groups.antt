@@ -9,11 +9,13 @@ use Rattle.fuse_request.specs.Classes.{class_for, is_zero}
 use Rattle.fuse_request.specs.Opcodes.{Service}
 use Rattle.fuse_request.specs.Places.{asked_at}
 use Rattle.fuse_session.specs.Grouping.{is_performed_class, one_group, ends_group, groups_after, groups_of, turns_of, groups_asked}
-use Rattle.alone_source.specs.Groups.{has_id, IsAloneIn, AlwaysAlone}
+use Rattle.fuse_session.specs.Deeds.{Deeds}
+use Rattle.fuse_session.specs.StreamSteps.{Sides}
+use Rattle.alone_source.specs.Groups.{has_id, IsAloneIn, GroupsAlone, AlwaysAlone, AlwaysAloneStream}
 use Rattle.alone_source.specs.Holding.{HeldState, nothing_held}
 use Rattle.alone_source.specs.Turns.{is_alone, IsApart}
 use Rattle.alone_source.proofs.Steps.{Laws, Follows}
-use Rattle.alone_source.proofs.Chains.{turns_apart}
+use Rattle.alone_source.proofs.Chains.{turns_apart, stream_apart}
 
 same_id : (id : Option Id) (m : List ℕ) → has_id id (asked_at m) ≡ is_alone id m
 same_id None m = refl
@@ -83,13 +85,19 @@ all_groups V id (ms ∷ more) h = all_joined (IsAloneIn id) (groups_of V ms) (fl
 follows_none : (id : Option Id) (s : HeldState) → s ≡ nothing_held id → Follows id s []
 follows_none id s e = subst (λ (t : HeldState). Follows id t []) (sym e) (record { alone = refl; stuck = refl; begun = refl })
 
+groups_apart : (id : Option Id) (deeds : Deeds) → AllByRecursion (IsApart id) (turns_of [] deeds.events) → GroupsAlone id deeds
+groups_apart id deeds turns = record {
+  turns = turns;
+  groups = λ V asks.
+      all_left (IsAloneIn id) (groups_asked deeds.asked) asks.0
+      (subst (AllByRecursion (IsAloneIn id)) asks.1 (all_groups V id (turns_of [] deeds.events) turns));
+}
+
 pub always_alone : Laws → {S W : Type 0} (was_read : S → S → Result ℕ Error → List ℕ → Type 0) (was_written : W → W → Result ℕ Error → List ℕ → Type 0)
     → AlwaysAlone was_read was_written
 always_alone laws was_read was_written id p q deeds fresh steps =
-    let turns = turns_apart laws was_read was_written id p q [] deeds.events (follows_none id p.reader.hold fresh) steps in
-    record {
-      turns = turns;
-      groups = λ V asks.
-          all_left (IsAloneIn id) (groups_asked deeds.asked) asks.0
-          (subst (AllByRecursion (IsAloneIn id)) asks.1 (all_groups V id (turns_of [] deeds.events) turns));
-    }
+    groups_apart id deeds (turns_apart laws was_read was_written id p q [] deeds.events (follows_none id p.reader.hold fresh) steps)
+
+pub always_alone_stream : Laws → {S W : Type 0} (s : Sides S W) → AlwaysAloneStream s
+always_alone_stream laws s id p q deeds fresh steps =
+    groups_apart id deeds (stream_apart laws s id p q [] deeds.events (follows_none id p.reader.hold fresh) steps)

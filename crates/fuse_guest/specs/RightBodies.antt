@@ -5,7 +5,7 @@ use Rattle.std.specs.Prelude.{List, [], ◌∷◌, length, drop, Option, Some, N
 use Rattle.std.specs.List.{list_any}
 use Rattle.std.specs.Option.{option_map_or}
 use Rattle.fuse_wire.specs.Bytes.{number_of}
-use Rattle.fuse_wire.specs.Opcodes.{fuse_lookup, fuse_readlink, fuse_symlink, fuse_create}
+use Rattle.fuse_wire.specs.Opcodes.{fuse_lookup, fuse_readlink, fuse_symlink, fuse_create, fuse_listxattr}
 use Rattle.fuse_request.specs.Act.{Act, opcode_of}
 use Rattle.fuse_request.specs.Act as acts
 use Rattle.fuse_request.specs.FurtherBodies.{FurtherContent, CopyFileRange, further_fault, further_content_at}
@@ -128,6 +128,17 @@ lists_entries zero before [] = true
 lists_entries zero before (x ∷ b) = false
 lists_entries (suc n) before [] = true
 lists_entries (suc n) before (x ∷ b) = rest_passes (lists_entries n before) (clean_rest (leading_entry (drop before (x ∷ b))))
+
+-- ---- names of extended attributes
+
+-- each has a byte at least, and a NUL after it; of the first one some bytes may have come before (Linux: fuse_verify_xattr_list)
+abbrev pub are_names_after : Bool → List ℕ → Bool
+are_names_after begun [] = not begun
+are_names_after begun (x ∷ b) = if x == 0 then begun && are_names_after false b else are_names_after true b
+
+-- of LISTXATTR, where it doesn't ask for their size
+abbrev pub has_right_names : ℕ → ℕ → List ℕ → Bool
+has_right_names opcode size b = not (opcode == fuse_listxattr) || (size == 0 || are_names_after false b)
 
 -- ---- all
 

@@ -10,7 +10,7 @@ use Rattle.guest_frames.specs.Frames.{Frame, of_answer, AnswerContent, frame_kin
 use Rattle.fuse_guest.specs.declared.fault.TalkFault.{TalkFault}
 use Rattle.fuse_guest.specs.declared.fault.TalkFault.TheVariants as faults
 use Rattle.fuse_guest.specs.Pairs.{Pairs}
-use Rattle.fuse_guest.specs.RightBodies.{body_kind, has_right_size, is_right_content}
+use Rattle.fuse_guest.specs.RightBodies.{body_kind, has_right_size, is_right_content, has_right_names}
 use Rattle.fuse_guest.specs.Service.{is_seen_by}
 use Rattle.fuse_guest.specs.Telling.{told_for}
 
@@ -65,7 +65,8 @@ ending says ps (suc n) told = after_turn ps (λ f. ending says ps n (told ++ f �
 abbrev pub fault_of_body : Act → List ℕ → Option TalkFault
 fault_of_body act b =
     if not (has_right_size (opcode_of act) (size_asked act) (length b)) then Some (faults.Body (length b) (opcode_of act))
-    else if not (is_right_content (body_kind (opcode_of act) (size_asked act)) act b) then Some (faults.BadBody (opcode_of act))
+    else if not (is_right_content (body_kind (opcode_of act) (size_asked act)) act b && has_right_names (opcode_of act) (size_asked act) b)
+    then Some (faults.BadBody (opcode_of act))
     else None
 
 -- the fault of a right ANSWER: changes where nothing may change, then its body

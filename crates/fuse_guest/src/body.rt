@@ -9,6 +9,7 @@ ghost use Rattle.fuse_guest.specs.Talk as talk;
 use crate::attributes::{are_attributes_at, is_node_entry};
 use crate::fault::TalkFault;
 use crate::listing::lists_entries;
+use crate::names::has_right_names;
 use crate::sizes::has_right_size;
 use fuse_request::opcode::{
     ACCESS, COPY_FILE_RANGE, CREATE, DESTROY, FALLOCATE, FLUSH, FSYNC, FSYNCDIR, GETATTR, GETXATTR,
@@ -93,7 +94,7 @@ pub fn body_fault(op: &Op<'_>, body: &[u8]) -> Option<TalkFault>
             opcode,
         });
     }
-    if !is_right_content(opcode, size, op, body) {
+    if !(is_right_content(opcode, size, op, body) && has_right_names(opcode, size, body)) {
         return Some(TalkFault::BadBody(opcode));
     }
     None

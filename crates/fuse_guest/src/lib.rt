@@ -8,6 +8,7 @@ mod fault;
 mod guest;
 mod laws;
 mod listing;
+mod names;
 mod negotiation;
 mod service;
 mod sizes;

@@ -13,7 +13,7 @@ use Rattle.fuse_guest.specs.Conversations.{HasReply, asks_more, ending_by}
 use Rattle.guest_talk.specs.declared.fault.AskFault.{AskFault}
 use Rattle.guest_talk.specs.declared.fault.AskFault.TheVariants as faults
 use Rattle.guest_talk.specs.Asking.{EndsBy}
-use Rattle.guest_talk.specs.Bytes.{ReadsFault}
+use Rattle.guest_talk.specs.Bytes.{all_but_ready, ReadsFault}
 use Rattle.guest_talk.specs.Events.{Event, IsReadFault}
 use Rattle.guest_talk.specs.TalkState.{TalkState}
 use Rattle.guest_talk.specs.inner.Writes.{IsStoreFault}
@@ -69,7 +69,7 @@ failed_begin has_reply old new q faults.Unsayable b looks fails = record {
   ready = b.1.ready;
 }
 
-fault_is_read : (old new : Option (List ℕ)) (fault : TalkFault) → ReadsFault old new fault → IsReadFault fault
+fault_is_read : (old new : Option (List ℕ)) (fault : TalkFault) → ReadsFault all_but_ready old new fault → IsReadFault fault
 fault_is_read old new talks.Ended reads = tt
 fault_is_read old new talks.Hangs reads = tt
 fault_is_read old new (talks.Frame fault) reads = tt

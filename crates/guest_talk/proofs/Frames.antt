@@ -1,13 +1,14 @@
 -- Frames of a guest, put together of their heads and payloads.
-use Rattle.std.proofs.Common.{◌≡◌, ◌≤◌, ◌<◌, ◌+◌, ◌-◌, ◌⊎◌, inl, inr, ℕ, Bool, true, false, List, [], ◌++◌, length, drop, get_or, Option, Some, None, Result, Ok, Err}
+use Rattle.std.proofs.Common.{◌≡◌, ◌≤◌, ◌<◌, ◌+◌, ◌-◌, ◌⊎◌, inl, inr, ℕ, Bool, true, false, List, [], ◌∷◌, ◌++◌, length, take, drop, get_or, Option, Some, None, Result, Ok, Err}
 use Rattle.std.proofs.Common.{refl, sym, ap, subst, ◌∙◌, arith}
+use borrow.Rule.Slice.PartMut.{put_mid}
 use Rattle.std.specs.Prelude.{nat_lt, is_ok, if◌then◌else◌}
 use Rattle.std.specs.Io.KnownBytes.{Consumes}
 use Rattle.std.specs.Option.{option_map_or}
 use Rattle.std.specs.Result.{result_ok, result_err}
 use Rattle.std.proofs.KnownBytes.{Consumes-trans}
-use Rattle.std.proofs.lemmas.Bool.{cases_lt, le-ltb, ltb-false}
-use Rattle.std.proofs.lemmas.List.{drop_at, drop-append-le, length-append, length-drop, get_or_append_left, get_or-append_right}
+use Rattle.std.proofs.lemmas.Bool.{cases_lt, le-ltb, lt-ltb, ltb-false}
+use Rattle.std.proofs.lemmas.List.{append-nil, take_at, drop_at, drop-append-le, take-append-le, take_all, take-append-drop, length-append, length-take-le, length-drop, get_or_append_left, get_or-append_right}
 use Rattle.fuse_wire.specs.Bytes.{IsBytes, le, number_of}
 use Rattle.fuse_wire.specs.Laws.{NumbersRead}
 use Rattle.fuse_wire.specs.Layout.{form}
@@ -25,9 +26,10 @@ use Rattle.guest_frames.specs.Reading.{word_at, ◌>>=◌, payload_in, ready_in,
 use Rattle.fuse_guest.specs.declared.fault.TalkFault.{TalkFault}
 use Rattle.fuse_guest.specs.declared.fault.TalkFault.TheVariants as talks
 use Rattle.guest_talk.specs.Answered.{no_answer}
-use Rattle.guest_talk.specs.Bytes.{fault_after, ReadsFault}
+use Rattle.guest_talk.specs.declared.due.Due.{Due}
+use Rattle.guest_talk.specs.Bytes.{Kinds, fault_after, len_shown, len_of_fault, ReadsFault}
 use Rattle.guest_talk.specs.inner.Pipes.{IsPipeFault}
-use Rattle.guest_talk.specs.inner.Reads.{IsSpelled, ReadsHead, ReadsWhole}
+use Rattle.guest_talk.specs.inner.Reads.{due_kinds, IsSpelled, ReadsHead, ReadsWhole}
 
 -- ---- payloads
 
@@ -47,6 +49,9 @@ not_wrong (Ok x) fault right wrong = absurd cc
 not_wrong (Err e) fault right wrong = absurd cc
 
 -- ---- heads
+
+abbrev none_yet : Result (Option GuestHead) GuestFault
+none_yet = Ok None
 
 abbrev head_from : ℕ → ℕ → Result (Option GuestHead) GuestFault
 head_from len n =
@@ -87,7 +92,7 @@ head_same laws b p long =
 
 -- ---- whole frames
 
-joined_bytes : (b p : List ℕ) → IsBytes b → IsBytes p → IsBytes (b ++ p)
+pub joined_bytes : (b p : List ℕ) → IsBytes b → IsBytes p → IsBytes (b ++ p)
 joined_bytes b p one two = λ i. by_place i (cases_lt i (length b))
   where
     by_place : (i : ℕ) → (i < length b) ⊎ (length b ≤ i) → get_or (b ++ p) i 0 < 256
@@ -99,9 +104,9 @@ pub record Joined (old new : Option (List ℕ)) (p : List ℕ) (f : Frame) : Typ
   pub came : Consumes old new (frame_bytes f)
   pub payload : p ≡ drop 8 (frame_bytes f)
 
-pub joined : NumbersRead → FramesStand → (old mid new : Option (List ℕ)) (h : GuestHead) (p : List ℕ) (f : Frame) → ReadsHead old mid h → IsBytes p
-    → length p + 8 ≡ h.len → Consumes mid new p → frame_kind f ≡ kind_number h.kind → SpellsFrame f p → Joined old new p f
-joined numbers laws old mid new h p f head fits long came of_kind s =
+pub joined : NumbersRead → FramesStand → (d : Due) (old mid new : Option (List ℕ)) (h : GuestHead) (p : List ℕ) (f : Frame) → ReadsHead d old mid h
+    → IsBytes p → length p + 8 ≡ h.len → Consumes mid new p → frame_kind f ≡ kind_number h.kind → SpellsFrame f p → Joined old new p f
+joined numbers laws d old mid new h p f head fits long came of_kind s =
     let dropped : drop 8 (head.bytes ++ p) ≡ p = drop_at head.bytes p 8 head.long in
     let whole = laws.whole (head.bytes ++ p) h f (joined_bytes head.bytes p head.are fits) (head_same numbers head.bytes p head.long ∙ head.is)
     (omega (arith, length-append head.bytes p, head.long, long)) of_kind (subst (SpellsFrame f) (sym dropped) s) in
@@ -111,19 +116,116 @@ joined numbers laws old mid new h p f head fits long came of_kind s =
       payload = sym dropped ∙ ap (drop 8) whole.1;
     }
 
-pub wrong_payload : NumbersRead → (old mid new : Option (List ℕ)) (h : GuestHead) (p : List ℕ) (fault : GuestFault) → ReadsHead old mid h
-    → Consumes mid new p → first_guest_fault h.kind p ≡ Some fault → ReadsFault old new (talks.Frame fault)
-wrong_payload numbers old mid new h p fault head came wrong =
-    let b : List ℕ = head.bytes ++ p in (
+-- ---- wrong frames
+
+if_true : {A : Type 0} (b : Bool) (x y : A) → b ≡ true → (if b then x else y) ≡ x
+if_true true x y is = refl
+if_true false x y is = absurd cc
+
+if_false : {A : Type 0} (b : Bool) (x y : A) → b ≡ false → (if b then x else y) ≡ y
+if_false true x y is = absurd cc
+if_false false x y is = refl
+
+abbrev short_from : ℕ → Result (Option GuestHead) GuestFault
+short_from len = if nat_lt len 8 then Err (faults.Length len) else if nat_lt max_frame_len len then Err (faults.Length len) else Ok None
+
+head_short : (b : List ℕ) → length b ≡ 4 → guest_head_in b ≡ short_from (word_at 0 b)
+head_short b long =
+    let some : nat_lt (length b) 4 ≡ false = le-ltb (length b) 4 (omega (arith, long)) in
+    let few : nat_lt (length b) 8 ≡ true = lt-ltb (length b) 8 (omega (arith, long)) in
+    rw (some, few) refl
+
+open_by : (few many : Bool) (len n : ℕ) (h : GuestHead)
+    → (if few then Err (faults.Length len) else if many then Err (faults.Length len) else head_of len n (guest_kind_of n)) ≡ Ok (Some h)
+    → (if few then Err (faults.Length len) else if many then Err (faults.Length len) else Ok None) ≡ none_yet
+open_by true many len n h is = absurd cc
+open_by false true len n h is = absurd cc
+open_by false false len n h is = refl
+
+-- the length of a head that is right is right by itself
+len_right : NumbersRead → (b : List ℕ) (h : GuestHead) → length b ≡ 8 → guest_head_in b ≡ Ok (Some h) → guest_head_in (take 4 b) ≡ none_yet
+len_right laws b h long is =
+    let four : length (take 4 b) ≡ 4 = length-take-le 4 b (omega (arith, long)) in
+    let word : word_at 0 (take 4 b) ≡ word_at 0 b = sym (laws.apart 4 (take 4 b) (drop 4 b) (omega (arith, four))) ∙ ap (number_of 4) (take-append-drop 4 b) in
+    head_short (take 4 b) four ∙ ap short_from word
+    ∙ open_by (nat_lt (word_at 0 b) 8) (nat_lt max_frame_len (word_at 0 b)) (word_at 0 b) (word_at 4 b) h (sym (head_long b (omega (arith, long))) ∙ is)
+
+pub wrong_payload : NumbersRead → (d : Due) (old mid new : Option (List ℕ)) (h : GuestHead) (p : List ℕ) (fault : GuestFault)
+    → ReadsHead d old mid h → Consumes mid new p → length p + 8 ≡ h.len → first_guest_fault h.kind p ≡ Some fault
+    → ReadsFault (due_kinds d) old new (talks.Frame fault)
+wrong_payload numbers d old mid new h p fault head came long wrong =
+    let b : List ℕ = head.bytes ++ p in
+    let is : guest_head_in b ≡ Ok (Some h) = head_same numbers head.bytes p head.long ∙ head.is in
+    let few : guest_head_in (take 4 b) ≡ none_yet =
+    ap guest_head_in (take-append-le 4 head.bytes p (omega (arith, head.long))) ∙ len_right numbers head.bytes h head.long head.is in
+    let shown : len_of_fault (due_kinds d) b ≡ h.len =
+    ap (λ r. len_shown (due_kinds d) r (guest_head_in b)) few ∙ ap (len_shown (due_kinds d) none_yet) is ∙ if_true (due_kinds d h.kind) h.len 8 head.of_due in (
       b,
-      ap (λ r. fault_after r b) (head_same numbers head.bytes p head.long ∙ head.is)
+      ap (λ r. fault_after (due_kinds d) r b) is ∙ if_true (due_kinds d h.kind) _ _ head.of_due
           ∙ ap (first_guest_fault h.kind) (drop_at head.bytes p 8 head.long) ∙ wrong,
+      omega (arith, length-append head.bytes p, head.long, long, shown),
       Consumes-trans old mid new head.bytes p head.came came,
     )
 
-pub wrong_head : (old new : Option (List ℕ)) (b : List ℕ) (fault : GuestFault) → guest_head_in b ≡ Err fault → Consumes old new b
-    → ReadsFault old new (talks.Frame fault)
-wrong_head old new b fault wrong came = (b, ap (λ r. fault_after r b) wrong, came)
+-- four bytes are a wrong length
+pub wrong_len : (due : Kinds) (old new : Option (List ℕ)) (b : List ℕ) (fault : GuestFault) → length b ≡ 4 → guest_head_in b ≡ Err fault → Consumes old new b
+    → ReadsFault due old new (talks.Frame fault)
+wrong_len due old new b fault long wrong came =
+    let all : take 4 b ≡ b = take_all 4 b (omega (arith, long)) in (
+      b,
+      ap (λ r. fault_after due r b) wrong,
+      long ∙ sym (ap (λ r. len_shown due r (guest_head_in b)) (ap guest_head_in all ∙ wrong)),
+      came,
+    )
+
+open_len : (due : Kinds) (x : Option GuestHead) (fault : GuestFault) → 8 ≡ len_shown due (Ok x) (Err fault)
+open_len due x fault = refl
+
+-- eight are a wrong kind
+pub wrong_kind : (due : Kinds) (old new : Option (List ℕ)) (b : List ℕ) (x : Option GuestHead) (fault : GuestFault) → length b ≡ 8
+    → guest_head_in (take 4 b) ≡ Ok x → guest_head_in b ≡ Err fault → Consumes old new b → ReadsFault due old new (talks.Frame fault)
+wrong_kind due old new b x fault long first wrong came = (
+  b,
+  ap (λ r. fault_after due r b) wrong,
+  long ∙ open_len due x fault ∙ sym (ap (λ r. len_shown due r (guest_head_in b)) first ∙ ap (len_shown due (Ok x)) wrong),
+  came,
+)
+
+-- or one that isn't due
+pub not_due : NumbersRead → (due : Kinds) (old new : Option (List ℕ)) (b : List ℕ) (h : GuestHead) → length b ≡ 8 → guest_head_in b ≡ Ok (Some h)
+    → due h.kind ≡ false → Consumes old new b → ReadsFault due old new (talks.Frame (faults.NotDue (kind_number h.kind)))
+not_due laws due old new b h long is other came = (
+  b,
+  ap (λ r. fault_after due r b) is ∙ if_false (due h.kind) _ _ other,
+  long
+      ∙ sym (ap (λ r. len_shown due r (guest_head_in b)) (len_right laws b h long is) ∙ ap (len_shown due none_yet) is
+      ∙ if_false (due h.kind) h.len 8 other),
+  came,
+)
+
+-- ---- a head that is read in two parts, over bytes that are zero
+
+abbrev zeros : List ℕ
+zeros = 0 ∷ 0 ∷ 0 ∷ 0 ∷ []
+
+both_parts : (first second : List ℕ) → length first ≡ 4 → put_mid 4 4 (first ++ zeros) second ≡ first ++ second
+both_parts first second f =
+    let front : take 4 (first ++ zeros) ≡ first = take_at first zeros 4 f in
+    let back : drop 4 (drop 4 (first ++ zeros)) ≡ [] = ap (drop 4) (drop_at first zeros 4 f) in
+    ap (λ (u : List ℕ). u ++ (second ++ drop 4 (drop 4 (first ++ zeros)))) front ∙ ap (λ (u : List ℕ). first ++ (second ++ u)) back
+    ∙ ap (λ (u : List ℕ). first ++ u) (append-nil second)
+
+pub whole_head : (first second : List ℕ) (r : Result (Option GuestHead) GuestFault) → length first ≡ 4
+    → r ≡ guest_head_in (put_mid 4 4 (first ++ zeros) second) → guest_head_in (first ++ second) ≡ r
+whole_head first second r f is = sym (is ∙ ap guest_head_in (both_parts first second f))
+
+pub first_part : (first : List ℕ) (r : Result (Option GuestHead) GuestFault) → length first ≡ 4
+    → r ≡ guest_head_in (take 4 (first ++ zeros)) → guest_head_in first ≡ r
+first_part first r f is = sym (is ∙ ap guest_head_in (take_at first zeros 4 f))
+
+pub first_of : (first second : List ℕ) (r : Result (Option GuestHead) GuestFault) → length first ≡ 4 → guest_head_in first ≡ r
+    → guest_head_in (take 4 (first ++ second)) ≡ r
+first_of first second r f is = ap guest_head_in (take_at first second 4 f) ∙ is
 
 -- ---- bytes that are written
 
@@ -157,14 +259,14 @@ is_answer kinds.Scan b a right is = absurd (not_by (scan_in b) of_scan a (λ x s
 
 -- ---- pipes
 
-pub pipe_reads : (old new : Option (List ℕ)) (fault : TalkFault) → IsPipeFault fault → ReadsFault old new fault
-pipe_reads old new talks.Ended pipe = tt
-pipe_reads old new talks.Hangs pipe = tt
-pipe_reads old new (talks.Frame fault) pipe = absurd pipe
-pipe_reads old new (talks.ChangesOf n) pipe = absurd pipe
-pipe_reads old new (talks.Body n m) pipe = absurd pipe
-pipe_reads old new (talks.BadBody n) pipe = absurd pipe
-pipe_reads old new talks.TooManyFrames pipe = absurd pipe
+pub pipe_reads : (due : Kinds) (old new : Option (List ℕ)) (fault : TalkFault) → IsPipeFault fault → ReadsFault due old new fault
+pipe_reads due old new talks.Ended pipe = tt
+pipe_reads due old new talks.Hangs pipe = tt
+pipe_reads due old new (talks.Frame fault) pipe = absurd pipe
+pipe_reads due old new (talks.ChangesOf n) pipe = absurd pipe
+pipe_reads due old new (talks.Body n m) pipe = absurd pipe
+pipe_reads due old new (talks.BadBody n) pipe = absurd pipe
+pipe_reads due old new talks.TooManyFrames pipe = absurd pipe
 
 -- ---- what an owned ANSWER says
 
@@ -182,12 +284,12 @@ answer_said kind b a right is = ap answer_read (is_answer kind b a right is)
 
 -- ---- a frame that was read
 
-pub read_whole : NumbersRead → FramesStand → (old mid new : Option (List ℕ)) (h : GuestHead) (p : List ℕ) → ReadsHead old mid h → IsBytes p
+pub read_whole : NumbersRead → FramesStand → (d : Due) (old mid new : Option (List ℕ)) (h : GuestHead) (p : List ℕ) → ReadsHead d old mid h → IsBytes p
     → length p + 8 ≡ h.len → Consumes mid new p → IsSpelled h.kind p
     → ReadsWhole old new (frame_read (payload_in h.kind p)) × (p ≡ drop 8 (frame_bytes (frame_read (payload_in h.kind p))))
     × (frame_kind (frame_read (payload_in h.kind p)) ≡ kind_number h.kind)
-read_whole numbers laws old mid new h p head fits long came is =
-    let j = joined numbers laws old mid new h p is.f head fits long came is.of_kind is.spelled in
+read_whole numbers laws d old mid new h p head fits long came is =
+    let j = joined numbers laws d old mid new h p is.f head fits long came is.of_kind is.spelled in
     let same = frame_is laws h.kind p is.f is.of_kind is.spelled in (
       record { whole = subst IsFrame same j.whole; came = subst (λ (f : Frame). Consumes old new (frame_bytes f)) same j.came },
       j.payload ∙ ap (λ (f : Frame). drop 8 (frame_bytes f)) same,
@@ -211,8 +313,8 @@ min_by false false len n (Some kind) h small is =
     let enough : 8 ≤ len = ltb-false len 8 small in
     subst (λ (x : GuestHead). 8 ≤ x.len) same enough
 
-pub head_min : (old new : Option (List ℕ)) (h : GuestHead) → ReadsHead old new h → 8 ≤ h.len
-head_min old new h head =
+pub head_min : (d : Due) (old new : Option (List ℕ)) (h : GuestHead) → ReadsHead d old new h → 8 ≤ h.len
+head_min d old new h head =
     let b = head.bytes in
     min_by (nat_lt (word_at 0 b) 8) (nat_lt max_frame_len (word_at 0 b)) (word_at 0 b) (word_at 4 b) (guest_kind_of (word_at 4 b)) h refl
     (sym (head_long b (omega (arith, head.long))) ∙ head.is)

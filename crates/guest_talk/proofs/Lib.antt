@@ -1,6 +1,7 @@
 mod Steps
 mod Ends
 mod Frames
+mod Greeted
 mod Told
 mod Asked
 mod OneTurn

@@ -9,6 +9,7 @@ use Rattle.fuse_guest.specs.GuestModel.{agreed_with}
 use Rattle.fuse_guest.specs.Service.{first_broken, handed_bits}
 use Rattle.guest_talk.specs.declared.fault.GreetFault.{GreetFault}
 use Rattle.guest_talk.specs.declared.fault.GreetFault.TheVariants as faults
+use Rattle.guest_talk.specs.Bytes.{ready_alone, ReadsFault}
 use Rattle.guest_talk.specs.TalkState.{TalkState}
 
 -- what INIT agreed on, and which opcodes were served then: `hello_of` of such a state
@@ -27,8 +28,9 @@ pub record IsGreeted (coming sent : Option (List ℕ)) (hello : Hello) (pledged 
 abbrev pub BeginsWith : Option (List ℕ) → Frame → Type 0
 BeginsWith coming f = IsFrame f × ((rest : Option (List ℕ)) × Consumes coming rest (frame_bytes f))
 
--- a READY came that doesn't serve what is pledged
+-- a READY came that doesn't serve what is pledged; or no READY came, and the bytes that did have this fault
 abbrev pub IsRefused : Option (List ℕ) → ℕ → GreetFault → Type 0
 IsRefused coming pledged (faults.Unserved opcode) =
     (r : Ready) × BeginsWith coming (of_ready r) × (first_broken pledged r ≡ Some opcode)
-IsRefused coming pledged _ = Unit {0}
+IsRefused coming pledged (faults.Guest fault) = (rest : Option (List ℕ)) × ReadsFault ready_alone coming rest fault
+IsRefused coming pledged faults.Memory = Unit {0}

@@ -1,21 +1,23 @@
 // HELLO and READY.
-ghost use Rattle.std.specs.Prelude.{◌≡◌, IfErr, IfOk, OnOk};
+ghost use Rattle.std.specs.Prelude.{◌≡◌, true, IfErr, IfOk, OnOk};
 ghost use Rattle.std.specs.Io.KnownBytes.{Appends};
 ghost use Rattle.guest_frames.specs.Frames.{frame_bytes, of_hello, of_ready};
 ghost use Rattle.fuse_guest.specs.GuestModel.{agreed_with};
 ghost use Rattle.guest_talk.specs.Answered.{incoming_frame};
 ghost use Rattle.guest_talk.specs.Greeting.{hello_for};
-ghost use Rattle.guest_talk.specs.inner.Greets.{IsNoRefusal, ReadsReady};
+ghost use Rattle.guest_talk.specs.declared.due.Due.TheVariants as due;
+ghost use Rattle.guest_talk.specs.inner.Greets.{ReadsNoReady, ReadsReady, SaysNoHello};
+ghost use Rattle.guest_talk.specs.inner.Reads.{due_kinds};
 
+use crate::due::Due;
 use crate::fault::{AskFault, GreetFault};
 use crate::incoming::Incoming;
 use crate::outgoing::encoded;
 use crate::pipe::write_bytes;
 use crate::reading::read_frame;
 use bitflags::Flags;
-use fuse_guest::TalkFault;
 use fuse_init::Settings;
-use guest_frames::{Agreed, EngineFrame, GuestFault, GuestFrame, Hello, Ready};
+use guest_frames::{Agreed, EngineFrame, GuestFrame, Hello, Ready};
 use std::alloc::Global;
 use std::io::{Read, Write};
 
@@ -42,7 +44,7 @@ pub(crate) fn say_hello<W: Write>(
 ) -> Result<(), GreetFault>
     ensures ok { OnOk result (Appends (W.contents sink.old) (W.contents sink.new)
         (frame_bytes (of_hello (hello_for settings pledged)))) }
-    ensures err { IfErr result IsNoRefusal }
+    ensures err { IfErr result SaysNoHello }
 {
     let hello = EngineFrame::Hello(Hello {
         agreed: agreed_by(settings, pledged),
@@ -57,28 +59,25 @@ pub(crate) fn say_hello<W: Write>(
     }
 }
 
-// READY, if the frame is one.
-fn ready_of(came: &Incoming) -> Result<Ready, TalkFault>
-    ensures { IfOk result (λ ready. incoming_frame came.now ≡ of_ready ready) }
+// What a READY says.
+fn ready_of(came: &Incoming) -> Ready
+    requires { due_kinds due.Ready came.now.kind ≡ true }
+    ensures { incoming_frame came.now ≡ of_ready result }
 {
     match came.frame() {
-        GuestFrame::Ready(ready) => Ok(ready),
-        _ => Err(TalkFault::Frame(GuestFault::NotDue(came.kind.number()))),
+        GuestFrame::Ready(ready) => ready,
+        _ => unreachable!(),
     }
 }
 
 /// Reads READY.
 pub(crate) fn hear_ready<R: Read>(alloc: Global, source: &mut R) -> Result<Ready, GreetFault>
     ensures ok { IfOk result (ReadsReady (R.remaining source.old) (R.remaining source.new)) }
-    ensures err { IfErr result IsNoRefusal }
+    ensures err { IfErr result (ReadsNoReady (R.remaining source.old) (R.remaining source.new)) }
 {
-    let came = match read_frame(alloc, source) {
-        Ok(came) => came,
-        Err(AskFault::Guest(fault)) => return Err(GreetFault::Guest(fault)),
-        Err(_) => return Err(GreetFault::Memory),
-    };
-    match ready_of(&came) {
-        Ok(ready) => Ok(ready),
-        Err(fault) => Err(GreetFault::Guest(fault)),
+    match read_frame(alloc, source, Due::Ready) {
+        Ok(came) => Ok(ready_of(&came)),
+        Err(AskFault::Guest(fault)) => Err(GreetFault::Guest(fault)),
+        Err(_) => Err(GreetFault::Memory),
     }
 }

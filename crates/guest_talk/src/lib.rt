@@ -2,6 +2,7 @@
 //! answers.
 #![tactic(auto)]
 
+mod due;
 mod fault;
 mod greeting;
 mod guest_answer;

@@ -1,3 +1,4 @@
+use crate::due::Due;
 use crate::fault::{AskFault, GreetFault};
 use crate::greeting::{hear_ready, say_hello};
 use crate::guest_answer::GuestAnswer;
@@ -56,6 +57,7 @@ impl<R: Read + Drop, W: Write + Drop> Talk<R, W> {
     ghost use Rattle.guest_talk.specs.inner.Pipes.{IsPipeFault};
 
     /// Says HELLO, by what INIT agreed on and which opcodes were served then, and takes READY.
+    #[tactic(auto, using(crate::proofs::Greeted::no_hello, crate::proofs::Greeted::no_ready))]
     pub fn greet(
         alloc: Global,
         source: R,
@@ -65,7 +67,7 @@ impl<R: Read + Drop, W: Write + Drop> Talk<R, W> {
     ) -> Result<Talk<R, W>, GreetFault>
         ensures ok { IfOk result (λ talk. IsGreeted (R.remaining source) (W.contents sink)
             (hello_for settings pledged) pledged (talk_told R.remaining W.contents talk)) }
-        ensures unserved { IfErr result (IsRefused (R.remaining source) pledged) }
+        ensures refused { IfErr result (IsRefused (R.remaining source) pledged) }
     {
         let (mut source, mut sink) = (source, sink);
         say_hello(alloc, &mut sink, settings, pledged)?;
@@ -142,7 +144,7 @@ impl<R: Read + Drop, W: Write + Drop> Talk<R, W> {
         ensures err { IfErr result (turns.HearsNot (talk_told R.remaining W.contents self.old)
             (talk_told R.remaining W.contents self.new)) }
     {
-        match read_frame(alloc, &mut self.source) {
+        match read_frame(alloc, &mut self.source, Due::Others) {
             Ok(came) => {
                 note_frame(&mut self.record, came.kind.number(), &came.payload);
                 Ok(came)

@@ -252,6 +252,10 @@ fn faults(rt: HostRuntime) -> Result<(), Fail> {
     assert!(&rt; unknown == Some(TalkFault::Frame(GuestFault::NotDue(99))));
     let ready = fault_of(alloc, &lookup, READY)?;
     assert!(&rt; ready == Some(TalkFault::Frame(GuestFault::NotDue(2))));
+    let head = fault_of(alloc, &lookup, b"\x30\0\0\0\x02\0\0\0")?;
+    assert!(&rt; head == Some(TalkFault::Frame(GuestFault::NotDue(2))));
+    let four = fault_of(alloc, &lookup, b"\0\0\0\0")?;
+    assert!(&rt; four == Some(TalkFault::Frame(GuestFault::Length(0))));
     let malformed = fault_of(alloc, &lookup, b"\x09\0\0\0\x08\0\0\0\0")?;
     let wanted = TalkFault::Frame(GuestFault::Malformed(GuestKind::Answer));
     assert!(&rt; malformed == Some(wanted));
@@ -288,6 +292,8 @@ fn greetings(rt: HostRuntime) -> Result<(), Fail> {
     assert!(&rt; matches!(unserved, Some(GreetFault::Unserved(3))));
     let get = TalkFault::Frame(GuestFault::NotDue(4));
     assert!(&rt; refusal_of(alloc, GET, 0) == Some(GreetFault::Guest(get)));
+    let head = refusal_of(alloc, b"\x08\0\0\0\x04\0\0\0", 0);
+    assert!(&rt; head == Some(GreetFault::Guest(get)));
     let version = TalkFault::Frame(GuestFault::Version(2));
     let other = refusal_of(alloc, b"\x0c\0\0\0\x02\0\0\0\x02\0\0\0", 0);
     assert!(&rt; other == Some(GreetFault::Guest(version)));

@@ -17,7 +17,7 @@ use Rattle.guest_talk.specs.declared.fault.AskFault.TheVariants as faults
 use Rattle.guest_talk.specs.declared.judging.Judged.{Judged}
 use Rattle.guest_talk.specs.declared.judging.Judged.TheVariants as judged
 use Rattle.guest_talk.specs.Asking.{Ask, is_askable}
-use Rattle.guest_talk.specs.Bytes.{ReadsFault, ReadsTurn}
+use Rattle.guest_talk.specs.Bytes.{all_but_ready, ReadsFault, ReadsTurn}
 use Rattle.guest_talk.specs.Events.{Event, frame_event, fault_event, request_frame, trip_events, turn_event, IsWholeTrip, IsWholeTurn}
 use Rattle.guest_talk.specs.TalkState.{TalkState}
 use Rattle.guest_talk.specs.inner.Pipes.{IsPipeFault}
@@ -73,7 +73,7 @@ pub record Hears (old new : TalkState) (f : Frame) : Type 0 where
 pub record HearsFault (old new : TalkState) (fault : TalkFault) : Type 0 where
   pub notes : Notes old new (fault_event fault ∷ [])
   pub sent : new.sent ≡ old.sent
-  pub came : ReadsFault old.coming new.coming fault
+  pub came : ReadsFault all_but_ready old.coming new.coming fault
 
 abbrev pub HearsNot : TalkState → TalkState → AskFault → Type 0
 HearsNot old new (faults.Store fault) = (fault ≡ stores.Memory) × Notes old new []

@@ -20,8 +20,8 @@ returns-in-Ok-look_at-clause-ok g c =
     let p = c.read_bytes.new.bytes in
     let long : length p ≡ c.in_ok-payload.payload.len = omega arith in
     let same = c.deref.ensures.value ∙ take_at p (drop (length p) c.in_ok-payload.payload.items) c.in_ok-payload.payload.len long in
-    let least = head_min _ _ c.in-Ok.head c.in-Ok.ensures.ok in
-    let whole = read_whole c.numbers_read.ensures c.frames_stand.ensures (g.R.Read.remaining c.args.source.now)
+    let least = head_min c.args.due _ _ c.in-Ok.head c.in-Ok.ensures.ok in
+    let whole = read_whole c.numbers_read.ensures c.frames_stand.ensures c.args.due (g.R.Read.remaining c.args.source.now)
     (g.R.Read.remaining c.read_head.new.source) (g.R.Read.remaining c.read_bytes.new.source) c.in-Ok.head p c.in-Ok.ensures.ok c.read_bytes.ensures.fits
     (omega (arith, least, c.in_ok-payload.ensures.len)) (search rules) (subst (IsSpelled c.in-Ok.head.kind) same c.in-Ok-look_at.ensures.ok) in
     subst (λ (b : List ℕ). ReadsWhole (g.R.Read.remaining c.args.source.now) (g.R.Read.remaining c.read_bytes.new.source) (frame_read (payload_in c.in-Ok.head.kind b)))
@@ -32,8 +32,8 @@ returns-in-Ok-look_at-clause-payload g c =
     let p = c.read_bytes.new.bytes in
     let long : length p ≡ c.in_ok-payload.payload.len = omega arith in
     let same = c.deref.ensures.value ∙ take_at p (drop (length p) c.in_ok-payload.payload.items) c.in_ok-payload.payload.len long in
-    let least = head_min _ _ c.in-Ok.head c.in-Ok.ensures.ok in
-    let whole = read_whole c.numbers_read.ensures c.frames_stand.ensures (g.R.Read.remaining c.args.source.now)
+    let least = head_min c.args.due _ _ c.in-Ok.head c.in-Ok.ensures.ok in
+    let whole = read_whole c.numbers_read.ensures c.frames_stand.ensures c.args.due (g.R.Read.remaining c.args.source.now)
     (g.R.Read.remaining c.read_head.new.source) (g.R.Read.remaining c.read_bytes.new.source) c.in-Ok.head p c.in-Ok.ensures.ok c.read_bytes.ensures.fits
     (omega (arith, least, c.in_ok-payload.ensures.len)) (search rules) (subst (IsSpelled c.in-Ok.head.kind) same c.in-Ok-look_at.ensures.ok) in
     subst (λ (b : List ℕ). b ≡ drop 8 (frame_bytes (frame_read (payload_in c.in-Ok.head.kind b)))) (sym same ∙ c.deref.ensures.value) whole.1
@@ -43,8 +43,8 @@ returns-in-Ok-look_at-clause-kind g c =
     let p = c.read_bytes.new.bytes in
     let long : length p ≡ c.in_ok-payload.payload.len = omega arith in
     let same = c.deref.ensures.value ∙ take_at p (drop (length p) c.in_ok-payload.payload.items) c.in_ok-payload.payload.len long in
-    let least = head_min _ _ c.in-Ok.head c.in-Ok.ensures.ok in
-    let whole = read_whole c.numbers_read.ensures c.frames_stand.ensures (g.R.Read.remaining c.args.source.now)
+    let least = head_min c.args.due _ _ c.in-Ok.head c.in-Ok.ensures.ok in
+    let whole = read_whole c.numbers_read.ensures c.frames_stand.ensures c.args.due (g.R.Read.remaining c.args.source.now)
     (g.R.Read.remaining c.read_head.new.source) (g.R.Read.remaining c.read_bytes.new.source) c.in-Ok.head p c.in-Ok.ensures.ok c.read_bytes.ensures.fits
     (omega (arith, least, c.in_ok-payload.ensures.len)) (search rules) (subst (IsSpelled c.in-Ok.head.kind) same c.in-Ok-look_at.ensures.ok) in
     subst (λ (b : List ℕ). frame_kind (frame_read (payload_in c.in-Ok.head.kind b)) ≡ kind_number c.in-Ok.head.kind) (sym same ∙ c.deref.ensures.value) whole.2
@@ -54,6 +54,7 @@ returns-in-Err-look_at-clause-err g c =
     let p = c.read_bytes.new.bytes in
     let long : length p ≡ c.in_ok-payload.payload.len = omega arith in
     let same = c.deref.ensures.value ∙ take_at p (drop (length p) c.in_ok-payload.payload.items) c.in_ok-payload.payload.len long in
-    wrong_payload c.numbers_read.ensures (g.R.Read.remaining c.args.source.now) (g.R.Read.remaining c.read_head.new.source)
+    let least = head_min c.args.due _ _ c.in-Ok.head c.in-Ok.ensures.ok in
+    wrong_payload c.numbers_read.ensures c.args.due (g.R.Read.remaining c.args.source.now) (g.R.Read.remaining c.read_head.new.source)
     (g.R.Read.remaining c.read_bytes.new.source) c.in-Ok.head p c.in-Err-look_at.fault c.in-Ok.ensures.ok (search rules)
-    (rw same at c.in-Err-look_at.ensures.err)
+    (omega (arith, least, c.in_ok-payload.ensures.len)) (rw same at c.in-Err-look_at.ensures.err)
