@@ -36,25 +36,26 @@ fn deaths_of(deaths: Option<Deaths>, id: u64) -> u32 {
 }
 
 // What a request without an answer ends the call with. It is kept for the program's line.
-fn end_by<S: Alter, R, W>(store: &mut GuestStore<S, R, W>, id: u64, fault: AskFault) -> StoreFault
+fn end_by<S: Alter, R, W>(
+    store: &mut GuestStore<S, R, W>,
+    request: &Request<'_>,
+    fault: AskFault,
+) -> StoreFault
     ensures fault { result ≡ ask_fault fault }
     ensures pairs { store.new.pairs ≡ store.old.pairs }
     ensures talk { store.new.talk ≡ store.old.talk }
 {
-    match fault {
-        AskFault::Store(fault) => fault,
-        AskFault::Guest(fault) => {
-            store.broken = Some(Broken {
-                id,
-                fault: Some(fault),
-            });
-            StoreFault::Guest
-        }
-        AskFault::Unsayable => {
-            store.broken = Some(Broken { id, fault: None });
-            StoreFault::Guest
-        }
-    }
+    let fault = match fault {
+        AskFault::Store(fault) => return fault,
+        AskFault::Guest(fault) => Some(fault),
+        AskFault::Unsayable => None,
+    };
+    store.broken = Some(Broken {
+        id: Id::of(request.header.unique).0,
+        opcode: request.op.opcode(),
+        fault,
+    });
+    StoreFault::Guest
 }
 
 /// Asks the guest a request of this moment, over the pairs as they stand in the transaction.
@@ -74,11 +75,11 @@ pub(crate) fn ask<G: Guested, S: Alter + Drop, R: Read + Drop, W: Write + Drop>(
     if count >= MOST_DEATHS {
         return match store.talk.give_up(request, now, count) {
             Ok(()) => Ok(Reply::GivenUp),
-            Err(fault) => Err(end_by(store, id, fault)),
+            Err(fault) => Err(end_by(store, request, fault)),
         };
     }
     match store.talk.ask(alloc, &mut store.pairs, request, now, count) {
         Ok(answer) => Ok(Reply::Answered(answer)),
-        Err(fault) => Err(end_by(store, id, fault)),
+        Err(fault) => Err(end_by(store, request, fault)),
     }
 }

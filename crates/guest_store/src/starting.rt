@@ -290,6 +290,8 @@ impl<G: Guested, S: Alter + Drop, R: Read + Drop, W: Write + Drop> GuestKeeper<G
         ensures same { conn_of self.new ≡ conn_of self.old }
         ensures talk { (store_at S.Store R.remaining W.contents self.new).talk
             ≡ (store_at S.Store R.remaining W.contents self.old).talk }
+        ensures lots { (keeper_told G.GUEST S.Store R.remaining W.contents self.new).lots
+            ≡ (keeper_told G.GUEST S.Store R.remaining W.contents self.old).lots }
         ensures going { (keeper_told G.GUEST S.Store R.remaining W.contents self.new).has_failed
             ≡ (keeper_told G.GUEST S.Store R.remaining W.contents self.old).has_failed }
     {

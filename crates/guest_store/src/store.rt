@@ -10,11 +10,12 @@ pub struct Deaths {
     pub count: u32,
 }
 
-/// Why a guest can't be asked any more, and the id of the request that it was asked. No fault stands
-/// for a request that no frame says.
+/// Why a guest can't be asked any more, and the id and the opcode of the request that it was asked.
+/// No fault stands for a request that no frame says.
 #[derive(Clone, Copy, Debug, PartialEq, Eq)]
 pub struct Broken {
     pub id: u64,
+    pub opcode: u32,
     pub fault: Option<TalkFault>,
 }
 
