@@ -34,6 +34,8 @@ mod halves;
 #[cfg(test)]
 mod keepers;
 #[cfg(test)]
+mod large_values;
+#[cfg(test)]
 mod migrations;
 #[cfg(test)]
 mod observations;

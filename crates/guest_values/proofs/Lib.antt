@@ -1,0 +1,11 @@
+mod ByPlaces
+mod GivingBack
+mod Keeping
+mod Lasting
+mod Lists
+mod Readings
+mod Results
+mod RowColumns
+mod Spaces
+mod Staying
+mod Writes
