@@ -9,6 +9,7 @@ mod Outcomes
 mod GivenUp
 mod Looks
 mod Records
+mod Lives
 mod Requested
 mod Handed
 mod Judged

@@ -7,4 +7,5 @@ pub mod Greeting
 pub mod Asking
 pub mod GivingUp
 pub mod Growing
+pub mod Lives
 pub mod inner

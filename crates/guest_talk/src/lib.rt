@@ -24,7 +24,7 @@ mod tests;
 
 pub use fault::{AskFault, GreetFault};
 pub use guest_answer::GuestAnswer;
-pub use laws::records_grow;
+pub use laws::{records_grow, some_guest_agrees_with_lives};
 pub use page::{OwnedPair, PairPage};
 pub use pair_source::PairSource;
 pub use talk::Talk;
