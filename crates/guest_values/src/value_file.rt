@@ -143,7 +143,7 @@ impl<D: Disk> ValueFile<D> {
     }
 
     /// After a commit: the blocks of what was taken away are free. `false` says that some stay in
-    /// use until the free space is found anew, for want of memory.
+    /// use until the free space is found anew, if memory ran out.
     pub fn settle(&mut self) -> bool
         ensures rests { (committed now : List AnExtent)
             → ServesPieces committed now (values_of D.Disk self.old)
