@@ -13,15 +13,17 @@ use Rattle.fuse_guest.specs.Service.{service_of}
 use Rattle.fuse_guest.specs.Talk.{Guest}
 use Rattle.guest_frames.specs.declared.ready.Ready.{Ready}
 use Rattle.guest_store.specs.declared.group.Transacted.{Transacted}
+use Rattle.guest_store.specs.declared.store.Deaths.{Deaths}
+use Rattle.guest_store.specs.Asks.{asks_of}
 use Rattle.guest_store.specs.Holding.{Holding}
 use Rattle.guest_store.specs.Group.{HasLotLeft, dones_of, lot_for, prepared, with_group, without_record, without_settled}
 use Rattle.guest_store.specs.StoreState.{StoreState}
 use Rattle.guest_store.specs.inner.Acting.{taking}
 use Rattle.guest_store.specs.inner.Lotting.{lotting}
-use Rattle.guest_store.specs.inner.Stepping.{Effect, Steps, making}
+use Rattle.guest_store.specs.inner.Stepping.{Effect, Steps, asking_by, making}
 use Rattle.guest_store.specs.inner.Transacting.{grouping, transacting}
 use Rattle.guest_store.proofs.Acts.{step_any, step_then_stops}
-use Rattle.guest_store.proofs.Groups.{group_more, dones_more}
+use Rattle.guest_store.proofs.Groups.{asks_first, asks_more, dones_more, group_more}
 use Rattle.guest_store.proofs.Stepping.{step_as, step_err, step_ok}
 
 -- ---- settled ids don't touch lots
@@ -50,43 +52,48 @@ performed_at r s group i d low same each =
     subst (λ (x : Ready). IsPerformed (service_of x) (entry_of (get_or group i d))) (sym same) (entry_at (IsPerformed (service_of r)) group i d low each)
 
 -- its first entries were taken
-abbrev pub taking_all : (G : Guest) → ℕ → List Entry → Effect G (List Done)
-taking_all G lot es = making G (λ y. with_group lot es y) (λ y ds. ds ≡ dones_of lot es y)
+abbrev pub taking_all : (G : Guest) → Option Deaths → ℕ → List Entry → Effect G (List Done)
+taking_all G deaths lot es = asking_by G (asks_of G deaths lot es) (λ y. with_group lot es y) (λ y ds. ds ≡ dones_of lot es y)
 
-module _ (G : Guest) (lot : ℕ) (group : List (Request × Moment)) (i : ℕ) (x : Request × Moment) (low : i < length group) (a b d : StoreState) (ds : List Done)
-    (p : Steps G (taking_all G lot (entries_of (take i group))) a b (Ok ds)) where
-  pub take_more_of : (done : Done) (more : List Done) → more ≡ ds ++ done ∷ [] → Steps G (taking G lot (entry_of (get_or group i x))) b d (Ok done)
-      → Steps G (taking_all G lot (entries_of (take (i + 1) group))) a d (Ok more)
+module _ (G : Guest) (deaths : Option Deaths) (lot : ℕ) (group : List (Request × Moment)) (i : ℕ) (x : Request × Moment) (low : i < length group) (a b d : StoreState) (ds : List Done)
+    (p : Steps G (taking_all G deaths lot (entries_of (take i group))) a b (Ok ds)) where
+  pub take_more_of : (done : Done) (more : List Done) → more ≡ ds ++ done ∷ [] → Steps G (taking G deaths lot (entry_of (get_or group i x))) b d (Ok done)
+      → Steps G (taking_all G deaths lot (entries_of (take (i + 1) group))) a d (Ok more)
   take_more_of done more is q =
-      step_ok G (taking_all G lot (entries_of (take i group))) (taking G lot (entry_of (get_or group i x))) a b d ds p
-      (taking_all G lot (entries_of (take (i + 1) group))) done more q
+      step_ok G (taking_all G deaths lot (entries_of (take i group))) (taking G deaths lot (entry_of (get_or group i x))) a b d ds p
+      (taking_all G deaths lot (entries_of (take (i + 1) group))) done more q
       (λ all w told next. (
         group_more lot group i x low w,
         is ∙ ap (λ l. l ++ done ∷ []) told ∙ ap (λ z. dones_of lot (entries_of (take i group)) w ++ z ∷ []) next ∙ dones_more lot group i x low w,
       ))
+      (λ all w told. asks_more G deaths lot group i x low w)
 
   -- it was taken, and there is no memory for its answer
-  pub take_ends : (done : Done) → Steps G (taking G lot (entry_of (get_or group i x))) b d (Ok done) → Steps {A = Transacted} G (grouping G lot (entries_of group)) a d (Err Memory)
+  pub take_ends : (done : Done) → Steps G (taking G deaths lot (entry_of (get_or group i x))) b d (Ok done) → Steps {A = Transacted} G (grouping G deaths lot (entries_of group)) a d (Err Memory)
   take_ends done q =
-      step_then_stops G (taking_all G lot (entries_of (take (i + 1) group))) (grouping G lot (entries_of group)) a d (ds ++ done ∷ []) (take_more_of done (ds ++ done ∷ []) refl q)
+      step_then_stops G (taking_all G deaths lot (entries_of (take (i + 1) group))) (grouping G deaths lot (entries_of group)) a d (ds ++ done ∷ []) (take_more_of done (ds ++ done ∷ []) refl q)
+      (λ w. asks_first G deaths lot group (i + 1) w)
 
-  pub take_stops : (s : StoreFault) → Steps {A = Done} G (taking G lot (entry_of (get_or group i x))) b d (Err s)
-      → Steps {A = Transacted} G (grouping G lot (entries_of group)) a d (Err s)
+  pub take_stops : (s : StoreFault) → Steps {A = Done} G (taking G deaths lot (entry_of (get_or group i x))) b d (Err s)
+      → Steps {A = Transacted} G (grouping G deaths lot (entries_of group)) a d (Err s)
   take_stops s q =
-      step_err G (taking_all G lot (entries_of (take i group))) (taking G lot (entry_of (get_or group i x))) a b d ds p (grouping G lot (entries_of group)) s q
+      step_err G (taking_all G deaths lot (entries_of (take i group))) (taking G deaths lot (entry_of (get_or group i x))) a b d ds p (grouping G deaths lot (entries_of group)) s q
       (λ w told safe. tt)
+      (λ all w told.
+      let first = asks_first G deaths lot group (i + 1) w in
+      (first.0, first.1 ∙ ap (λ l. l ++ first.0) (sym (asks_more G deaths lot group i x low w))))
 
 -- all were
-pub took_them : (G : Guest) (lot : ℕ) (es : List Entry) (a b : StoreState) (ds : List Done) (t : Transacted) → t.lot ≡ lot → t.dones.items ≡ ds
-    → Steps G (taking_all G lot es) a b (Ok ds) → Steps G (grouping G lot es) a b (Ok t)
-took_them G lot es a b ds t is same p =
-    step_as G (taking_all G lot es) (grouping G lot es) a b ds t p (λ all w told. (refl, (is, same ∙ told)))
+pub took_them : (G : Guest) (deaths : Option Deaths) (lot : ℕ) (es : List Entry) (a b : StoreState) (ds : List Done) (t : Transacted) → t.lot ≡ lot → t.dones.items ≡ ds
+    → Steps G (taking_all G deaths lot es) a b (Ok ds) → Steps G (grouping G deaths lot es) a b (Ok t)
+took_them G deaths lot es a b ds t is same p =
+    step_as G (taking_all G deaths lot es) (grouping G deaths lot es) a b ds t p (λ all w told. (refl, (is, same ∙ told))) (λ all w told. refl)
 
 -- ---- what comes before
 
 -- settled records are deleted, and this opening has a lot
 abbrev pub preparing : (G : Guest) → Option ℕ → List ℕ → Effect G ℕ
-preparing G lot ids = record { made = λ y. prepared lot ids y; told = λ y n. n ≡ lot_for lot y; safe = λ y. HasLotLeft lot y }
+preparing G lot ids = record { made = λ y. prepared lot ids y; told = λ y n. n ≡ lot_for lot y; safe = λ y. HasLotLeft lot y; asks = λ y. [] }
 
 abbrev pub settling : (G : Guest) → List ℕ → Effect G (Unit {0})
 settling G ids = making G (λ y. without_settled ids y) (λ y r. ⊤)
@@ -96,14 +103,14 @@ pub prepares : (G : Guest) (lot : Option ℕ) (ids : List ℕ) (a b d : StoreSta
 prepares G lot ids a b d r p q =
     step_any G (settling G ids) (lotting G lot) (preparing G lot ids) a b d tt p
     (λ all w n told more. (refl, more ∙ lot_stays lot ids w))
-    (λ w told safe none. subst (λ (n : ℕ). n < 2 ^ 62) (sym (next_lot_stays ids w)) (safe none)) r q
+    (λ w told safe none. subst (λ (n : ℕ). n < 2 ^ 62) (sym (next_lot_stays ids w)) (safe none)) (λ all w told. refl) r q
 
-pub transacts : (G : Guest) (lot : Option ℕ) (ids : List ℕ) (es : List Entry) (n : ℕ) (a b d : StoreState) (r : Result Transacted StoreFault)
-    → Steps G (preparing G lot ids) a b (Ok n) → Steps G (grouping G n es) b d r → Steps G (transacting G lot ids es) a d r
-transacts G lot ids es n a b d r p q =
-    step_any G (preparing G lot ids) (grouping G n es) (transacting G lot ids es) a b d n p
+pub transacts : (G : Guest) (deaths : Option Deaths) (lot : Option ℕ) (ids : List ℕ) (es : List Entry) (n : ℕ) (a b d : StoreState) (r : Result Transacted StoreFault)
+    → Steps G (preparing G lot ids) a b (Ok n) → Steps G (grouping G deaths n es) b d r → Steps G (transacting G deaths lot ids es) a d r
+transacts G deaths lot ids es n a b d r p q =
+    step_any G (preparing G lot ids) (grouping G deaths n es) (transacting G deaths lot ids es) a b d n p
     (λ all w t told more. (
       ap (λ k. with_group k es (prepared lot ids w)) told,
       (more.0 ∙ told, more.1 ∙ ap (λ k. dones_of k es (prepared lot ids w)) told),
     ))
-    (λ w told safe. tt) r q
+    (λ w told safe. tt) (λ all w told. ap (λ k. asks_of G deaths k es (prepared lot ids w)) told) r q

@@ -1,6 +1,6 @@
 -- A group, one more after another.
-use Rattle.std.proofs.Common.{◌≡◌, ◌<◌, ◌+◌, ℕ, List, [], ◌∷◌, ◌++◌, length, take, get_or, refl, sym, ap, ◌∙◌}
-use Rattle.std.proofs.lemmas.List.{take_more, map-append}
+use Rattle.std.proofs.Common.{◌≡◌, ◌<◌, ◌+◌, ℕ, List, [], ◌∷◌, ◌++◌, length, take, drop, get_or, Option, refl, sym, ap, ◌∙◌}
+use Rattle.std.proofs.lemmas.List.{append_assoc, map-append, take_more, take-append-drop}
 use Rattle.fuse_wire.specs.declared.id.Id.{Id}
 use Rattle.fuse_wire.specs.declared.moment.Moment.{Moment}
 use Rattle.fuse_request.specs.declared.request.Request.{Request}
@@ -8,6 +8,11 @@ use Rattle.fuse_keeper.specs.Model.{Model}
 use Rattle.fuse_keeper.specs.Group.{entry_of, entries_of, ids_of}
 use Rattle.fuse_keeper.specs.History.{Entry}
 use Rattle.guest_store.specs.Holding.{Holding}
+use Rattle.fuse_guest.specs.Talk.{Guest}
+use Rattle.guest_store.specs.declared.store.Deaths.{Deaths}
+use Rattle.guest_store.specs.Asks.{asks_of, asks_to}
+use Rattle.guest_store.specs.StoreState.{HeldOf}
+use Rattle.guest_store.proofs.Asked.{AreFirst, no_more}
 use Rattle.guest_store.specs.Group.{without_record, without_settled, taken, with_group, dones_of}
 
 -- ---- settled ids
@@ -49,3 +54,29 @@ module _ {M : Model} (lot : ℕ) (group : List (Request × Moment)) (i : ℕ) (x
       ≡ dones_of lot (entries_of (take (i + 1) group)) y
   dones_more =
       sym (dones_last lot (entries_of (take i group)) (entry_of (get_or group i x)) y) ∙ ap (λ es. dones_of lot es y) (sym (one_more group i x low))
+
+-- ---- what is asked
+
+module _ (G : Guest) (deaths : Option Deaths) (lot : ℕ) where
+  asks_joined : (xs ys : List Entry) (y : HeldOf G) → asks_of G deaths lot (xs ++ ys) y ≡ asks_of G deaths lot xs y ++ asks_of G deaths lot ys (with_group lot xs y)
+  asks_joined [] ys y = refl
+  asks_joined (x ∷ xs) ys y =
+      ap (λ l. asks_to G deaths x y ++ l) (asks_joined xs ys (taken lot x y).holding)
+      ∙ sym (append_assoc (asks_to G deaths x y) (asks_of G deaths lot xs (taken lot x y).holding) (asks_of G deaths lot ys (with_group lot (x ∷ xs) y)))
+
+  pub asks_more : (group : List (Request × Moment)) (i : ℕ) (x : Request × Moment) → i < length group → (y : HeldOf G)
+      → asks_of G deaths lot (entries_of (take i group)) y ++ asks_to G deaths (entry_of (get_or group i x)) (with_group lot (entries_of (take i group)) y)
+      ≡ asks_of G deaths lot (entries_of (take (i + 1) group)) y
+  asks_more group i x low y =
+      let xs = entries_of (take i group) in
+      let e = entry_of (get_or group i x) in
+      ap (λ l. asks_of G deaths lot xs y ++ l) (no_more (asks_to G deaths e (with_group lot xs y))) ∙ sym (asks_joined xs (e ∷ []) y)
+      ∙ ap (λ es. asks_of G deaths lot es y) (sym (one_more group i x low))
+
+  pub asks_first : (group : List (Request × Moment)) (i : ℕ) (y : HeldOf G)
+      → AreFirst (asks_of G deaths lot (entries_of (take i group)) y) (asks_of G deaths lot (entries_of group) y)
+  asks_first group i y =
+      let xs = entries_of (take i group) in
+      let ys = entries_of (drop i group) in
+      let split : entries_of group ≡ xs ++ ys = ap entries_of (sym (take-append-drop i group)) ∙ map-append entry_of (take i group) (drop i group) in
+      (asks_of G deaths lot ys (with_group lot xs y), ap (λ es. asks_of G deaths lot es y) split ∙ asks_joined xs ys y)

@@ -9,6 +9,7 @@ mod Peeking
 mod Beginning
 mod Opened
 mod Pledges
+mod Asked
 mod Stepping
 mod Decisions
 mod MetaRows

@@ -1,5 +1,5 @@
 -- What is read of a store's promises, and that nothing is changed by it.
-use Rattle.std.proofs.Common.{◌≡◌, ◌<◌, ◌^◌, ℕ, List, [], ◌∷◌, length, Result, Ok, Err, inl, inr, refl, sym, ap, subst, arith, ◌∙◌}
+use Rattle.std.proofs.Common.{List, [], ◌∷◌, Result, Ok, inl, inr, refl, sym, subst, ◌∙◌}
 use Rattle.sqlite.specs.Order.{Row, column}
 use Rattle.sqlite.specs.Effect.{Database}
 use Rattle.sqlite.specs.State.{State, HasCleanDisk}
@@ -8,37 +8,15 @@ use Rattle.sqlite.proofs.StateLemmas.{survives_then}
 use Rattle.sqlite.proofs.InsideLemmas.{keeps_then}
 use Rattle.fuse_keeper.specs.declared.fault.StoreFault.{StoreFault}
 use Rattle.fuse_keeper.specs.declared.fault.StoreFault.TheVariants.{Memory, Sql, NotAStore, Version, Damaged, Guest as GuestFailed}
-use Rattle.fuse_store_tables.specs.Faults.{IsOutside, IsPlain as IsOfTables}
+use Rattle.fuse_store_tables.specs.Faults.{IsPlain as IsOfTables}
 use Rattle.fuse_store_tables.specs.Moves.{LeavesAlone, OnlyReads, RestsAs, ServesAs}
 use Rattle.fuse_store_tables.specs.Saying.{HasFirst}
 use Rattle.fuse_store_tables.specs.inner.Following.{earlier}
-use Rattle.guest_tables.specs.Content.{GuestContent, Holds, value_at, pledged_key}
-use Rattle.guest_tables.specs.Holding.{GuestHolding, HeldFor, holding_in}
+use Rattle.guest_tables.specs.Content.{Holds}
+use Rattle.guest_tables.specs.Holding.{GuestHolding, HeldFor}
 use Rattle.guest_tables.specs.Layout.{guest_version}
-use Rattle.guest_tables.specs.Opening.{IsFitContent, IsMeta, IsStored}
+use Rattle.guest_tables.specs.Opening.{IsStored}
 use Rattle.guest_tables.specs.Saying.{HasOwn, IsOwn, IsTabled, Says}
-use Rattle.guest_tables.specs.inner.Columns.{value_of}
-use Rattle.guest_store.proofs.MetaRows.{MetaValues, rows_of, meta_is}
-
--- ---- the value
-
-pub record IsLast (c : GuestContent) : Type 0 where
-  pub is : value_of c.counters 7 ≡ value_at pledged_key c
-  pub low : value_of c.counters 7 < 2 ^ 64
-  pub long : 7 < length c.counters
-
-last_so : (v : MetaValues) (c : GuestContent) → IsMeta (record c { counters = rows_of v }) → IsLast (record c { counters = rows_of v })
-last_so v c meta = record {
-  is = refl;
-  low = (let low = meta.2.2.2.2.2.2.2.1 in omega (arith, low));
-  long = omega arith;
-}
-
-pub last_is : (c : GuestContent) → IsMeta c → IsLast c
-last_is c meta =
-    let (v, same) = meta_is c.counters meta in
-    let back : record c { counters = rows_of v } ≡ c = ap (λ cs. record c { counters = cs }) (sym same) in
-    subst (λ (k : GuestContent). IsMeta k → IsLast k) back (last_so v c) meta
 
 -- ---- what is held
 
@@ -92,19 +70,3 @@ says_plain d NotAStore is plain = absurd plain
 says_plain d (Version n) is plain = absurd plain
 says_plain d GuestFailed is plain = absurd plain
 says_plain d Damaged is plain = (is.0.0, is.0.1, own is.0.0 is.0.2)
-
--- the same reads, with what was made of what was read
-pub reads_as : {X Y E F : Type 0} (a b : State) (x : X) (r : Result Y F) → OnlyReads {E = E} a b (Ok x) → OnlyReads a b r
-reads_as a b x (Ok y) p = record { commits = p.commits; same = p.same; outside = p.outside; seen = p.seen }
-reads_as a b x (Err f) p = record { commits = p.commits; same = tt; outside = p.outside; seen = p.seen }
-
-pub reads_fails : {X Y E F : Type 0} (a b : State) (e : E) (f : F) → OnlyReads {X = X} a b (Err e) → OnlyReads {X = Y} a b (Err f)
-reads_fails a b e f p = record { commits = p.commits; same = tt; outside = p.outside; seen = p.seen }
-
-pub outside_of_tables : (s : StoreFault) → IsOutside s → IsOfTables s
-outside_of_tables Memory is = tt
-outside_of_tables (Sql e) is = tt
-outside_of_tables NotAStore is = absurd is
-outside_of_tables (Version v) is = absurd is
-outside_of_tables Damaged is = absurd is
-outside_of_tables GuestFailed is = absurd is

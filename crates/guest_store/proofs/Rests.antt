@@ -20,6 +20,7 @@ use Rattle.guest_store.proofs.MetaRows.{MetaValues, rows_of, meta_is}
 use Rattle.guest_store.proofs.Retelling.{Retold, served_so}
 use Rattle.fuse_store_tables.specs.inner.Following.{earlier, open_then, open_told, rests_then, rests_told}
 use Rattle.guest_store.specs.inner.Showing.{same_survives}
+use Rattle.guest_store.proofs.Asked.{still}
 use Rattle.guest_store.proofs.Stepping.{spoke_none}
 use Rattle.guest_store.proofs.Tables.{outside_nothing, outside_plain, plain_of}
 
@@ -49,6 +50,7 @@ module _ {A : Type 0} (G : Guest) (told : HeldOf G → A → Type 0) (a b : Stat
     fault = tt;
     open_still = open_still;
     plain = tt;
+    asked = λ honest n y at. refl;
   }
 
   pub look_wrong : (s : StoreFault) → ServesAs {X = A} Holds Holds a b (Err s) → StaysOpen {X = A} a b (Err s) → IsOfTables s
@@ -60,6 +62,7 @@ module _ {A : Type 0} (G : Guest) (told : HeldOf G → A → Type 0) (a b : Stat
     fault = λ honest n y at safe. outside_nothing s (outside honest.0 n y at);
     open_still = open_still;
     plain = λ honest n y at. plain_of s plain;
+    asked = λ honest n y at. still [] t;
   }
 
 -- ---- the begin of a mount
@@ -98,6 +101,7 @@ mounted G a b t (Ok x) p open_still outside = record {
   fault = tt;
   open_still = open_still;
   plain = tt;
+  asked = λ honest n y at. refl;
 }
 mounted G a b t (Err s) p open_still outside = record {
   serves = served_so IsStored (λ c. IsStored (cleared c)) (StoredAs G t (λ y. y)) (StoredAs G t (λ y. begun y)) (mount_told G t) a b (Err s) p;
@@ -106,6 +110,7 @@ mounted G a b t (Err s) p open_still outside = record {
   fault = λ honest n y at safe. outside_nothing s outside;
   open_still = open_still;
   plain = λ honest n y at. outside_plain s outside;
+  asked = λ honest n y at. still [] t;
 }
 
 -- ---- looks, as their functions return them
@@ -144,6 +149,7 @@ rest_none G told a t x is = record {
   fault = tt;
   open_still = record { was = λ clean is_open. is_open; still = λ clean is_open. is_open };
   plain = tt;
+  asked = λ honest n y at. refl;
 }
 
 -- ---- two looks
@@ -164,6 +170,7 @@ module _ {A B C : Type 0} (G : Guest) (p : HeldOf G → A → Type 0) (q : HeldO
     fault = tt;
     open_still = open_then a b d x (Ok z) one.open_still two.serves.survives (open_told b d y (Ok z) two.open_still);
     plain = tt;
+    asked = λ honest n w at. refl;
   }
 
   pub look_then_fails : (s : StoreFault) → Serves {A = B} G (making G (λ w. w) q) (with_talk b t) (with_talk d t) (Err s)
@@ -180,6 +187,7 @@ module _ {A B C : Type 0} (G : Guest) (p : HeldOf G → A → Type 0) (q : HeldO
     plain = λ honest n w at.
         let clean = earlier b d _ two.serves.survives honest.0 in
         two.plain honest n w (middle clean honest.1 n w at);
+    asked = λ honest n w at. still [] t;
   }
 
 -- the first one failed
@@ -192,4 +200,5 @@ look_first_fails G p r a b t s one = record {
   fault = one.fault;
   open_still = record { was = one.open_still.was; still = tt };
   plain = one.plain;
+  asked = one.asked;
 }

@@ -14,12 +14,10 @@ use Rattle.guest_tables.specs.Opening.{AreRecords}
 use Rattle.guest_store.specs.StoreState.{HeldOf, SaidAll, StoreState, IsHonest, IsPlain, SaysNothing, held_as}
 use Rattle.guest_store.specs.inner.Showing.{looked_still}
 use Rattle.guest_store.specs.inner.Stepping.{Inside, Spoke, Effect, Steps, with_talk}
+use Rattle.guest_store.specs.Asks.{Asking, AreAsked}
+use Rattle.guest_store.proofs.Asked.{AreFirst, asked_then, no_more, still, until_then}
 
 -- ---- the talk
-
-no_more : {X : Type 0} (xs : List X) → xs ≡ xs ++ []
-no_more [] = refl
-no_more (x ∷ xs) = ap (λ more. x ∷ more) (no_more xs)
 
 pub spoke_none : (t : TalkState) → Spoke t t
 spoke_none t = record { ready = refl; more = []; grows = no_more t.events }
@@ -67,8 +65,9 @@ module _ {A B : Type 0} (G : Guest) (e : Effect G A) (f : Effect G B) (a b d : S
     known = p.value mid n y at
 
   pub step_ok : {C : Type 0} → (h : Effect G C) (y : B) (z : C) → Steps G f b d (Ok y)
-      → (SaidAll G d.talk → (w : HeldOf G) → e.told w x → f.told (e.made w) y → (f.made (e.made w) ≡ h.made w) × h.told w z) → Steps G h a d (Ok z)
-  step_ok h y z q so = record {
+      → (SaidAll G d.talk → (w : HeldOf G) → e.told w x → f.told (e.made w) y → (f.made (e.made w) ≡ h.made w) × h.told w z)
+      → (SaidAll G d.talk → (w : HeldOf G) → e.told w x → e.asks w ++ f.asks (e.made w) ≡ h.asks w) → Steps G h a d (Ok z)
+  step_ok h y z q so joins = record {
     takes = record {
       stays = stays_then a.tables b.tables d.tables p.takes.stays p.takes.within q.takes.stays;
       within = inside_then a.tables b.tables d.tables p.takes.within q.takes.stays.survives q.takes.within;
@@ -84,11 +83,15 @@ module _ {A B : Type 0} (G : Guest) (e : Effect G A) (f : Effect G B) (a b d : S
         (so honest.1 w (known q.takes.stays q.spoke honest n w at) (q.value honest n (e.made w) (begun q.takes.stays q.spoke honest n w at))).1;
     fault = tt;
     plain = tt;
+    asked = λ honest n w at.
+        subst (λ (l : List Asking). AreAsked l a.talk d.talk) (joins honest.1 w (known q.takes.stays q.spoke honest n w at))
+        (asked_then (e.asks w) (f.asks (e.made w)) a.talk b.talk d.talk (p.asked (mid q.takes.stays q.spoke honest n w at) n w at)
+        (q.asked honest n (e.made w) (begun q.takes.stays q.spoke honest n w at)));
   }
 
   pub step_err : {C : Type 0} → (h : Effect G C) (s : StoreFault) → Steps G f b d (Err s) → ((w : HeldOf G) → e.told w x → h.safe w → f.safe (e.made w))
-      → Steps {A = C} G h a d (Err s)
-  step_err h s q so = record {
+      → (SaidAll G d.talk → (w : HeldOf G) → e.told w x → AreFirst (e.asks w ++ f.asks (e.made w)) (h.asks w)) → Steps {A = C} G h a d (Err s)
+  step_err h s q so first = record {
     takes = record {
       stays = stays_then a.tables b.tables d.tables p.takes.stays p.takes.within q.takes.stays;
       within = tt;
@@ -99,23 +102,28 @@ module _ {A B : Type 0} (G : Guest) (e : Effect G A) (f : Effect G B) (a b d : S
     fault = λ honest n w at safe.
         q.fault honest n (e.made w) (begun q.takes.stays q.spoke honest n w at) (so w (known q.takes.stays q.spoke honest n w at) safe);
     plain = λ honest n w at. q.plain honest n (e.made w) (begun q.takes.stays q.spoke honest n w at);
+    asked = λ honest n w at.
+        until_then (e.asks w) (f.asks (e.made w)) (h.asks w) a.talk b.talk d.talk (p.asked (mid q.takes.stays q.spoke honest n w at) n w at)
+        (q.asked honest n (e.made w) (begun q.takes.stays q.spoke honest n w at)) (first honest.1 w (known q.takes.stays q.spoke honest n w at));
   }
 
 -- a step that failed, of another value
 pub step_fails : {A C : Type 0} → (G : Guest) (e : Effect G A) (h : Effect G C) (a b : StoreState) (s : StoreFault) → Steps {A = A} G e a b (Err s)
-    → ((w : HeldOf G) → h.safe w → e.safe w) → Steps {A = C} G h a b (Err s)
-step_fails G e h a b s p so = record {
+    → ((w : HeldOf G) → h.safe w → e.safe w) → (SaidAll G b.talk → (w : HeldOf G) → AreFirst (e.asks w) (h.asks w)) → Steps {A = C} G h a b (Err s)
+step_fails G e h a b s p so first = record {
   takes = record { stays = p.takes.stays; within = tt; turns = tt };
   spoke = p.spoke;
   value = tt;
   fault = λ honest n w at safe. p.fault honest n w at (so w safe);
   plain = p.plain;
+  asked = λ honest n w at. until_then [] (e.asks w) (h.asks w) a.talk a.talk b.talk refl (p.asked honest n w at) (first honest.1 w);
 }
 
 -- a step that succeeded, in other words
 pub step_as : {A C : Type 0} → (G : Guest) (e : Effect G A) (h : Effect G C) (a b : StoreState) (x : A) (z : C) → Steps G e a b (Ok x)
-    → (SaidAll G b.talk → (w : HeldOf G) → e.told w x → (e.made w ≡ h.made w) × h.told w z) → Steps G h a b (Ok z)
-step_as G e h a b x z p so = record {
+    → (SaidAll G b.talk → (w : HeldOf G) → e.told w x → (e.made w ≡ h.made w) × h.told w z)
+    → (SaidAll G b.talk → (w : HeldOf G) → e.told w x → e.asks w ≡ h.asks w) → Steps G h a b (Ok z)
+step_as G e h a b x z p so same = record {
   takes = record {
     stays = p.takes.stays;
     within = p.takes.within;
@@ -127,13 +135,15 @@ step_as G e h a b x z p so = record {
   value = λ honest n w at. (so honest.1 w (p.value honest n w at)).1;
   fault = tt;
   plain = tt;
+  asked = λ honest n w at. subst (λ (l : List Asking). AreAsked l a.talk b.talk) (same honest.1 w (p.value honest n w at)) (p.asked honest n w at);
 }
 
 -- ---- no step
 
 -- a value that is known without one
-pub step_none : {A : Type 0} → (G : Guest) (e : Effect G A) (a : StoreState) (x : A) → (SaidAll G a.talk → (y : HeldOf G) → AreRecords y.kept → (e.made y ≡ y) × e.told y x) → Steps G e a a (Ok x)
-step_none G e a x so = record {
+pub step_none : {A : Type 0} → (G : Guest) (e : Effect G A) (a : StoreState) (x : A)
+    → (SaidAll G a.talk → (y : HeldOf G) → AreRecords y.kept → (e.made y ≡ y) × e.told y x) → ((y : HeldOf G) → e.asks y ≡ []) → Steps G e a a (Ok x)
+step_none G e a x so none = record {
   takes = record {
     stays = (looked_still a.tables).stays;
     within = λ clean inside. inside;
@@ -143,6 +153,7 @@ step_none G e a x so = record {
   value = λ honest n y at. (so honest.1 y at.holds.records).1;
   fault = tt;
   plain = tt;
+  asked = λ honest n y at. subst (λ (l : List Asking). AreAsked l a.talk a.talk) (sym (none y)) refl;
 }
 
 -- a fault that says nothing of the store
@@ -153,6 +164,7 @@ step_stops G e a s safe plain = record {
   value = tt;
   fault = λ honest n y at is. safe;
   plain = λ honest n y at. plain;
+  asked = λ honest n y at. still (e.asks y) a.talk;
 }
 
 -- ---- steps of the tables alone
@@ -162,8 +174,9 @@ held_inside G n y s at = record { is_open = at.is_open; in_transaction = at.in_t
 
 pub table_ok : {A E : Type 0} → (G : Guest) (h : GuestHolding → GuestHolding) (e : Effect G A) (a b : State) (t : TalkState) (x : A)
     → Takes {E = E} HeldFor (λ y. HeldFor (h y)) a b (Ok x) → ((n : ℕ) (y : HeldOf G) → h (held_as G n y) ≡ held_as G n (e.made y))
-    → ((y : HeldOf G) → AreRecords y.kept → AreRecords (e.made y).kept) → ((y : HeldOf G) → e.told y x) → Steps G e (with_talk a t) (with_talk b t) (Ok x)
-table_ok G h e a b t x p same records told = record {
+    → ((y : HeldOf G) → AreRecords y.kept → AreRecords (e.made y).kept) → ((y : HeldOf G) → e.told y x) → ((y : HeldOf G) → e.asks y ≡ [])
+    → Steps G e (with_talk a t) (with_talk b t) (Ok x)
+table_ok G h e a b t x p same records told none = record {
   takes = record {
     stays = p.stays;
     within = p.within;
@@ -182,6 +195,7 @@ table_ok G h e a b t x p same records told = record {
   value = λ honest n y at. told y;
   fault = tt;
   plain = tt;
+  asked = λ honest n y at. subst (λ (l : List Asking). AreAsked l t t) (sym (none y)) refl;
 }
 
 -- a call that failed, whatever it was to make
@@ -193,4 +207,5 @@ table_err G e a b t s keeps safe plain = record {
   value = tt;
   fault = λ honest n y at is. safe;
   plain = λ honest n y at. plain;
+  asked = λ honest n y at. still (e.asks y) t;
 }

@@ -29,6 +29,7 @@ use Rattle.guest_store.specs.StoreState.{HeldOf, StoreState, IsHonest, IsPlain, 
 use Rattle.guest_store.specs.Group.{with_new_lot, with_record}
 use Rattle.guest_store.specs.inner.Lotting.{lotting, lotting_next}
 use Rattle.guest_store.specs.inner.Stepping.{Effect, Steps, making, with_talk}
+use Rattle.guest_store.proofs.Asked.{still}
 use Rattle.guest_store.proofs.Stepping.{held_inside, spoke_none, table_ok, table_err}
 use Rattle.guest_store.proofs.MetaRows.{MetaValues, rows_of, meta_is, meta_next}
 
@@ -236,6 +237,7 @@ look_err G e a b t s keeps plain outside = record {
   value = tt;
   fault = λ honest n y at is. outside_nothing s (outside honest.0 (held_as G n y) (held_inside G n y a at));
   plain = λ honest n y at. plain_of s plain;
+  asked = λ honest n y at. still (e.asks y) t;
 }
 
 -- a look, and what it found
@@ -255,13 +257,14 @@ pub look_ok : {A : Type 0} → (G : Guest) (told : HeldOf G → A → Type 0) (a
 look_ok {A} G told a b t x p is =
     let all : Steps G (making G (λ y. y) (λ (y : HeldOf G) (z : A). ⊤)) (with_talk a t) (with_talk b t) (Ok x) =
     table_ok G (λ y. y) (making G (λ y. y) (λ (y : HeldOf G) (z : A). ⊤)) a b t x (looked_held {E = StoreFault} a b x p) (λ n y. refl) (λ y right. right)
-    (λ y. tt) in
+    (λ y. tt) (λ y. refl) in
     record {
       takes = all.takes;
       spoke = all.spoke;
       value = λ honest n y at. is honest n y (held_inside G n y a at);
       fault = tt;
       plain = tt;
+      asked = λ honest n y at. refl;
     }
 
 -- ---- a lot that is allocated
@@ -301,13 +304,14 @@ pub lot_step : {X : Type 0} → (G : Guest) (lot : ℕ) (a b d : State) (t : Tal
 lot_step G lot a b d t x low looked value p =
     let e : Effect G ℕ = making G (λ y. with_new_lot y) (λ y n. ⊤) in
     let all : Steps G e (with_talk a t) (with_talk d t) (Ok lot) =
-    table_ok G with_next_lot e a d t lot (lot_stored lot a b d x lot low looked value p) (λ n y. refl) (λ y right. right) (λ y. tt) in
+    table_ok G with_next_lot e a d t lot (lot_stored lot a b d x lot low looked value p) (λ n y. refl) (λ y right. right) (λ y. tt) (λ y. refl) in
     record {
       takes = all.takes;
       spoke = all.spoke;
       value = λ honest n y at. value (earlier b d _ p.stays.survives honest.0) (held_as G n y) (held_inside G n y a at);
       fault = tt;
       plain = tt;
+      asked = λ honest n y at. refl;
     }
 
 -- no number is left
@@ -320,17 +324,19 @@ lots_end G lot a b t high looked value = record {
   value = tt;
   fault = λ honest n y at low. absurd (let same = value honest.0 (held_as G n y) (held_inside G n y a at) in omega (arith, same, low, high));
   plain = λ honest n y at. tt;
+  asked = λ honest n y at. still [] t;
 }
 
 -- where this opening had none
 pub lot_none : (G : Guest) (a b : StoreState) (r : Result ℕ StoreFault) → Steps G (lotting_next G) a b r → Steps G (lotting G None) a b r
-lot_none G a b (Ok n) p = record { takes = p.takes; spoke = p.spoke; value = p.value; fault = tt; plain = tt }
+lot_none G a b (Ok n) p = record { takes = p.takes; spoke = p.spoke; value = p.value; fault = tt; plain = tt; asked = p.asked }
 lot_none G a b (Err s) p = record {
   takes = record { stays = p.takes.stays; within = tt; turns = tt };
   spoke = p.spoke;
   value = tt;
   fault = λ honest n y at left. p.fault honest n y at (left refl);
   plain = p.plain;
+  asked = p.asked;
 }
 
 -- ---- other steps, as their functions return them
@@ -340,7 +346,7 @@ pub record_step : {E X : Type 0} → (G : Guest) (k : Kept) (a b : State) (t : T
 record_step G k a b t x is p =
     table_ok G (recorded k) (making G (λ y. with_record k.id k.lot k.said y) (λ y r. ⊤)) a b t x
     (made_held (put_kept k) (recorded k) a b (Ok x) (λ c fit. (records k c is fit, refl)) p) (λ n y. refl) (λ y right. records_kept k y.kept is right)
-    (λ y. tt)
+    (λ y. tt) (λ y. refl)
 
 -- ---- the settings are agreed on
 
@@ -361,7 +367,7 @@ settings_step {E} {X} G s pledged a b t x p =
             holds = (with_settings s pledged c, now.holds.holds, now.holds.fit, settings_agreed s pledged c fit ∙ ap (with_agreed s pledged) is);
           };
     })
-    (λ n y. refl) (λ y right. right) (λ y. tt)
+    (λ n y. refl) (λ y right. right) (λ y. tt) (λ y. refl)
 
 -- a look for a record that failed
 pub found_err : {A : Type 0} → (G : Guest) (e : Effect G A) (a b : State) (t : TalkState) (id : ℕ) (s : StoreFault) → Stays a b → IsOfTables s
@@ -373,4 +379,5 @@ found_err G e a b t id s keeps plain outside = record {
   value = tt;
   fault = λ honest n y at is. outside_nothing s (outside honest.0 (held_as G n y) (held_inside G n y a at) (found_fits id y.kept at.holds.records));
   plain = λ honest n y at. plain_of s plain;
+  asked = λ honest n y at. still (e.asks y) t;
 }

@@ -1,5 +1,5 @@
 -- A transaction of a guest's store, of its steps.
-use Rattle.std.proofs.Common.{◌≡◌, ℕ, Result, Ok, Err, inl, inr, refl, sym, subst, ◌∙◌}
+use Rattle.std.proofs.Common.{◌≡◌, ℕ, List, Result, Ok, Err, inl, inr, refl, sym, subst, ◌∙◌}
 use Rattle.sqlite.specs.State.{State, HasCleanDisk, KeepsCommit}
 use Rattle.sqlite.specs.declared.error.Error.{Error}
 use Rattle.sqlite.proofs.StateLemmas.{survives_then, survives_weaker}
@@ -13,9 +13,11 @@ use Rattle.fuse_store_tables.specs.inner.Following.{earlier}
 use Rattle.fuse_store_tables.specs.inner.Transaction.{failed_first, failed_inside, failed_commit, committed, open_first, open_inside, open_failed, open_committed, served, undone, open_undone}
 use Rattle.guest_talk.specs.TalkState.{TalkState}
 use Rattle.guest_store.specs.StoreState.{HeldOf, SaidAll, StoreState, IsHonest, IsAtRest, ServesStore, StoredFor}
+use Rattle.guest_store.specs.Asks.{Asking, AreAsked, AreAskedUntil}
 use Rattle.guest_store.specs.inner.Showing.{same_survives}
 use Rattle.guest_store.specs.inner.Stepping.{StoredAs, Inside, Effect, Steps, with_talk}
 use Rattle.guest_store.specs.inner.Transacting.{Transacts, Serves}
+use Rattle.guest_store.proofs.Asked.{asked_all, still}
 use Rattle.guest_store.proofs.Serving.{Settled, LeavesMade, left_now}
 use Rattle.guest_store.proofs.Stepping.{spoke_none, said_before}
 use Rattle.guest_store.proofs.Tables.{outside_of, outside_nothing, outside_plain}
@@ -33,6 +35,7 @@ module _ {A : Type 0} (G : Guest) (e : Effect G A) where
     keeps = λ clean. p.kept clean;
     ended = tt;
     plain = λ honest n y at. outside_plain s (outside_of error s is);
+    asked = λ honest n y at. still (e.asks y) t;
   }
 
   module _ {U : Type 0} (u : U) (a b : State) (t : TalkState) (p : Begins {E = Error} a b (Ok u)) where
@@ -57,6 +60,7 @@ module _ {A : Type 0} (G : Guest) (e : Effect G A) where
       keeps = λ clean. kept d.tables q.takes.stays clean;
       ended = tt;
       plain = λ honest n y at. q.plain honest n y (begun (earlier b d.tables _ q.takes.stays.survives honest.0) n y at);
+      asked = λ honest n y at. q.asked honest n y (begun (earlier b d.tables _ q.takes.stays.survives honest.0) n y at);
     }
 
     module _ (d : StoreState) (x : A) (q : Steps G e (with_talk b t) d (Ok x)) (last : State) where
@@ -75,6 +79,9 @@ module _ {A : Type 0} (G : Guest) (e : Effect G A) where
         keeps = λ clean. keeps_then a d.tables last (kept d.tables q.takes.stays (earlier d.tables last _ z.survives clean)) (z.kept clean);
         ended = tt;
         plain = λ honest n y at. outside_plain s (outside_of error s is);
+        asked = λ honest n y at.
+            let clean = earlier d.tables last _ z.survives honest.0 in
+            asked_all (e.asks y) t d.talk (q.asked (clean, honest.1) n y (begun (clean_before clean) n y at));
       }
 
       pub transact_done : {V : Type 0} (v : V) → Ends {E = Error} d.tables last (Ok v) → Transacts G e (with_talk a t) (with_talk last d.talk) (Ok x)
@@ -89,6 +96,9 @@ module _ {A : Type 0} (G : Guest) (e : Effect G A) where
         keeps = tt;
         ended = λ clean. (z.ended clean).1;
         plain = tt;
+        asked = λ honest n y at.
+            let clean = earlier d.tables last _ z.survives honest.0 in
+            q.asked (clean, honest.1) n y (begun (clean_before clean) n y at);
       }
 
   -- nothing was asked
@@ -106,6 +116,7 @@ module _ {A : Type 0} (G : Guest) (e : Effect G A) where
     keeps = λ clean. record { was_open = λ is_open. is_open; committed = λ is_open. refl };
     ended = tt;
     plain = λ honest n y at. tt;
+    asked = λ honest n y at. still (e.asks y) a.talk;
   }
 
   -- ---- with the rollback after a fault
@@ -118,6 +129,7 @@ module _ {A : Type 0} (G : Guest) (e : Effect G A) where
     fault = tt;
     open_still = p.open_still;
     plain = tt;
+    asked = p.asked;
   }
 
   pub serve_undone : (a b : StoreState) (d : State) (s : StoreFault) → Transacts {A = A} G e a b (Err s) → Undoes b.tables d
@@ -129,6 +141,7 @@ module _ {A : Type 0} (G : Guest) (e : Effect G A) where
     fault = λ honest. p.fault (earlier b.tables d _ u.survives honest.0, honest.1);
     open_still = open_undone a.tables b.tables d s s p.open_still u;
     plain = λ honest. p.plain (earlier b.tables d _ u.survives honest.0, honest.1);
+    asked = λ honest. p.asked (earlier b.tables d _ u.survives honest.0, honest.1);
   }
 
   -- ---- as a call of the store
@@ -164,7 +177,7 @@ module _ {A : Type 0} (G : Guest) (e : Effect G A) where
 -- ---- what is seen in a transaction that is rolled back
 
 module _ {A : Type 0} (G : Guest) (e : Effect G A) (h : Effect G A) {U : Type 0} (u : U) (a b : State) (t : TalkState) (p : Begins {E = Error} a b (Ok u)) (d : StoreState) (x : A)
-    (q : Steps G e (with_talk b t) d (Ok x)) (last : State) where
+    (q : Steps G e (with_talk b t) d (Ok x)) (last : State) (alike : (y : HeldOf G) → e.asks y ≡ h.asks y) where
   nothing : CommitsNothing a d.tables
   nothing = record {
     survives = survives_then a b d.tables _ _ _ (λ _ db none. none)
@@ -190,6 +203,10 @@ module _ {A : Type 0} (G : Guest) (e : Effect G A) (h : Effect G A) {U : Type 0}
       keeps = λ clean. whole.kept clean;
       ended = tt;
       plain = λ honest n y at. outside_plain s (outside_of error s is);
+      asked = λ honest n y at.
+          let mid = earlier d.tables last _ more.survives honest.0 in
+          let inside = begun G e u a b t p (earlier b d.tables _ q.takes.stays.survives mid) n y at in
+          subst (λ (l : List Asking). AreAskedUntil l t d.talk) (alike y) (asked_all (e.asks y) t d.talk (q.asked (mid, honest.1) n y inside));
     }
 
   pub back_done : {V : Type 0} (v : V) → GoesBack {E = Error} d.tables last (Ok v)
@@ -222,4 +239,8 @@ module _ {A : Type 0} (G : Guest) (e : Effect G A) (h : Effect G A) {U : Type 0}
     keeps = tt;
     ended = λ clean. (z.back clean).1;
     plain = tt;
+    asked = λ honest n y at.
+        let mid = earlier d.tables last _ z.commits.survives honest.0 in
+        let inside = begun G e u a b t p (earlier b d.tables _ q.takes.stays.survives mid) n y at in
+        subst (λ (l : List Asking). AreAsked l t d.talk) (alike y) (q.asked (mid, honest.1) n y inside);
   }

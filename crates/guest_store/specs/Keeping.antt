@@ -7,6 +7,7 @@ use Rattle.fuse_guest.specs.Talk.{Guest}
 use Rattle.fuse_guest.specs.GuestModel.{guest_model}
 use Rattle.guest_talk.specs.TalkState.{TalkState, talk_told}
 use Rattle.guest_store.specs.declared.store.Broken.{Broken}
+use Rattle.guest_store.specs.declared.store.Deaths.{Deaths}
 use Rattle.guest_store.specs.declared.store.GuestStore.{GuestStore}
 use Rattle.guest_store.specs.declared.keeper.GuestKeeper.{GuestKeeper}
 use Rattle.guest_store.specs.StoreState.{StoreState}
@@ -26,6 +27,10 @@ conn_of k = k.store.pairs.conn
 -- the request at which the guest failed
 abbrev pub broken_of : {G S R W : Type 0} → GuestKeeper G S R W → Option Broken
 broken_of k = k.store.broken
+
+-- the request that ended guests before, by what it was told
+abbrev pub deaths_of : {G S R W : Type 0} → GuestKeeper G S R W → Option Deaths
+deaths_of k = k.deaths
 
 -- what passed its pipes
 abbrev pub talk_of : {G S R W : Type 0} → (R → Option (List ℕ)) → (W → Option (List ℕ)) → GuestKeeper G S R W → TalkState

@@ -5,6 +5,7 @@ pub mod Performing
 pub mod Mounting
 pub mod StoreState
 pub mod TableState
+pub mod Asks
 pub mod Keeping
 pub mod Starts
 pub mod inner

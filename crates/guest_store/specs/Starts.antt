@@ -10,6 +10,7 @@ use Rattle.fuse_guest.specs.GuestModel.{guest_model, new_guest_store}
 use Rattle.fuse_store_tables.specs.Layout.{no_schema}
 use Rattle.fuse_store_tables.specs.Content.{LeftAs}
 use Rattle.guest_tables.specs.Saying.{Says}
+use Rattle.guest_talk.specs.declared.fault.GreetFault.{GreetFault}
 use Rattle.guest_store.specs.declared.starting.StartFault.{StartFault}
 use Rattle.guest_store.specs.declared.starting.StartFault.TheVariants.{Store, Guest as NotGreeted}
 use Rattle.guest_store.specs.Mounting.{begun}
@@ -51,3 +52,8 @@ WhereStore P (NotGreeted f) = ⊤
 abbrev pub WhereNotGreeted : Type 0 → StartFault → Type 0
 WhereNotGreeted P (Store f) = ⊤
 WhereNotGreeted P (NotGreeted f) = P
+
+-- of why it wasn't
+abbrev pub OfGreeting : (GreetFault → Type 0) → StartFault → Type 0
+OfGreeting P (Store f) = ⊤
+OfGreeting P (NotGreeted f) = P f

@@ -7,7 +7,7 @@ ghost use Rattle.guest_store.specs.inner.Stepping.{Steps};
 
 use crate::deciding::{Decision, decide};
 use crate::replies::{init_answer, initiate, reply};
-use crate::store::GuestStore;
+use crate::store::{Deaths, GuestStore};
 use fuse_answer::Answer;
 use fuse_guest::Guested;
 use fuse_keeper::StoreFault;
@@ -38,11 +38,12 @@ fn plan<G: Guested, S: Alter + Drop, R: Read + Drop, W: Write + Drop>(
 fn carry_out<G: Guested, S: Alter + Drop, R: Read + Drop, W: Write + Drop>(
     alloc: Global,
     store: &mut GuestStore<S, R, W>,
+    deaths: Option<Deaths>,
     request: &Request<'_>,
     now: Moment,
     decision: Decision,
 ) -> Result<Answer, StoreFault>
-    ensures { Steps G.GUEST (carrying G.GUEST (asked request.now) now decision)
+    ensures { Steps G.GUEST (carrying G.GUEST deaths (asked request.now) now decision)
         (store_of S.Store R.remaining W.contents store.old)
         (store_of S.Store R.remaining W.contents store.new) result }
 {
@@ -50,9 +51,9 @@ fn carry_out<G: Guested, S: Alter + Drop, R: Read + Drop, W: Write + Drop>(
         Decision::Refuse(errno) => Ok(Answer::refusal(alloc, errno)),
         Decision::Nothing => Ok(Answer::success(ByteList::from_vec(Vec::new(alloc)))),
         Decision::Again(out) => Ok(init_answer(alloc, &out)?),
-        Decision::Ask => reply::<G, S, R, W>(alloc, store, request, now),
+        Decision::Ask => reply::<G, S, R, W>(alloc, store, deaths, request, now),
         Decision::Negotiate { out, settings } => {
-            initiate::<G, S, R, W>(alloc, store, request, now, out, settings)
+            initiate::<G, S, R, W>(alloc, store, deaths, request, now, out, settings)
         }
     }
 }
@@ -61,15 +62,16 @@ fn carry_out<G: Guested, S: Alter + Drop, R: Read + Drop, W: Write + Drop>(
 pub(crate) fn do_request<G: Guested, S: Alter + Drop, R: Read + Drop, W: Write + Drop>(
     alloc: Global,
     store: &mut GuestStore<S, R, W>,
+    deaths: Option<Deaths>,
     request: &Request<'_>,
     now: Moment,
 ) -> Result<Answer, StoreFault>
-    ensures { Steps G.GUEST (acting G.GUEST (entry_of (request.now, now)))
+    ensures { Steps G.GUEST (acting G.GUEST deaths (entry_of (request.now, now)))
         (store_of S.Store R.remaining W.contents store.old)
         (store_of S.Store R.remaining W.contents store.new) result }
 {
     match plan::<G, S, R, W>(store, &request.op) {
-        Ok(decision) => carry_out::<G, S, R, W>(alloc, store, request, now, decision),
+        Ok(decision) => carry_out::<G, S, R, W>(alloc, store, deaths, request, now, decision),
         Err(fault) => Err(fault),
     }
 }

@@ -1,6 +1,7 @@
 // What a guest is asked, and what came of it.
 ghost use Rattle.std.specs.Prelude.{◌≡◌};
 ghost use Rattle.fuse_request.specs.Act.{asked};
+ghost use Rattle.guest_store.specs.Asks.{deaths_before};
 ghost use Rattle.guest_store.specs.Keeping.{store_of};
 ghost use Rattle.guest_store.specs.inner.Acting.{ask_fault, asking};
 ghost use Rattle.guest_store.specs.inner.Stepping.{Steps};
@@ -28,7 +29,9 @@ pub(crate) enum Reply {
 }
 
 // How many guests in a row this request ended.
-fn deaths_of(deaths: Option<Deaths>, id: u64) -> u32 {
+fn deaths_of(deaths: Option<Deaths>, id: u64) -> u32
+    ensures { result ≡ deaths_before deaths id }
+{
     match deaths {
         Some(deaths) if deaths.id == id => deaths.count,
         _ => 0,
@@ -62,16 +65,17 @@ fn end_by<S: Alter, R, W>(
 pub(crate) fn ask<G: Guested, S: Alter + Drop, R: Read + Drop, W: Write + Drop>(
     alloc: Global,
     store: &mut GuestStore<S, R, W>,
+    deaths: Option<Deaths>,
     request: &Request<'_>,
     now: Moment,
 ) -> Result<Reply, StoreFault>
-    ensures { Steps G.GUEST (asking G.GUEST (asked request.now) now)
+    ensures { Steps G.GUEST (asking G.GUEST deaths (asked request.now) now)
         (store_of S.Store R.remaining W.contents store.old)
         (store_of S.Store R.remaining W.contents store.new) result }
 {
     pair_steps_fit();
     let id = Id::of(request.header.unique).0;
-    let count = deaths_of(store.deaths, id);
+    let count = deaths_of(deaths, id);
     if count >= MOST_DEATHS {
         return match store.talk.give_up(request, now, count) {
             Ok(()) => Ok(Reply::GivenUp),

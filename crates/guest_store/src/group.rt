@@ -10,7 +10,7 @@ ghost use Rattle.guest_store.specs.inner.Transacting.{grouping, transacting};
 use crate::lots::take_lot;
 use crate::request::take_one;
 use crate::settled_ids::settle;
-use crate::store::GuestStore;
+use crate::store::{Deaths, GuestStore};
 use fuse_guest::Guested;
 use fuse_keeper::{Done, StoreFault};
 use fuse_request::Request;
@@ -30,6 +30,7 @@ pub(crate) struct Transacted {
 pub(crate) fn take_all<G: Guested, S: Alter + Drop, R: Read + Drop, W: Write + Drop>(
     alloc: Global,
     store: &mut GuestStore<S, R, W>,
+    deaths: Option<Deaths>,
     lot: u64,
     group: &[(Request<'_>, Moment)],
 ) -> Result<Transacted, StoreFault>
@@ -39,7 +40,7 @@ pub(crate) fn take_all<G: Guested, S: Alter + Drop, R: Read + Drop, W: Write + D
         (entries_of group.now) }
     ensures count { IfOk result (λ p. length p.dones.items ≡ length group.now) }
     ensures lot { IfOk result (λ p. p.lot ≡ lot) }
-    ensures steps { Steps G.GUEST (grouping G.GUEST lot (entries_of group.now))
+    ensures steps { Steps G.GUEST (grouping G.GUEST deaths lot (entries_of group.now))
         (store_of S.Store R.remaining W.contents store.old)
         (store_of S.Store R.remaining W.contents store.new) result }
     ensures silent { IfOk result (λ p. AllAgain p.dones.items
@@ -48,7 +49,7 @@ pub(crate) fn take_all<G: Guested, S: Alter + Drop, R: Read + Drop, W: Write + D
 {
     let mut dones = Vec::new(alloc);
     for one in group {
-        let done = match take_one::<G, S, R, W>(alloc, store, lot, &one.0, one.1) {
+        let done = match take_one::<G, S, R, W>(alloc, store, deaths, lot, &one.0, one.1) {
             Ok(done) => done,
             Err(fault) => return Err(fault),
         };
@@ -62,6 +63,7 @@ pub(crate) fn take_all<G: Guested, S: Alter + Drop, R: Read + Drop, W: Write + D
 pub(crate) fn perform_in<G: Guested, S: Alter + Drop, R: Read + Drop, W: Write + Drop>(
     alloc: Global,
     store: &mut GuestStore<S, R, W>,
+    deaths: Option<Deaths>,
     lot: Option<u64>,
     group: &[(Request<'_>, Moment)],
     settled: &[Id],
@@ -73,7 +75,7 @@ pub(crate) fn perform_in<G: Guested, S: Alter + Drop, R: Read + Drop, W: Write +
     ensures count { IfOk result (λ p. length p.dones.items ≡ length group.now) }
     ensures low { IfOk result (λ p. p.lot < 2 ^ 62) }
     ensures steps { Steps G.GUEST
-        (transacting G.GUEST lot (ids_of settled.now) (entries_of group.now))
+        (transacting G.GUEST deaths lot (ids_of settled.now) (entries_of group.now))
         (store_of S.Store R.remaining W.contents store.old)
         (store_of S.Store R.remaining W.contents store.new) result }
     ensures silent { IfOk result (λ p. AllAgain p.dones.items
@@ -88,5 +90,5 @@ pub(crate) fn perform_in<G: Guested, S: Alter + Drop, R: Read + Drop, W: Write +
         Ok(lot) => lot,
         Err(fault) => return Err(fault),
     };
-    take_all::<G, S, R, W>(alloc, store, lot, group)
+    take_all::<G, S, R, W>(alloc, store, deaths, lot, group)
 }

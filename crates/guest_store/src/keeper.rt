@@ -1,7 +1,7 @@
 // The keeper of a guest.
 use crate::laws::guest_calls_perform;
 use crate::reads::{answer_at_rest, begin_mount, counts_at_rest, settings_at_rest};
-use crate::store::GuestStore;
+use crate::store::{Deaths, GuestStore};
 use crate::taken_lot::TakenLot;
 use crate::transaction::perform;
 use fuse_answer::Answer;
@@ -25,6 +25,7 @@ use std::marker::PhantomData;
 pub struct GuestKeeper<G, S: Alter, R, W> {
     pub(crate) alloc: Global,
     pub(crate) store: GuestStore<S, R, W>,
+    pub(crate) deaths: Option<Deaths>,
     pub(crate) lot: TakenLot,
     pub(crate) failed: bool,
     pub(crate) of: PhantomData<G>,
@@ -44,10 +45,11 @@ impl<G: Guested, S: Alter + Drop, R: Read + Drop, W: Write + Drop> Keeper
     ghost use Rattle.fuse_guest.specs.GuestModel.{guest_model};
     ghost use Rattle.fuse_guest.specs.Service.{service_of};
     ghost use Rattle.guest_store.specs.Group.{performed};
-    ghost use Rattle.guest_store.specs.Keeping.{keeper_told, store_at};
+    ghost use Rattle.guest_store.specs.Asks.{AskedBy, all_asks};
+    ghost use Rattle.guest_store.specs.Keeping.{deaths_of, keeper_told, store_at};
     ghost use Rattle.guest_store.specs.Mounting.{begun};
     ghost use Rattle.guest_store.specs.Repeats.{AllAgain};
-    ghost use Rattle.guest_store.specs.StoreState.{EndsWhole, IsSafeStore, ServesStore};
+    ghost use Rattle.guest_store.specs.StoreState.{EndsWhole, IsSafeStore, ReportsStore, ServesStore};
     ghost use Rattle.guest_store.specs.inner.Laws.{one_held};
 
     ghost model = { guest_model G.GUEST };
@@ -128,6 +130,17 @@ impl<G: Guested, S: Alter + Drop, R: Read + Drop, W: Write + Drop> Keeper
             (ids_of settled.now) (entries_of group.now))
             (store_at S.Store R.remaining W.contents self.old)
             (store_at S.Store R.remaining W.contents self.new) result }
+        // The guest is asked each request of the group that is to be asked, in their order, and
+        // nothing else: not one that has a record, isn't served, is malformed or comes before INIT,
+        // and not one that ended three guests. It is shown the pairs as they stand before it.
+        ensures asks { ReportsStore G.GUEST (store_at S.Store R.remaining W.contents self.old)
+            (store_at S.Store R.remaining W.contents self.new) (λ y. AskedBy result
+            (all_asks G.GUEST (deaths_of self.old)
+            (keeper_told G.GUEST S.Store R.remaining W.contents self.old).lots.current
+            (ids_of settled.now) (entries_of group.now) y)
+            (store_at S.Store R.remaining W.contents self.old).talk
+            (store_at S.Store R.remaining W.contents self.new).talk) }
+        ensures deaths { deaths_of self.new ≡ deaths_of self.old }
         // Where all was answered from records, the guest wasn't asked.
         ensures silent { IfOk result (λ dones. AllAgain dones.items
             → (store_at S.Store R.remaining W.contents self.new).talk.events
@@ -150,6 +163,7 @@ impl<G: Guested, S: Alter + Drop, R: Read + Drop, W: Write + Drop> Keeper
         match perform::<G, S, R, W>(
             self.alloc,
             &mut self.store,
+            self.deaths,
             lot,
             self.failed,
             group,
@@ -188,6 +202,10 @@ impl<G: Guested, S: Alter + Drop, R: Read + Drop, W: Write + Drop> Keeper
             → IsFirm (keeper_told G.GUEST S.Store R.remaining W.contents self.new)) }
         // The fault is that of a statement.
         ensures fault { IfErr result IsOutside }
+        // The guest is asked nothing.
+        ensures talk { (store_at S.Store R.remaining W.contents self.new).talk
+            ≡ (store_at S.Store R.remaining W.contents self.old).talk }
+        ensures deaths { deaths_of self.new ≡ deaths_of self.old }
         // The next lot has the number that it had.
         ensures held { ServesStore G.GUEST (λ y. begun y)
             (store_at S.Store R.remaining W.contents self.old)

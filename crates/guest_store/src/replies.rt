@@ -1,5 +1,5 @@
 // What a guest answers, done.
-ghost use Rattle.std.specs.Prelude.{◌≡◌, IfOk};
+ghost use Rattle.std.specs.Prelude.{◌≡◌, [], ◌∷◌, IfOk};
 ghost use Rattle.sqlite.specs.Held.{state};
 ghost use Rattle.fuse_answer.specs.Bodies.{init_bytes};
 ghost use Rattle.fuse_request.specs.Act.{asked};
@@ -7,15 +7,16 @@ ghost use Rattle.fuse_guest.specs.Talk.{talk_end};
 ghost use Rattle.fuse_guest.specs.GuestModel.{init_reply, reply_of};
 ghost use Rattle.guest_talk.specs.Answered.{said_by};
 ghost use Rattle.guest_talk.specs.TalkState.{TalkState};
+ghost use Rattle.guest_store.specs.Asks.{asking_of};
 ghost use Rattle.guest_store.specs.Keeping.{store_of};
-ghost use Rattle.guest_store.specs.inner.Acting.{answering, carrying, doing, replying};
+ghost use Rattle.guest_store.specs.inner.Acting.{answering, carrying, doing_by, replying};
 ghost use Rattle.guest_store.specs.inner.Stepping.{Steps, with_talk};
 
 use crate::asking::{Reply, ask};
 use crate::deciding::Decision;
 use crate::pair_changes::make_changes;
 use crate::served_bits::served_bits;
-use crate::store::GuestStore;
+use crate::store::{Deaths, GuestStore};
 use fuse_answer::{Answer, InitOut};
 use fuse_guest::Guested;
 use fuse_init::Settings;
@@ -56,14 +57,15 @@ fn take_answer<G: Guested, S: Alter>(
 pub(crate) fn reply<G: Guested, S: Alter + Drop, R: Read + Drop, W: Write + Drop>(
     alloc: Global,
     store: &mut GuestStore<S, R, W>,
+    deaths: Option<Deaths>,
     request: &Request<'_>,
     now: Moment,
 ) -> Result<Answer, StoreFault>
-    ensures { Steps G.GUEST (replying G.GUEST (asked request.now) now)
+    ensures { Steps G.GUEST (replying G.GUEST deaths (asked request.now) now)
         (store_of S.Store R.remaining W.contents store.old)
         (store_of S.Store R.remaining W.contents store.new) result }
 {
-    match ask::<G, S, R, W>(alloc, store, request, now) {
+    match ask::<G, S, R, W>(alloc, store, deaths, request, now) {
         Ok(Reply::Answered(answer)) => {
             take_answer::<G, S>(alloc, &mut store.pairs.conn, &answer)
         }
@@ -84,17 +86,20 @@ pub(crate) fn init_answer(alloc: Global, out: &InitOut) -> Result<Answer, Memory
 pub(crate) fn initiate<G: Guested, S: Alter + Drop, R: Read + Drop, W: Write + Drop>(
     alloc: Global,
     store: &mut GuestStore<S, R, W>,
+    deaths: Option<Deaths>,
     request: &Request<'_>,
     now: Moment,
     out: InitOut,
     settings: Settings,
 ) -> Result<Answer, StoreFault>
-    ensures { Steps G.GUEST (doing G.GUEST (λ s. init_reply G.GUEST.ready (init_bytes out) settings
+    ensures { Steps G.GUEST (doing_by G.GUEST
+        (λ s. asking_of deaths (asked request.now) now s ∷ [])
+        (λ s. init_reply G.GUEST.ready (init_bytes out) settings
         (reply_of s (talk_end G.GUEST s.pairs (asked request.now) now))))
         (store_of S.Store R.remaining W.contents store.old)
         (store_of S.Store R.remaining W.contents store.new) result }
 {
-    let answer = match reply::<G, S, R, W>(alloc, store, request, now) {
+    let answer = match reply::<G, S, R, W>(alloc, store, deaths, request, now) {
         Ok(answer) => answer,
         Err(fault) => return Err(fault),
     };

@@ -12,7 +12,7 @@ ghost use Rattle.guest_store.specs.inner.Acting.{keeping, recording, seeing, tak
 ghost use Rattle.guest_store.specs.inner.Stepping.{Steps, making, with_talk};
 
 use crate::action::do_request;
-use crate::store::GuestStore;
+use crate::store::{Deaths, GuestStore};
 use fuse_answer::Answer;
 use fuse_guest::{Guested, guest_is_sound, is_seen};
 use fuse_keeper::{Done, StoreFault};
@@ -62,17 +62,18 @@ fn record<G: Guested, S: Alter>(
 fn do_and_record<G: Guested, S: Alter + Drop, R: Read + Drop, W: Write + Drop>(
     alloc: Global,
     store: &mut GuestStore<S, R, W>,
+    deaths: Option<Deaths>,
     lot: u64,
     request: &Request<'_>,
     now: Moment,
 ) -> Result<Done, StoreFault>
     requires lot { lot < 2 ^ 62 }
-    ensures steps { Steps G.GUEST (recording G.GUEST lot (entry_of (request.now, now)))
+    ensures steps { Steps G.GUEST (recording G.GUEST deaths lot (entry_of (request.now, now)))
         (store_of S.Store R.remaining W.contents store.old)
         (store_of S.Store R.remaining W.contents store.new) result }
     ensures new { IfOk result (λ done. done.repeated ≡ false) }
 {
-    let answer = match do_request::<G, S, R, W>(alloc, store, request, now) {
+    let answer = match do_request::<G, S, R, W>(alloc, store, deaths, request, now) {
         Ok(answer) => answer,
         Err(fault) => return Err(fault),
     };
@@ -90,15 +91,16 @@ fn do_and_record<G: Guested, S: Alter + Drop, R: Read + Drop, W: Write + Drop>(
 fn see_one<G: Guested, S: Alter + Drop, R: Read + Drop, W: Write + Drop>(
     alloc: Global,
     store: &mut GuestStore<S, R, W>,
+    deaths: Option<Deaths>,
     request: &Request<'_>,
     now: Moment,
 ) -> Result<Done, StoreFault>
-    ensures steps { Steps G.GUEST (seeing G.GUEST (entry_of (request.now, now)))
+    ensures steps { Steps G.GUEST (seeing G.GUEST deaths (entry_of (request.now, now)))
         (store_of S.Store R.remaining W.contents store.old)
         (store_of S.Store R.remaining W.contents store.new) result }
     ensures new { IfOk result (λ done. done.repeated ≡ false) }
 {
-    match do_request::<G, S, R, W>(alloc, store, request, now) {
+    match do_request::<G, S, R, W>(alloc, store, deaths, request, now) {
         Ok(answer) => Ok(Done {
             answer,
             repeated: false,
@@ -111,12 +113,13 @@ fn see_one<G: Guested, S: Alter + Drop, R: Read + Drop, W: Write + Drop>(
 fn keep_one<G: Guested, S: Alter + Drop, R: Read + Drop, W: Write + Drop>(
     alloc: Global,
     store: &mut GuestStore<S, R, W>,
+    deaths: Option<Deaths>,
     lot: u64,
     request: &Request<'_>,
     now: Moment,
 ) -> Result<Done, StoreFault>
     requires lot { lot < 2 ^ 62 }
-    ensures steps { Steps G.GUEST (keeping G.GUEST lot (entry_of (request.now, now)))
+    ensures steps { Steps G.GUEST (keeping G.GUEST deaths lot (entry_of (request.now, now)))
         (store_of S.Store R.remaining W.contents store.old)
         (store_of S.Store R.remaining W.contents store.new) result }
     // What has a record isn't asked.
@@ -130,7 +133,7 @@ fn keep_one<G: Guested, S: Alter + Drop, R: Read + Drop, W: Write + Drop>(
             answer,
             repeated: true,
         }),
-        Ok(None) => do_and_record::<G, S, R, W>(alloc, store, lot, request, now),
+        Ok(None) => do_and_record::<G, S, R, W>(alloc, store, deaths, lot, request, now),
         Err(fault) => Err(fault),
     }
 }
@@ -139,6 +142,7 @@ fn keep_one<G: Guested, S: Alter + Drop, R: Read + Drop, W: Write + Drop>(
 pub(crate) fn take_one<G: Guested, S: Alter + Drop, R: Read + Drop, W: Write + Drop>(
     alloc: Global,
     store: &mut GuestStore<S, R, W>,
+    deaths: Option<Deaths>,
     lot: u64,
     request: &Request<'_>,
     now: Moment,
@@ -147,7 +151,7 @@ pub(crate) fn take_one<G: Guested, S: Alter + Drop, R: Read + Drop, W: Write + D
     requires performed { IsPerformed
         (service_of (store_of S.Store R.remaining W.contents store.old).talk.ready)
         (entry_of (request.now, now)) }
-    ensures steps { Steps G.GUEST (taking G.GUEST lot (entry_of (request.now, now)))
+    ensures steps { Steps G.GUEST (taking G.GUEST deaths lot (entry_of (request.now, now)))
         (store_of S.Store R.remaining W.contents store.old)
         (store_of S.Store R.remaining W.contents store.new) result }
     // What has a record isn't asked.
@@ -158,8 +162,8 @@ pub(crate) fn take_one<G: Guested, S: Alter + Drop, R: Read + Drop, W: Write + D
     guest_is_sound::<G>();
     let ready = store.talk.ready();
     if is_seen(&ready, request.op.opcode()) {
-        see_one::<G, S, R, W>(alloc, store, request, now)
+        see_one::<G, S, R, W>(alloc, store, deaths, request, now)
     } else {
-        keep_one::<G, S, R, W>(alloc, store, lot, request, now)
+        keep_one::<G, S, R, W>(alloc, store, deaths, lot, request, now)
     }
 }

@@ -44,7 +44,7 @@ fn law_of_rest<S: Alter>(conn: &Connection<S>)
 }
 
 impl<G: Guested, S: Alter + Drop, R: Read + Drop, W: Write + Drop> GuestKeeper<G, S, R, W> {
-    ghost use Rattle.std.specs.Prelude.{◌<◌, ◌^◌, ℕ, None, Err, IfOk, IfErr};
+    ghost use Rattle.std.specs.Prelude.{◌<◌, ◌^◌, ℕ, None, Some, Err, IfOk, IfErr};
     ghost use Rattle.sqlite.specs.State.{HasCleanDisk, Survives};
     ghost use Rattle.fuse_keeper.specs.KeeperState.{IsFirm};
     ghost use Rattle.fuse_keeper.specs.Lots.{SameLots};
@@ -54,13 +54,15 @@ impl<G: Guested, S: Alter + Drop, R: Read + Drop, W: Write + Drop> GuestKeeper<G
     ghost use Rattle.guest_tables.specs.Content.{GuestContent};
     ghost use Rattle.guest_tables.specs.Opening.{IsLaid, IsTested};
     ghost use Rattle.guest_tables.specs.Saying.{Says, IsTabled};
-    ghost use Rattle.guest_talk.specs.Greeting.{IsGreeted, hello_for};
+    ghost use Rattle.guest_talk.specs.Greeting.{IsGreeted, IsRefused, hello_for};
     ghost use Rattle.guest_store.specs.Holding.{lots_of, records_of};
-    ghost use Rattle.guest_store.specs.Keeping.{broken_of, conn_of, keeper_told, store_at};
+    ghost use Rattle.guest_store.specs.Keeping.{broken_of, conn_of, deaths_of};
+    ghost use Rattle.guest_store.specs.Keeping.{keeper_told, store_at};
     ghost use Rattle.guest_store.specs.Mounting.{begun};
     ghost use Rattle.guest_store.specs.StoreState.{EndsWhole, HeldOf, IsAtRest};
     ghost use Rattle.guest_store.specs.Starts.{IsBlank, LeavesBegun, LeavesMade, MakesGuest};
-    ghost use Rattle.guest_store.specs.Starts.{SaysOfStore, WhereNotGreeted, WhereStore, new_held};
+    ghost use Rattle.guest_store.specs.Starts.{OfGreeting, SaysOfStore};
+    ghost use Rattle.guest_store.specs.Starts.{WhereNotGreeted, WhereStore, new_held};
 
     /// Greets the guest, and makes a new store with this number in a blank database, in one
     /// transaction. A fault gives the connection back.
@@ -104,6 +106,9 @@ impl<G: Guested, S: Alter + Drop, R: Read + Drop, W: Write + Drop> GuestKeeper<G
             → LeavesAlone (state S.Store conn) (state S.Store r.1)) r.0) }
         // Where the guest isn't greeted, nothing is asked of the database.
         ensures ungreeted { IfErr result (λ r. WhereNotGreeted (r.1 ≡ conn) r.0) }
+        ensures refused { IfErr result (λ r. OfGreeting (IsRefused (R.remaining pipes.source) 0) r.0) }
+        ensures deathless { IfOk result (λ k. deaths_of k ≡ None) }
+        ensures unbroken { IfOk result (λ k. broken_of k ≡ None) }
     {
         holdings_are_read();
         pair_steps_fit();
@@ -120,9 +125,9 @@ impl<G: Guested, S: Alter + Drop, R: Read + Drop, W: Write + Drop> GuestKeeper<G
                 store: GuestStore {
                     pairs: TablePairs { conn },
                     talk,
-                    deaths: None,
                     broken: None,
                 },
+                deaths: None,
                 lot: TakenLot { number: None },
                 failed: false,
                 of: PhantomData,
@@ -185,6 +190,9 @@ impl<G: Guested, S: Alter + Drop, R: Read + Drop, W: Write + Drop> GuestKeeper<G
         ensures ends { IfErr result (λ r. WhereStore (λ f. EndsWhole {A = Unit {0}} (state S.Store conn)
             (state S.Store r.1) (Err f)) r.0) }
         ensures ungreeted { IfErr result (λ r. WhereNotGreeted (r.1 ≡ conn) r.0) }
+        ensures refused { IfErr result (λ r. OfGreeting (IsRefused (R.remaining pipes.source) 0) r.0) }
+        ensures deathless { IfOk result (λ k. deaths_of k ≡ None) }
+        ensures unbroken { IfOk result (λ k. broken_of k ≡ None) }
     {
         holdings_are_read();
         let Pipes { source, sink } = pipes;
@@ -199,9 +207,9 @@ impl<G: Guested, S: Alter + Drop, R: Read + Drop, W: Write + Drop> GuestKeeper<G
                 store: GuestStore {
                     pairs: TablePairs { conn },
                     talk,
-                    deaths: None,
                     broken: None,
                 },
+                deaths: None,
                 lot: TakenLot { number: None },
                 failed: false,
                 of: PhantomData,
@@ -258,8 +266,13 @@ impl<G: Guested, S: Alter + Drop, R: Read + Drop, W: Write + Drop> GuestKeeper<G
             → IsAtRest G.GUEST number y (state S.Store conn) → IsOutside f) r.0) }
         // Whatever the database is, and however the call ends.
         ensures alone { IfErr result (λ r. LeavesAlone (state S.Store conn) (state S.Store r.1)) }
+        ensures refused { IfErr result (λ r. HasCleanDisk (state S.Store r.1) → (number : ℕ)
+            (y : HeldOf G.GUEST) → IsAtRest G.GUEST number y (state S.Store conn)
+            → OfGreeting (IsRefused (R.remaining pipes.source) y.state.pledged) r.0) }
         ensures same { IfOk result (λ k. LeavesAlone (state S.Store conn)
             (store_at S.Store R.remaining W.contents k).tables) }
+        ensures deathless { IfOk result (λ k. deaths_of k ≡ None) }
+        ensures unbroken { IfOk result (λ k. broken_of k ≡ None) }
     {
         holdings_are_read();
         let mut conn = conn;
@@ -274,9 +287,9 @@ impl<G: Guested, S: Alter + Drop, R: Read + Drop, W: Write + Drop> GuestKeeper<G
                 store: GuestStore {
                     pairs: TablePairs { conn },
                     talk,
-                    deaths: None,
                     broken: None,
                 },
+                deaths: None,
                 lot: TakenLot { number: None },
                 failed: false,
                 of: PhantomData,
@@ -287,6 +300,8 @@ impl<G: Guested, S: Alter + Drop, R: Read + Drop, W: Write + Drop> GuestKeeper<G
 
     /// The request that ended so many guests before this one.
     pub fn set_deaths(&mut self, deaths: Deaths)
+        ensures deaths { deaths_of self.new ≡ Some deaths }
+        ensures broken { broken_of self.new ≡ broken_of self.old }
         ensures same { conn_of self.new ≡ conn_of self.old }
         ensures talk { (store_at S.Store R.remaining W.contents self.new).talk
             ≡ (store_at S.Store R.remaining W.contents self.old).talk }
@@ -295,7 +310,7 @@ impl<G: Guested, S: Alter + Drop, R: Read + Drop, W: Write + Drop> GuestKeeper<G
         ensures going { (keeper_told G.GUEST S.Store R.remaining W.contents self.new).has_failed
             ≡ (keeper_told G.GUEST S.Store R.remaining W.contents self.old).has_failed }
     {
-        self.store.deaths = Some(deaths);
+        self.deaths = Some(deaths);
     }
 
     /// The request at which the guest failed, and how.

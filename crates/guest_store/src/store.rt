@@ -24,6 +24,5 @@ pub struct Broken {
 pub(crate) struct GuestStore<S: Alter, R, W> {
     pub(crate) pairs: TablePairs<S>,
     pub(crate) talk: Talk<R, W>,
-    pub(crate) deaths: Option<Deaths>,
     pub(crate) broken: Option<Broken>,
 }

@@ -14,7 +14,7 @@ ghost use Rattle.guest_store.specs.inner.Transacting.{Serves, Transacts, Tries, 
 ghost use Rattle.guest_store.specs.inner.Transacting.{transacting};
 
 use crate::group::{Transacted, perform_in, take_all};
-use crate::store::GuestStore;
+use crate::store::{Deaths, GuestStore};
 use fuse_guest::{Guested, is_seen};
 use fuse_keeper::{Done, StoreFault};
 use fuse_request::Request;
@@ -36,6 +36,7 @@ pub(crate) struct Performed {
 fn transact<G: Guested, S: Alter + Drop, R: Read + Drop, W: Write + Drop>(
     alloc: Global,
     store: &mut GuestStore<S, R, W>,
+    deaths: Option<Deaths>,
     lot: Option<u64>,
     group: &[(Request<'_>, Moment)],
     settled: &[Id],
@@ -47,7 +48,7 @@ fn transact<G: Guested, S: Alter + Drop, R: Read + Drop, W: Write + Drop>(
     ensures count { IfOk result (λ p. length p.dones.items ≡ length group.now) }
     ensures low { IfOk result (λ p. p.lot < 2 ^ 62) }
     ensures transacts { Transacts G.GUEST
-        (transacting G.GUEST lot (ids_of settled.now) (entries_of group.now))
+        (transacting G.GUEST deaths lot (ids_of settled.now) (entries_of group.now))
         (store_of S.Store R.remaining W.contents store.old)
         (store_of S.Store R.remaining W.contents store.new) result }
     ensures tries { Tries (store_of S.Store R.remaining W.contents store.old).tables
@@ -60,7 +61,7 @@ fn transact<G: Guested, S: Alter + Drop, R: Read + Drop, W: Write + Drop>(
         Ok(()) => {}
         Err(error) => return Err(StoreFault::from(error)),
     }
-    let transacted = match perform_in::<G, S, R, W>(alloc, store, lot, group, settled) {
+    let transacted = match perform_in::<G, S, R, W>(alloc, store, deaths, lot, group, settled) {
         Ok(transacted) => transacted,
         Err(fault) => return Err(fault),
     };
@@ -75,6 +76,7 @@ fn transact<G: Guested, S: Alter + Drop, R: Read + Drop, W: Write + Drop>(
 fn commit_group<G: Guested, S: Alter + Drop, R: Read + Drop, W: Write + Drop>(
     alloc: Global,
     store: &mut GuestStore<S, R, W>,
+    deaths: Option<Deaths>,
     lot: Option<u64>,
     group: &[(Request<'_>, Moment)],
     settled: &[Id],
@@ -86,7 +88,7 @@ fn commit_group<G: Guested, S: Alter + Drop, R: Read + Drop, W: Write + Drop>(
     ensures count { IfOk result (λ p. length p.dones.items ≡ length group.now) }
     ensures low { IfOk result (λ p. p.lot < 2 ^ 62) }
     ensures serves { Serves G.GUEST
-        (transacting G.GUEST lot (ids_of settled.now) (entries_of group.now))
+        (transacting G.GUEST deaths lot (ids_of settled.now) (entries_of group.now))
         (store_of S.Store R.remaining W.contents store.old)
         (store_of S.Store R.remaining W.contents store.new) result }
     ensures ends { EndsWhole (store_of S.Store R.remaining W.contents store.old).tables
@@ -95,7 +97,7 @@ fn commit_group<G: Guested, S: Alter + Drop, R: Read + Drop, W: Write + Drop>(
         → (store_of S.Store R.remaining W.contents store.new).talk.events
         ≡ (store_of S.Store R.remaining W.contents store.old).talk.events) }
 {
-    match transact::<G, S, R, W>(alloc, store, lot, group, settled) {
+    match transact::<G, S, R, W>(alloc, store, deaths, lot, group, settled) {
         Ok(transacted) => Ok(transacted),
         Err(fault) => {
             undo(&mut store.pairs.conn);
@@ -108,6 +110,7 @@ fn commit_group<G: Guested, S: Alter + Drop, R: Read + Drop, W: Write + Drop>(
 fn see_inside<G: Guested, S: Alter + Drop, R: Read + Drop, W: Write + Drop>(
     alloc: Global,
     store: &mut GuestStore<S, R, W>,
+    deaths: Option<Deaths>,
     group: &[(Request<'_>, Moment)],
 ) -> Result<Transacted, StoreFault>
     requires performed { All (IsPerformed
@@ -117,7 +120,7 @@ fn see_inside<G: Guested, S: Alter + Drop, R: Read + Drop, W: Write + Drop>(
         (service_of (store_of S.Store R.remaining W.contents store.old).talk.ready)
         (entries_of group.now) ≡ [] }
     ensures count { IfOk result (λ p. length p.dones.items ≡ length group.now) }
-    ensures transacts { Transacts G.GUEST (sighting G.GUEST (entries_of group.now))
+    ensures transacts { Transacts G.GUEST (sighting G.GUEST deaths (entries_of group.now))
         (store_of S.Store R.remaining W.contents store.old)
         (store_of S.Store R.remaining W.contents store.new) result }
     ensures nothing { CommitsNothing (store_of S.Store R.remaining W.contents store.old).tables
@@ -134,7 +137,7 @@ fn see_inside<G: Guested, S: Alter + Drop, R: Read + Drop, W: Write + Drop>(
         Err(error) => return Err(StoreFault::from(error)),
     }
     // No record is added, so it doesn't matter under which lot.
-    let seen = match take_all::<G, S, R, W>(alloc, store, 0, group) {
+    let seen = match take_all::<G, S, R, W>(alloc, store, deaths, 0, group) {
         Ok(seen) => seen,
         Err(fault) => return Err(fault),
     };
@@ -149,6 +152,7 @@ fn see_inside<G: Guested, S: Alter + Drop, R: Read + Drop, W: Write + Drop>(
 fn see_at_rest<G: Guested, S: Alter + Drop, R: Read + Drop, W: Write + Drop>(
     alloc: Global,
     store: &mut GuestStore<S, R, W>,
+    deaths: Option<Deaths>,
     group: &[(Request<'_>, Moment)],
 ) -> Result<Transacted, StoreFault>
     requires performed { All (IsPerformed
@@ -158,7 +162,7 @@ fn see_at_rest<G: Guested, S: Alter + Drop, R: Read + Drop, W: Write + Drop>(
         (service_of (store_of S.Store R.remaining W.contents store.old).talk.ready)
         (entries_of group.now) ≡ [] }
     ensures count { IfOk result (λ p. length p.dones.items ≡ length group.now) }
-    ensures serves { Serves G.GUEST (sighting G.GUEST (entries_of group.now))
+    ensures serves { Serves G.GUEST (sighting G.GUEST deaths (entries_of group.now))
         (store_of S.Store R.remaining W.contents store.old)
         (store_of S.Store R.remaining W.contents store.new) result }
     ensures alone { LeavesAlone (store_of S.Store R.remaining W.contents store.old).tables
@@ -167,7 +171,7 @@ fn see_at_rest<G: Guested, S: Alter + Drop, R: Read + Drop, W: Write + Drop>(
         → (store_of S.Store R.remaining W.contents store.new).talk.events
         ≡ (store_of S.Store R.remaining W.contents store.old).talk.events) }
 {
-    match see_inside::<G, S, R, W>(alloc, store, group) {
+    match see_inside::<G, S, R, W>(alloc, store, deaths, group) {
         Ok(seen) => Ok(seen),
         Err(fault) => {
             undo(&mut store.pairs.conn);
@@ -201,6 +205,7 @@ fn only_sees(ready: &Ready, group: &[(Request<'_>, Moment)], settled: &[Id]) -> 
 fn see_group<G: Guested, S: Alter + Drop, R: Read + Drop, W: Write + Drop>(
     alloc: Global,
     store: &mut GuestStore<S, R, W>,
+    deaths: Option<Deaths>,
     lot: Option<u64>,
     group: &[(Request<'_>, Moment)],
     settled: &[Id],
@@ -215,7 +220,7 @@ fn see_group<G: Guested, S: Alter + Drop, R: Read + Drop, W: Write + Drop>(
     ensures count { IfOk result (λ p. length p.dones.items ≡ length group.now) }
     ensures low { IfOk result (λ p. IfSome p.lot (λ n. n < 2 ^ 62)) }
     ensures serves { Serves G.GUEST
-        (performing G.GUEST lot (ids_of settled.now) (entries_of group.now))
+        (performing G.GUEST deaths lot (ids_of settled.now) (entries_of group.now))
         (store_of S.Store R.remaining W.contents store.old)
         (store_of S.Store R.remaining W.contents store.new) result }
     ensures same_lot { IfOk result (λ p. p.lot ≡ lot) }
@@ -227,7 +232,7 @@ fn see_group<G: Guested, S: Alter + Drop, R: Read + Drop, W: Write + Drop>(
         → (store_of S.Store R.remaining W.contents store.new).talk.events
         ≡ (store_of S.Store R.remaining W.contents store.old).talk.events) }
 {
-    match see_at_rest::<G, S, R, W>(alloc, store, group) {
+    match see_at_rest::<G, S, R, W>(alloc, store, deaths, group) {
         Ok(seen) => Ok(Performed {
             lot,
             dones: seen.dones,
@@ -240,6 +245,7 @@ fn see_group<G: Guested, S: Alter + Drop, R: Read + Drop, W: Write + Drop>(
 fn keep_group<G: Guested, S: Alter + Drop, R: Read + Drop, W: Write + Drop>(
     alloc: Global,
     store: &mut GuestStore<S, R, W>,
+    deaths: Option<Deaths>,
     lot: Option<u64>,
     group: &[(Request<'_>, Moment)],
     settled: &[Id],
@@ -254,7 +260,7 @@ fn keep_group<G: Guested, S: Alter + Drop, R: Read + Drop, W: Write + Drop>(
     ensures count { IfOk result (λ p. length p.dones.items ≡ length group.now) }
     ensures low { IfOk result (λ p. IfSome p.lot (λ n. n < 2 ^ 62)) }
     ensures serves { Serves G.GUEST
-        (performing G.GUEST lot (ids_of settled.now) (entries_of group.now))
+        (performing G.GUEST deaths lot (ids_of settled.now) (entries_of group.now))
         (store_of S.Store R.remaining W.contents store.old)
         (store_of S.Store R.remaining W.contents store.new) result }
     ensures some_lot { IfOk result (λ p. p.lot ≢ None) }
@@ -264,7 +270,7 @@ fn keep_group<G: Guested, S: Alter + Drop, R: Read + Drop, W: Write + Drop>(
         → (store_of S.Store R.remaining W.contents store.new).talk.events
         ≡ (store_of S.Store R.remaining W.contents store.old).talk.events) }
 {
-    match commit_group::<G, S, R, W>(alloc, store, lot, group, settled) {
+    match commit_group::<G, S, R, W>(alloc, store, deaths, lot, group, settled) {
         Ok(transacted) => Ok(Performed {
             lot: Some(transacted.lot),
             dones: transacted.dones,
@@ -280,6 +286,7 @@ fn keep_group<G: Guested, S: Alter + Drop, R: Read + Drop, W: Write + Drop>(
 pub(crate) fn perform<G: Guested, S: Alter + Drop, R: Read + Drop, W: Write + Drop>(
     alloc: Global,
     store: &mut GuestStore<S, R, W>,
+    deaths: Option<Deaths>,
     lot: Option<u64>,
     failed: bool,
     group: &[(Request<'_>, Moment)],
@@ -292,7 +299,7 @@ pub(crate) fn perform<G: Guested, S: Alter + Drop, R: Read + Drop, W: Write + Dr
     ensures count { IfOk result (λ p. length p.dones.items ≡ length group.now) }
     ensures low { IfOk result (λ p. IfSome p.lot (λ n. n < 2 ^ 62)) }
     ensures serves { Serves G.GUEST
-        (performing G.GUEST lot (ids_of settled.now) (entries_of group.now))
+        (performing G.GUEST deaths lot (ids_of settled.now) (entries_of group.now))
         (store_of S.Store R.remaining W.contents store.old)
         (store_of S.Store R.remaining W.contents store.new) result }
     ensures same_lot { keeps_nothing (kept_of
@@ -320,8 +327,8 @@ pub(crate) fn perform<G: Guested, S: Alter + Drop, R: Read + Drop, W: Write + Dr
     }
     let ready = store.talk.ready();
     if only_sees(&ready, group, settled) {
-        see_group::<G, S, R, W>(alloc, store, lot, group, settled)
+        see_group::<G, S, R, W>(alloc, store, deaths, lot, group, settled)
     } else {
-        keep_group::<G, S, R, W>(alloc, store, lot, group, settled)
+        keep_group::<G, S, R, W>(alloc, store, deaths, lot, group, settled)
     }
 }

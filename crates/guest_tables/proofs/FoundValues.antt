@@ -11,7 +11,7 @@ use Rattle.fuse_keeper.specs.declared.fault.StoreFault.{StoreFault}
 use Rattle.fuse_store_tables.specs.Faults.{IsOutside}
 use Rattle.fuse_store_tables.specs.Content.{Counter, has_by, at_by, counter_key}
 use Rattle.fuse_store_tables.specs.Moves.{InsideAs, RestsAs}
-use Rattle.guest_tables.specs.Content.{GuestContent, shown_counter, value_at}
+use Rattle.guest_tables.specs.Content.{GuestContent, pledged_key, shown_counter, value_at}
 use Rattle.guest_tables.specs.Holding.{GuestHolding, HeldFor, holding_in, settings_in}
 use Rattle.guest_tables.specs.Moves.{Inside, Rests}
 use Rattle.guest_tables.specs.Opening.{IsMeta, IsMetaOf, IsFitContent, meta_keys}
@@ -133,3 +133,36 @@ module _ (c : GuestContent) (meta : IsMeta c) (agreed : ℕ) (is : agreed ≡ va
       ∙ ap (λ n. settings_of (value_at 8 c) (value_at 9 c) n) (same_flags ∙ p.flags)
       ∙ sym (ap (λ b. cond b None (settings_of (value_at 8 c) (value_at 9 c) (value_at 10 c)))
       (not_zero (value_at 7 c) (λ none. some (is ∙ p.agreed ∙ none))))
+
+-- ---- what was pledged
+
+-- the last value
+pub record IsLast (c : GuestContent) : Type 0 where
+  pub long : 7 < length c.counters
+  pub is : value_of c.counters 7 ≡ value_at pledged_key c
+  pub low : value_of c.counters 7 < 2 ^ 64
+
+record HasLast (cs : List Counter) : Type 0 where
+  long : 7 < length cs
+  is : value_of cs 7 ≡ value_in pledged_key cs
+  low : value_of cs 7 ≤ 18446744073709551615
+
+has_last : (cs : List Counter) → IsMetaOf meta_keys cs → HasLast cs
+has_last [] m = absurd m
+has_last (a ∷ []) m = absurd m.2
+has_last (a ∷ b ∷ []) m = absurd m.2.2
+has_last (a ∷ b ∷ c ∷ []) m = absurd m.2.2.2
+has_last (a ∷ b ∷ c ∷ d ∷ []) m = absurd m.2.2.2.2
+has_last (a ∷ b ∷ c ∷ d ∷ e ∷ []) m = absurd m.2.2.2.2.2
+has_last (a ∷ b ∷ c ∷ d ∷ e ∷ f ∷ []) m = absurd m.2.2.2.2.2.2
+has_last (a ∷ b ∷ c ∷ d ∷ e ∷ f ∷ g ∷ []) m = absurd m.2.2.2.2.2.2.2
+has_last (a ∷ b ∷ c ∷ d ∷ e ∷ f ∷ g ∷ h ∷ cs) m = record {
+  long = omega arith;
+  is = rw (m.0, m.2.0, m.2.2.0, m.2.2.2.0, m.2.2.2.2.0, m.2.2.2.2.2.0, m.2.2.2.2.2.2.0, m.2.2.2.2.2.2.2.0) refl;
+  low = m.2.2.2.2.2.2.2.1;
+}
+
+pub last_is : (c : GuestContent) → IsMeta c → IsLast c
+last_is c meta =
+    let p = has_last c.counters meta in
+    record { long = p.long; is = p.is; low = (let low = p.low in omega (arith, low)) }

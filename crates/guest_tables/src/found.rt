@@ -113,6 +113,24 @@ pub fn find_settings<S: Alter>(conn: &mut Connection<S>) -> Result<Option<Settin
     read_settings(rows.as_slice())
 }
 
+// The row of what was pledged, among those of `meta` in the order of their keys.
+const PLEDGED_ROW: usize = 7;
+
+/// The opcodes that were served at INIT, opcode n as bit n. It is asked outside a transaction.
+pub fn find_pledged<S: Alter>(conn: &mut Connection<S>) -> Result<u64, StoreFault>
+    ensures rests { Serves (λ c. c) (state S.Store conn.old) (state S.Store conn.new) result }
+    // Whatever the database is, nothing is changed.
+    ensures reads { OnlyReads (state S.Store conn.old) (state S.Store conn.new) result }
+    ensures value_at_rest { HasCleanDisk (state S.Store conn.new) → IfOk result (λ n.
+        (y : GuestHolding) → RestsAs (HeldFor y) (state S.Store conn.old) → n ≡ y.state.pledged) }
+    ensures safe { HasCleanDisk (state S.Store conn.new) → IfErr result (λ f. (y : GuestHolding)
+        → RestsAs (HeldFor y) (state S.Store conn.old) → IsOutside f) }
+    ensures plain { IfErr result IsPlain }
+{
+    let rows = select_counters(conn)?;
+    value_at(rows.as_slice(), PLEDGED_ROW)
+}
+
 // An answer of these parts, if they fit.
 fn answer_of(errno: u32, body: Vec<u8>) -> Result<Answer, StoreFault>
     ensures value { IfOk result (λ r. r ≡ record { errno = errno; body = body.items }) }

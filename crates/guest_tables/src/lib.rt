@@ -33,7 +33,7 @@ pub use counters::{
     update_counter,
 };
 pub use creation::make_store;
-pub use found::{find_answer, find_next_lot, find_settings};
+pub use found::{find_answer, find_next_lot, find_pledged, find_settings};
 pub use fresh::open_fresh;
 pub use laws::{contents_are_read, holdings_are_read, steps_fit, steps_hold};
 pub use lots::{count_lots, insert_lot, take_lot};

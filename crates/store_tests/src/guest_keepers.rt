@@ -4,7 +4,7 @@ use fuse_guest::Guested;
 use fuse_keeper::{Keeper, StoreFault};
 use fuse_request::{InitIn, Op, Request};
 use fuse_wire::Moment;
-use guest_store::{GuestKeeper, Pipes, StartFault};
+use guest_store::{Deaths, GuestKeeper, Pipes, StartFault};
 use sqlite::{Connection, MemStore};
 use std::alloc::Global;
 use std::io;
@@ -143,7 +143,7 @@ fn a_guest_that_ends_breaks_the_keeper(rt: HostRuntime) -> Result<(), StoreFault
     let mut keeper = written(rt.alloc())?;
     let asked_more = one(&mut keeper, asked(6, 1, WRITE));
     assert!(rt; matches!(asked_more, Err(StoreFault::Guest)));
-    assert!(rt; matches!(keeper.broken(), Some(broken) if broken.id == 6));
+    assert!(rt; matches!(keeper.broken(), Some(broken) if broken.id == 6 && broken.opcode == 16));
     let resent = one(&mut keeper, asked(4, 1, WRITE));
     assert!(rt; matches!(resent, Err(StoreFault::Guest)));
     Ok(())
@@ -162,5 +162,14 @@ fn a_guest_without_what_is_pledged_is_refused(rt: HostRuntime) -> Result<(), Sto
     let conn = written(rt.alloc())?.into_conn();
     let refused = opened(rt.alloc(), conn, NOTHING);
     assert!(rt; matches!(refused, Err(StoreFault::Guest)));
+    Ok(())
+}
+
+#[test]
+fn a_request_that_ended_three_guests_is_given_up(rt: HostRuntime) -> Result<(), StoreFault> {
+    let mut keeper = written(rt.alloc())?;
+    keeper.set_deaths(Deaths { id: 6, count: 3 });
+    assert_eq!(rt; one(&mut keeper, asked(6, 1, WRITE))?, (false, 5));
+    assert_eq!(rt; one(&mut keeper, asked(6, 1, WRITE))?, (true, 5));
     Ok(())
 }

@@ -11,12 +11,12 @@ pub returns-in-Ask : goal.returns-in-Ask
 returns-in-Ask g c =
     let tell = store_of g.S.Store g.R.Read.remaining g.W.Write.contents in
     let G = g.G.Guested.GUEST in
-    subst (λ (d : Decision). Steps {A = Said} G (carrying G (asked c.args.request.now) c.args.now d) (tell c.args.store.now) (tell c.reply.new.store) c.reply.result) (sym c.in-Ask.is)
+    subst (λ (d : Decision). Steps {A = Said} G (carrying G c.args.deaths (asked c.args.request.now) c.args.now d) (tell c.args.store.now) (tell c.reply.new.store) c.reply.result) (sym c.in-Ask.is)
     c.reply.ensures
 
 pub returns-in-Negotiate : goal.returns-in-Negotiate
 returns-in-Negotiate g c =
     let tell = store_of g.S.Store g.R.Read.remaining g.W.Write.contents in
     let G = g.G.Guested.GUEST in
-    subst (λ (d : Decision). Steps {A = Said} G (carrying G (asked c.args.request.now) c.args.now d) (tell c.args.store.now) (tell c.initiate.new.store) c.initiate.result) (sym c.in-Negotiate.is)
+    subst (λ (d : Decision). Steps {A = Said} G (carrying G c.args.deaths (asked c.args.request.now) c.args.now d) (tell c.args.store.now) (tell c.initiate.new.store) c.initiate.result) (sym c.in-Negotiate.is)
     c.initiate.ensures

@@ -23,7 +23,7 @@ loop-one-preserved g c =
     let tell = store_of g.S.Store g.R.Read.remaining g.W.Write.contents in
     record {
       count = grind (arith, common_steps);
-      steps = take_more_of g.G.Guested.GUEST c.args.lot c.args.group.now c.loop-one.one-index _ c.loop-one-test.true (tell c.args.store.now) (tell c.loop-one.store)
+      steps = take_more_of g.G.Guested.GUEST c.args.deaths c.args.lot c.args.group.now c.loop-one.one-index _ c.loop-one-test.true (tell c.args.store.now) (tell c.loop-one.store)
           (tell c.take_one.new.store) c.loop-one.dones.items c.loop-one.invariant.steps c.in-Ok.done c.push.new.self.items c.in_ok-push.ensures.items c.in-Ok.ensures.steps;
       silent = silent_more (tell c.args.store.now).talk (tell c.loop-one.store).talk (tell c.take_one.new.store).talk c.loop-one.dones.items c.in-Ok.done c.push.new.self.items
           c.in_ok-push.ensures.items c.loop-one.invariant.silent c.in-Ok.ensures.silent;
@@ -32,7 +32,7 @@ loop-one-preserved g c =
 pub returns-in-Err-clause-steps : goal.returns-in-Err-clause-steps
 returns-in-Err-clause-steps g c =
     let tell = store_of g.S.Store g.R.Read.remaining g.W.Write.contents in
-    take_stops g.G.Guested.GUEST c.args.lot c.args.group.now c.loop-one.one-index _ c.loop-one-test.true (tell c.args.store.now) (tell c.loop-one.store)
+    take_stops g.G.Guested.GUEST c.args.deaths c.args.lot c.args.group.now c.loop-one.one-index _ c.loop-one-test.true (tell c.args.store.now) (tell c.loop-one.store)
     (tell c.take_one.new.store) c.loop-one.dones.items c.loop-one.invariant.steps c.in-Err.fault c.in-Err.ensures.steps
 
 pub returns-in_err-push-clause-steps : goal.returns-in_err-push-clause-steps
@@ -40,9 +40,9 @@ returns-in_err-push-clause-steps g c =
     let tell = store_of g.S.Store g.R.Read.remaining g.W.Write.contents in
     let G = g.G.Guested.GUEST in
     let p = err_from_is_err_and c.from_residual.result c.from_residual.ensures.1 in
-    subst (λ (r : Result Transacted StoreFault). Steps {A = Transacted} G (grouping G c.args.lot (entries_of c.args.group.now)) (tell c.args.store.now)
+    subst (λ (r : Result Transacted StoreFault). Steps {A = Transacted} G (grouping G c.args.deaths c.args.lot (entries_of c.args.group.now)) (tell c.args.store.now)
     (tell c.take_one.new.store) r) (sym (p.1 ∙ ap (λ (s : StoreFault). Err s) p.2))
-    (take_ends G c.args.lot c.args.group.now c.loop-one.one-index _ c.loop-one-test.true (tell c.args.store.now) (tell c.loop-one.store)
+    (take_ends G c.args.deaths c.args.lot c.args.group.now c.loop-one.one-index _ c.loop-one-test.true (tell c.args.store.now) (tell c.loop-one.store)
     (tell c.take_one.new.store) c.loop-one.dones.items c.loop-one.invariant.steps c.in-Ok.done c.in-Ok.ensures.steps)
 
 pub returns-clause-steps : goal.returns-clause-steps
@@ -50,7 +50,7 @@ returns-clause-steps g c =
     let tell = store_of g.S.Store g.R.Read.remaining g.W.Write.contents in
     let G = g.G.Guested.GUEST in
     let t : Transacted = record { lot = c.args.lot; dones = c.loop-one.dones } in
-    subst (λ l. Steps G (grouping G c.args.lot (entries_of l)) (tell c.args.store.now) (tell c.loop-one.store) (Ok t))
+    subst (λ l. Steps G (grouping G c.args.deaths c.args.lot (entries_of l)) (tell c.args.store.now) (tell c.loop-one.store) (Ok t))
     (take_all c.loop-one.one-index c.args.group.now c.loop-one-test.false)
-    (took_them G c.args.lot (entries_of (take c.loop-one.one-index c.args.group.now)) (tell c.args.store.now) (tell c.loop-one.store) c.loop-one.dones.items t refl refl
+    (took_them G c.args.deaths c.args.lot (entries_of (take c.loop-one.one-index c.args.group.now)) (tell c.args.store.now) (tell c.loop-one.store) c.loop-one.dones.items t refl refl
     c.loop-one.invariant.steps)

@@ -12,7 +12,7 @@ pub returns-in-Ok : goal.returns-in-Ok
 returns-in-Ok g c = λ t.
     table_ok g.G.Guested.GUEST (with_pairs_by (λ ps. pairs_after ps (change_content c.args.change.now)))
     (changing g.G.Guested.GUEST (λ ps. pairs_after ps (change_content c.args.change.now)))
-    (state g.S.Store c.args.conn.now) (state g.S.Store c.write_change.new.conn) t tt c.in-Ok.ensures (λ n y. refl) (λ y right. right) (λ y. tt)
+    (state g.S.Store c.args.conn.now) (state g.S.Store c.write_change.new.conn) t tt c.in-Ok.ensures (λ n y. refl) (λ y right. right) (λ y. tt) (λ y. refl)
 
 pub returns-in-Err : goal.returns-in-Err
 returns-in-Err g c = λ t.

@@ -1,4 +1,4 @@
-use Rattle.std.proofs.Common.{List, refl, sym, ap, subst, ◌∙◌}
+use Rattle.std.proofs.Common.{List, [], refl, sym, ap, subst, ◌∙◌}
 use Rattle.std.specs.List.{AllByRecursion}
 use Rattle.sqlite.specs.Held.{state}
 use Rattle.guest_frames.specs.Borrowed.{change_content, changes_left}
@@ -20,7 +20,7 @@ loop-change-init g c =
       done = (
         λ ps. ps,
         λ ps. ap (λ (i : Changes). changed_pairs (changes_left i) ps) same,
-        λ t. step_none g.G.Guested.GUEST (changing g.G.Guested.GUEST (λ ps. ps)) (with_talk (state g.S.Store c.args.conn.now) t) tt (λ all y records. (refl, tt)),
+        λ t. step_none g.G.Guested.GUEST (changing g.G.Guested.GUEST (λ ps. ps)) (with_talk (state g.S.Store c.args.conn.now) t) tt (λ all y records. (refl, tt)) (λ y. refl),
       );
     }
 
@@ -42,7 +42,7 @@ loop-change-preserved g c =
         λ ps. ap (λ (l : List ChangeContent). changed_pairs l (f ps)) (sym goes) ∙ same ps,
         λ t. step_ok G (changing G f) (changing G (λ ps. pairs_after ps x)) (with_talk (state g.S.Store c.args.conn.now) t)
             (with_talk (state g.S.Store c.loop-change.conn) t) (with_talk (state g.S.Store c.make_change.new.conn) t) tt (steps t)
-            (changing G (λ ps. pairs_after (f ps) x)) tt tt (c.in-Ok.ensures t) (λ all w told more. (refl, tt)),
+            (changing G (λ ps. pairs_after (f ps) x)) tt tt (c.in-Ok.ensures t) (λ all w told more. (refl, tt)) (λ all w told. refl),
       );
     }
 
@@ -52,7 +52,7 @@ returns-in-Err g c = λ t.
     let (f, same, steps) = c.loop-change.invariant.done in
     step_err G (changing G f) (changing G (λ ps. pairs_after ps (change_content c.in-Some.change))) (with_talk (state g.S.Store c.args.conn.now) t)
     (with_talk (state g.S.Store c.loop-change.conn) t) (with_talk (state g.S.Store c.make_change.new.conn) t) tt (steps t)
-    (changing G (λ ps. changed_pairs (changes_left c.args.changes) ps)) c.in-Err.fault (c.in-Err.ensures t) (λ w told safe. tt)
+    (changing G (λ ps. changed_pairs (changes_left c.args.changes) ps)) c.in-Err.fault (c.in-Err.ensures t) (λ w told safe. tt) (λ all w told. ([], refl))
 
 pub returns : goal.returns
 returns g c = λ t.
@@ -65,3 +65,4 @@ returns g c = λ t.
           (ap (λ (l : List ChangeContent). changed_pairs l (f w.state.pairs)) (sym c.in-None.ensures.steps.0) ∙ same w.state.pairs),
       tt,
     ))
+    (λ all w told. refl)

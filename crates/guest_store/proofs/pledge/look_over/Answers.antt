@@ -62,7 +62,7 @@ returns-in-Err-find_pledged-clause-fault g c = λ clean y at.
     let e = state g.S.Store c.find_pledged.new.conn in
     let looked = earlier d e _ c.in-Err-find_pledged.ensures.reads.commits.survives clean in
     let opened = earlier b d _ c.in-Ok-find_settings.ensures.reads.commits.survives looked in
-    c.in-Err-find_pledged.ensures.fault clean y
+    c.in-Err-find_pledged.ensures.safe clean y
     (held_looked b d c.in-Ok-find_settings.settings c.in-Ok-find_settings.ensures.rests looked y (held_stored a b tt c.in-Ok.ensures.serves opened y at))
 
 -- ---- all is read
@@ -96,7 +96,7 @@ returns-in-Ok-find_pledged-clause-value g c = λ clean y at.
     let opened = earlier b d _ c.in-Ok-find_settings.ensures.reads.commits.survives looked in
     let there = held_stored a b tt c.in-Ok.ensures.serves opened y at in (
       c.in-Ok-find_settings.ensures.value_at_rest looked y there,
-      c.in-Ok-find_pledged.ensures.value clean y
+      c.in-Ok-find_pledged.ensures.value_at_rest clean y
           (held_looked b d c.in-Ok-find_settings.settings c.in-Ok-find_settings.ensures.rests looked y there),
     )
 

@@ -12,12 +12,12 @@ returns-in-Ok-Answered g c =
     let tell = store_of g.S.Store g.R.Read.remaining g.W.Write.contents in
     let G = g.G.Guested.GUEST in
     let d = record c.ask.new.store { pairs = record c.ask.new.store.pairs { conn = c.take_answer.new.conn } } in
-    replied G (asked c.args.request.now) c.args.now (tell c.args.store.now) (tell c.ask.new.store) c.in-Ok-Answered.field-0 (said_by c.in-Ok-Answered.answer) (tell d)
+    replied G c.args.deaths (asked c.args.request.now) c.args.now (tell c.args.store.now) (tell c.ask.new.store) c.in-Ok-Answered.field-0 (said_by c.in-Ok-Answered.answer) (tell d)
     c.take_answer.result (ap reply_end c.in-Ok-Answered.field-0-is) c.in-Ok-Answered.ensures (c.take_answer.ensures (tell c.ask.new.store).talk)
 
 pub returns-in-Ok-GivenUp : goal.returns-in-Ok-GivenUp
 returns-in-Ok-GivenUp g c =
     let tell = store_of g.S.Store g.R.Read.remaining g.W.Write.contents in
     let G = g.G.Guested.GUEST in
-    given_up G (asked c.args.request.now) c.args.now (tell c.args.store.now) (tell c.ask.new.store) c.in-Ok-GivenUp.field-0 (Err Ended) c.refusal.result (ap reply_end c.in-Ok-GivenUp.field-0-is)
+    given_up G c.args.deaths (asked c.args.request.now) c.args.now (tell c.args.store.now) (tell c.ask.new.store) c.in-Ok-GivenUp.field-0 (Err Ended) c.refusal.result (ap reply_end c.in-Ok-GivenUp.field-0-is)
     (λ s. (refl, c.refusal.ensures)) c.in-Ok-GivenUp.ensures

@@ -1,4 +1,4 @@
-use Rattle.std.proofs.Common.{Result, Err, ap, sym, subst, ◌∙◌}
+use Rattle.std.proofs.Common.{[], Result, Err, refl, ap, sym, subst, ◌∙◌}
 use Rattle.std.proofs.lemmas.Result.{err_from_is_err_and}
 use Rattle.fuse_answer.specs.Said.{Said}
 use Rattle.fuse_keeper.specs.declared.fault.StoreFault.{StoreFault}
@@ -17,7 +17,7 @@ pub returns-in-Err : goal.returns-in-Err
 returns-in-Err g c = λ t.
     let G = g.G.Guested.GUEST in
     step_fails G (changing G (λ ps. changed_pairs (changes_left c.content-content.result.changes) ps)) (answering G (said_by c.args.answer.now))
-    (with_talk (state g.S.Store c.args.conn.now) t) (with_talk (state g.S.Store c.make_changes.new.conn) t) c.in-Err.fault (c.in-Err.ensures t) (λ w safe. tt)
+    (with_talk (state g.S.Store c.args.conn.now) t) (with_talk (state g.S.Store c.make_changes.new.conn) t) c.in-Err.fault (c.in-Err.ensures t) (λ w safe. tt) (λ all w. ([], refl))
 
 pub returns : goal.returns
 returns g c = λ t.
@@ -33,4 +33,4 @@ returns-in_err-body g c = λ t.
     subst (λ (r : Result Said StoreFault). Steps {A = Said} G (answering G (said_by c.args.answer.now))
     (with_talk (state g.S.Store c.args.conn.now) t) (with_talk (state g.S.Store c.make_changes.new.conn) t) r) (sym (p.1 ∙ ap (λ (s : StoreFault). Err s) p.2))
     (step_then_stops G (changing G (λ ps. changed_pairs (changes_left c.content-content.result.changes) ps)) (answering G (said_by c.args.answer.now))
-    (with_talk (state g.S.Store c.args.conn.now) t) (with_talk (state g.S.Store c.make_changes.new.conn) t) tt (c.in-Ok.ensures t))
+    (with_talk (state g.S.Store c.args.conn.now) t) (with_talk (state g.S.Store c.make_changes.new.conn) t) tt (c.in-Ok.ensures t) (λ w. ([], refl)))

@@ -4,6 +4,7 @@ use Rattle.fuse_answer.specs.Said.{Said}
 use Rattle.fuse_keeper.specs.Group.{entry_of}
 use Rattle.fuse_keeper.specs.History.{entry_id}
 use Rattle.guest_store.specs.Holding.{records_of}
+use Rattle.guest_store.specs.Asks.{asks_one, asks_unless}
 use Rattle.guest_store.specs.Keeping.{store_of}
 use Rattle.guest_store.specs.StoreState.{held_as}
 use Rattle.guest_store.specs.inner.Acting.{keeping}
@@ -19,7 +20,7 @@ returns-in-Ok-Some-clause-steps g c =
     let G = g.G.Guested.GUEST in
     let e = entry_of (c.args.request.now, c.args.now) in
     let b = record c.args.store.now { pairs = record c.args.store.now.pairs { conn = c.find_answer.new.conn } } in
-    repeats G c.args.lot e (tell c.args.store.now) (tell b) c.in-Ok-Some.field-0 c.in-Ok-Some.answer _ c.in-Ok-Some.field-0-is refl
+    repeats G c.args.deaths c.args.lot e (tell c.args.store.now) (tell b) c.in-Ok-Some.field-0 c.in-Ok-Some.answer _ c.in-Ok-Some.field-0-is refl
     (look_ok G (λ y (r : Option Said). r ≡ records_of y.kept (entry_id e)) (tell c.args.store.now).tables (tell b).tables (tell b).talk c.in-Ok-Some.field-0
     c.in-Ok-Some.ensures.looks (λ honest n y at. c.in-Ok-Some.ensures.value honest.0 (held_as G n y) at ∙ ap (records_of y.kept) c.of-id.ensures))
 
@@ -29,7 +30,7 @@ returns-in-Ok-None-clause-steps g c =
     let G = g.G.Guested.GUEST in
     let e = entry_of (c.args.request.now, c.args.now) in
     let b = record c.args.store.now { pairs = record c.args.store.now.pairs { conn = c.find_answer.new.conn } } in
-    acts G c.args.lot e (tell c.args.store.now) (tell b) (tell c.do_and_record.new.store) c.in-Ok-None.field-0 c.do_and_record.result c.in-Ok-None.field-0-is
+    acts G c.args.deaths c.args.lot e (tell c.args.store.now) (tell b) (tell c.do_and_record.new.store) c.in-Ok-None.field-0 c.do_and_record.result c.in-Ok-None.field-0-is
     (look_ok G (λ y (r : Option Said). r ≡ records_of y.kept (entry_id e)) (tell c.args.store.now).tables (tell b).tables (tell b).talk c.in-Ok-None.field-0
     c.in-Ok-None.ensures.looks (λ honest n y at. c.in-Ok-None.ensures.value honest.0 (held_as G n y) at ∙ ap (records_of y.kept) c.of-id.ensures)) c.do_and_record.ensures.steps
 
@@ -40,9 +41,9 @@ returns-in-Err-clause-steps g c =
     let e = entry_of (c.args.request.now, c.args.now) in
     let b = record c.args.store.now { pairs = record c.args.store.now.pairs { conn = c.find_answer.new.conn } } in
     let effect = making G (λ y. y) (λ y (r : Option Said). r ≡ records_of y.kept (entry_id e)) in
-    step_fails G effect (keeping G c.args.lot e) (tell c.args.store.now) (tell b) c.in-Err.fault
+    step_fails G effect (keeping G c.args.deaths c.args.lot e) (tell c.args.store.now) (tell b) c.in-Err.fault
     (found_err G effect (tell c.args.store.now).tables (tell b).tables (tell b).talk c.of-id.result.0 c.in-Err.fault c.in-Err.ensures.fails c.in-Err.ensures.plain
-    c.in-Err.ensures.fault) (λ w safe. tt)
+    c.in-Err.ensures.fault) (λ w safe. tt) (λ all w. (asks_unless (records_of w.kept (entry_id e)) (asks_one G.ready c.args.deaths e w.state), refl))
 
 -- what was done newly is no repeat
 pub returns-in-Ok-None-clause-silent : goal.returns-in-Ok-None-clause-silent

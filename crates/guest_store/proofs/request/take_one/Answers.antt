@@ -12,7 +12,7 @@ returns-then-is_seen-clause-steps g c =
     let tell = store_of g.S.Store g.R.Read.remaining g.W.Write.contents in
     let G = g.G.Guested.GUEST in
     let e = entry_of (c.args.request.now, c.args.now) in
-    took_seen G c.args.lot e (tell c.args.store.now) (tell c.see_one.new.store) c.see_one.result c.guest_is_sound.ensures
+    took_seen G c.args.deaths c.args.lot e (tell c.args.store.now) (tell c.see_one.new.store) c.see_one.result c.guest_is_sound.ensures
     (subst (λ r. IsPerformed (service_of r) e) (sym c.see_one.ensures.steps.spoke.ready) c.requires.performed)
     (ap (λ r. is_seen (service_of r) e) (c.see_one.ensures.steps.spoke.ready ∙ sym c.ready-ready.ensures)
     ∙ ap (is_seen_by c.ready-ready.result) (sym c.opcode.ensures) ∙ sym c.is_seen.ensures ∙ c.if-is_seen.true) c.see_one.ensures.steps
@@ -22,7 +22,7 @@ returns-else-is_seen-clause-steps g c =
     let tell = store_of g.S.Store g.R.Read.remaining g.W.Write.contents in
     let G = g.G.Guested.GUEST in
     let e = entry_of (c.args.request.now, c.args.now) in
-    took_kept G c.args.lot e (tell c.args.store.now) (tell c.keep_one.new.store) c.keep_one.result
+    took_kept G c.args.deaths c.args.lot e (tell c.args.store.now) (tell c.keep_one.new.store) c.keep_one.result
     (ap (λ r. is_seen (service_of r) e) (c.keep_one.ensures.steps.spoke.ready ∙ sym c.ready-ready.ensures)
     ∙ ap (is_seen_by c.ready-ready.result) (sym c.opcode.ensures) ∙ sym c.is_seen.ensures ∙ c.if-is_seen.false) c.keep_one.ensures.steps
 

@@ -1,4 +1,4 @@
-use Rattle.std.proofs.Common.{◌+◌, Ok, refl, subst, arith, take, slice_index_or}
+use Rattle.std.proofs.Common.{[], ◌+◌, Ok, refl, subst, arith, take, slice_index_or}
 use Rattle.std.specs.Prelude.{⊤}
 use Rattle.std.proofs.lemmas.List.{take_all}
 use Rattle.sqlite.specs.Held.{state}
@@ -19,7 +19,7 @@ rest-preserved g c = record {
       step_ok G (making G (λ y. without_settled (ids_of (take c.rest.done c.args.ids.now)) y) (λ y r. ⊤)) (making G (λ y. without_record id.0 y) (λ y r. ⊤))
       (with_talk (state g.S.Store c.args.conn.now) t) (with_talk (state g.S.Store c.rest.conn) t) (with_talk (state g.S.Store c.forget.new.conn) t)
       tt (c.rest.invariant.steps t) (making G (λ y. without_settled (ids_of (take (c.rest.done + 1) c.args.ids.now)) y) (λ y r. ⊤)) tt tt (c.in-Ok.ensures t)
-      (λ all w told more. (settled_more c.args.ids.now c.rest.done (record { 0 = 0 }) w c.rest-test.true, tt));
+      (λ all w told more. (settled_more c.args.ids.now c.rest.done (record { 0 = 0 }) w c.rest-test.true, tt)) (λ all w told. refl);
 }
 
 pub returns-in-Err : goal.returns-in-Err
@@ -29,7 +29,7 @@ returns-in-Err g c = λ t.
     step_err G (making G (λ y. without_settled (ids_of (take c.rest.done c.args.ids.now)) y) (λ y r. ⊤)) (making G (λ y. without_record id.0 y) (λ y r. ⊤))
     (with_talk (state g.S.Store c.args.conn.now) t) (with_talk (state g.S.Store c.rest.conn) t) (with_talk (state g.S.Store c.forget.new.conn) t)
     tt (c.rest.invariant.steps t) (making G (λ y. without_settled (ids_of c.args.ids.now) y) (λ y r. ⊤)) c.in-Err.fault (c.in-Err.ensures t)
-    (λ w told safe. tt)
+    (λ w told safe. tt) (λ all w told. ([], refl))
 
 pub returns : goal.returns
 returns g c = λ t.

@@ -10,13 +10,13 @@ pub returns-in-Ok-clause-serves : goal.returns-in-Ok-clause-serves
 returns-in-Ok-clause-serves g c =
     let tell = store_of g.S.Store g.R.Read.remaining g.W.Write.contents in
     let G = g.G.Guested.GUEST in
-    serve_done G (transacting G c.args.lot (ids_of c.args.settled.now) (entries_of c.args.group.now)) (tell c.args.store.now) (tell c.transact.new.store) c.in-Ok.transacted c.in-Ok.ensures.transacts
+    serve_done G (transacting G c.args.deaths c.args.lot (ids_of c.args.settled.now) (entries_of c.args.group.now)) (tell c.args.store.now) (tell c.transact.new.store) c.in-Ok.transacted c.in-Ok.ensures.transacts
 
 pub returns-in-Err-clause-serves : goal.returns-in-Err-clause-serves
 returns-in-Err-clause-serves g c =
     let tell = store_of g.S.Store g.R.Read.remaining g.W.Write.contents in
     let G = g.G.Guested.GUEST in
-    serve_undone G (transacting G c.args.lot (ids_of c.args.settled.now) (entries_of c.args.group.now)) (tell c.args.store.now) (tell c.transact.new.store) (state g.S.Store c.undo.new.conn) c.in-Err.fault
+    serve_undone G (transacting G c.args.deaths c.args.lot (ids_of c.args.settled.now) (entries_of c.args.group.now)) (tell c.args.store.now) (tell c.transact.new.store) (state g.S.Store c.undo.new.conn) c.in-Err.fault
     c.in-Err.ensures.transacts c.undo.ensures
 
 pub returns-in-Ok-clause-ends : goal.returns-in-Ok-clause-ends

@@ -18,7 +18,7 @@ returns-in-Ok-clause-serves g c =
     let ids = ids_of c.args.settled.now in
     let es = entries_of c.args.group.now in
     let p : Performed = record { lot = Some c.in-Ok.transacted.lot; dones = c.in-Ok.transacted.dones } in
-    did G c.args.lot ids es (tell c.args.store.now) (tell c.commit_group.new.store) c.in-Ok.transacted p refl refl
+    did G c.args.deaths c.args.lot ids es (tell c.args.store.now) (tell c.commit_group.new.store) c.in-Ok.transacted p refl refl
     (subst (λ (r : Ready). keeps_nothing (kept_of (service_of r) es) ids ≡ false) (sym c.in-Ok.ensures.serves.spoke.ready) c.requires.some) c.in-Ok.ensures.serves
 
 pub returns-in-Err-clause-serves : goal.returns-in-Err-clause-serves
@@ -27,7 +27,7 @@ returns-in-Err-clause-serves g c =
     let G = g.G.Guested.GUEST in
     let ids = ids_of c.args.settled.now in
     let es = entries_of c.args.group.now in
-    did_not G c.args.lot ids es (tell c.args.store.now) (tell c.commit_group.new.store) c.in-Err.fault
+    did_not G c.args.deaths c.args.lot ids es (tell c.args.store.now) (tell c.commit_group.new.store) c.in-Err.fault
     (subst (λ (r : Ready). keeps_nothing (kept_of (service_of r) es) ids ≡ false) (sym c.in-Err.ensures.serves.spoke.ready) c.requires.some) c.in-Err.ensures.serves
 
 pub returns-in-Ok-clause-ends : goal.returns-in-Ok-clause-ends

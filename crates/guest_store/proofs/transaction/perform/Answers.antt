@@ -11,7 +11,7 @@ use Rattle.guest_store.proofs.transaction.perform.Goals as goal
 pub returns-then-failed-clause-serves : goal.returns-then-failed-clause-serves
 returns-then-failed-clause-serves g c =
     let a = store_of g.S.Store g.R.Read.remaining g.W.Write.contents c.args.store.now in
-    let e = performing g.G.Guested.GUEST c.args.lot (ids_of c.args.settled.now) (entries_of c.args.group.now) in
+    let e = performing g.G.Guested.GUEST c.args.deaths c.args.lot (ids_of c.args.settled.now) (entries_of c.args.group.now) in
     serve_undone g.G.Guested.GUEST e a a (state g.S.Store c.undo.new.conn) GuestFailed (stood g.G.Guested.GUEST e a) c.undo.ensures
 
 pub returns-then-failed-clause-ends : goal.returns-then-failed-clause-ends

@@ -21,7 +21,7 @@ returns-in-Ok-clause-serves g c =
     let ids = ids_of c.args.settled.now in
     let es = entries_of c.args.group.now in
     let p : Performed = record { lot = c.args.lot; dones = c.in-Ok.seen.dones } in
-    saw G c.args.lot ids es (tell c.args.store.now) (tell c.see_at_rest.new.store) c.in-Ok.seen p refl refl
+    saw G c.args.deaths c.args.lot ids es (tell c.args.store.now) (tell c.see_at_rest.new.store) c.in-Ok.seen p refl refl
     (subst (λ (r : Ready). keeps_nothing (kept_of (service_of r) es) ids ≡ true) (sym c.in-Ok.ensures.serves.spoke.ready) c.requires.nothing) c.in-Ok.ensures.serves
 
 pub returns-in-Err-clause-serves : goal.returns-in-Err-clause-serves
@@ -30,7 +30,7 @@ returns-in-Err-clause-serves g c =
     let G = g.G.Guested.GUEST in
     let ids = ids_of c.args.settled.now in
     let es = entries_of c.args.group.now in
-    saw_not G c.args.lot ids es (tell c.args.store.now) (tell c.see_at_rest.new.store) c.in-Err.fault
+    saw_not G c.args.deaths c.args.lot ids es (tell c.args.store.now) (tell c.see_at_rest.new.store) c.in-Err.fault
     (subst (λ (r : Ready). keeps_nothing (kept_of (service_of r) es) ids ≡ true) (sym c.in-Err.ensures.serves.spoke.ready) c.requires.nothing) c.in-Err.ensures.serves
 
 pub returns-in-Ok-clause-alone : goal.returns-in-Ok-clause-alone

@@ -10,28 +10,28 @@ pub returns-in-Err-clause-transacts : goal.returns-in-Err-clause-transacts
 returns-in-Err-clause-transacts g c =
     let tell = store_of g.S.Store g.R.Read.remaining g.W.Write.contents in
     let G = g.G.Guested.GUEST in
-    transact_first G (transacting G c.args.lot (ids_of c.args.settled.now) (entries_of c.args.group.now)) (tell c.args.store.now).tables (state g.S.Store c.begin.new.conn) (tell c.args.store.now).talk
+    transact_first G (transacting G c.args.deaths c.args.lot (ids_of c.args.settled.now) (entries_of c.args.group.now)) (tell c.args.store.now).tables (state g.S.Store c.begin.new.conn) (tell c.args.store.now).talk
     c.in-Err.error c.from.result c.from.ensures c.in-Err.ensures
 
 pub returns-in-Err-perform_in-clause-transacts : goal.returns-in-Err-perform_in-clause-transacts
 returns-in-Err-perform_in-clause-transacts g c =
     let tell = store_of g.S.Store g.R.Read.remaining g.W.Write.contents in
     let G = g.G.Guested.GUEST in
-    transact_inside G (transacting G c.args.lot (ids_of c.args.settled.now) (entries_of c.args.group.now)) tt (tell c.args.store.now).tables (state g.S.Store c.begin.new.conn) (tell c.args.store.now).talk
+    transact_inside G (transacting G c.args.deaths c.args.lot (ids_of c.args.settled.now) (entries_of c.args.group.now)) tt (tell c.args.store.now).tables (state g.S.Store c.begin.new.conn) (tell c.args.store.now).talk
     c.in-Ok.ensures (tell c.perform_in.new.store) c.in-Err-perform_in.fault c.in-Err-perform_in.ensures.steps
 
 pub returns-in-Ok-commit-clause-transacts : goal.returns-in-Ok-commit-clause-transacts
 returns-in-Ok-commit-clause-transacts g c =
     let tell = store_of g.S.Store g.R.Read.remaining g.W.Write.contents in
     let G = g.G.Guested.GUEST in
-    transact_done G (transacting G c.args.lot (ids_of c.args.settled.now) (entries_of c.args.group.now)) tt (tell c.args.store.now).tables (state g.S.Store c.begin.new.conn) (tell c.args.store.now).talk
+    transact_done G (transacting G c.args.deaths c.args.lot (ids_of c.args.settled.now) (entries_of c.args.group.now)) tt (tell c.args.store.now).tables (state g.S.Store c.begin.new.conn) (tell c.args.store.now).talk
     c.in-Ok.ensures (tell c.perform_in.new.store) c.in-Ok-perform_in.transacted c.in-Ok-perform_in.ensures.steps (state g.S.Store c.commit.new.conn) tt c.in-Ok-commit.ensures
 
 pub returns-in-Err-commit-clause-transacts : goal.returns-in-Err-commit-clause-transacts
 returns-in-Err-commit-clause-transacts g c =
     let tell = store_of g.S.Store g.R.Read.remaining g.W.Write.contents in
     let G = g.G.Guested.GUEST in
-    transact_failed G (transacting G c.args.lot (ids_of c.args.settled.now) (entries_of c.args.group.now)) tt (tell c.args.store.now).tables (state g.S.Store c.begin.new.conn) (tell c.args.store.now).talk
+    transact_failed G (transacting G c.args.deaths c.args.lot (ids_of c.args.settled.now) (entries_of c.args.group.now)) tt (tell c.args.store.now).tables (state g.S.Store c.begin.new.conn) (tell c.args.store.now).talk
     c.in-Ok.ensures (tell c.perform_in.new.store) c.in-Ok-perform_in.transacted c.in-Ok-perform_in.ensures.steps (state g.S.Store c.commit.new.conn) c.in-Err-commit.error
     c.from-in-Err-commit.result c.from-in-Err-commit.ensures c.in-Err-commit.ensures
 

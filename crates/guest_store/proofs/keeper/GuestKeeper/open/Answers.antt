@@ -1,6 +1,7 @@
-use Rattle.std.proofs.Common.{false, None}
+use Rattle.std.proofs.Common.{ℕ, false, None, subst}
 use Rattle.sqlite.specs.Held.{state}
 use Rattle.fuse_store_tables.specs.inner.Following.{earlier}
+use Rattle.guest_talk.specs.Greeting.{IsRefused}
 use Rattle.guest_talk.specs.TalkState.{talk_told}
 use Rattle.guest_store.specs.Holding.{records_of}
 use Rattle.guest_store.specs.StoreState.{held_as}
@@ -38,6 +39,12 @@ returns-in-Ok-greet-clause-greeted g c = λ honest n y at.
     let is = c.in-Ok.ensures.value honest.0 (held_as G n y) (held_at_rest G n y a at) in
     greeted_as _ _ c.in-Ok.promised.settings y.state.settings c.in-Ok.promised.pledged y.state.pledged
     (talk_told g.R.Read.remaining g.W.Write.contents c.in-Ok-greet.talk) is.0 is.1 c.in-Ok-greet.ensures.ok
+
+pub returns-in-Err-greet-clause-refused : goal.returns-in-Err-greet-clause-refused
+returns-in-Err-greet-clause-refused g c = λ clean n y at.
+    let G = g.G.Guested.GUEST in
+    let is = c.in-Ok.ensures.value clean (held_as G n y) (held_at_rest G n y (state g.S.Store c.args.conn) at) in
+    subst (λ (p : ℕ). IsRefused (g.R.Read.remaining c.args.pipes.source) p c.in-Err-greet.fault) is.1 c.in-Err-greet.ensures.unserved
 
 pub returns-in-Ok-greet-clause-whole : goal.returns-in-Ok-greet-clause-whole
 returns-in-Ok-greet-clause-whole g c = λ honest. c.in-Ok.ensures.whole honest.0

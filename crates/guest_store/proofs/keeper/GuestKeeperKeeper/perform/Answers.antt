@@ -24,7 +24,7 @@ returns-in-Ok-clause-called g c =
     let a = store_of g.S.Store g.R.Read.remaining g.W.Write.contents c.args.self.now.store in
     let b = store_of g.S.Store g.R.Read.remaining g.W.Write.contents c.perform.new.store in
     let s = g.met.S.Store.settled c.args.self.now.store.pairs.conn.store in
-    let e = performing G lot ids es in
+    let e = performing G c.args.self.now.deaths lot ids es in
     let known : Known G = record { read = c.holdings_are_read.ensures; fits = c.pair_steps_fit.ensures; law = c.guest_calls_perform.ensures } in
     let p = c.in-Ok.ensures.serves in
     let is = c.in-Ok.performed in
@@ -42,7 +42,7 @@ returns-in-Ok-clause-may g c =
     let a = store_of g.S.Store g.R.Read.remaining g.W.Write.contents c.args.self.now.store in
     let b = store_of g.S.Store g.R.Read.remaining g.W.Write.contents c.perform.new.store in
     let s = g.met.S.Store.settled c.args.self.now.store.pairs.conn.store in
-    let e = performing G lot ids es in
+    let e = performing G c.args.self.now.deaths lot ids es in
     let known : Known G = record { read = c.holdings_are_read.ensures; fits = c.pair_steps_fit.ensures; law = c.guest_calls_perform.ensures } in
     let p = c.in-Ok.ensures.serves in
     let is = c.in-Ok.performed in
@@ -62,7 +62,7 @@ returns-in-Ok-clause-ok g c =
     let a = store_of g.S.Store g.R.Read.remaining g.W.Write.contents c.args.self.now.store in
     let b = store_of g.S.Store g.R.Read.remaining g.W.Write.contents c.perform.new.store in
     let s = g.met.S.Store.settled c.args.self.now.store.pairs.conn.store in
-    let e = performing G lot ids es in
+    let e = performing G c.args.self.now.deaths lot ids es in
     let known : Known G = record { read = c.holdings_are_read.ensures; fits = c.pair_steps_fit.ensures; law = c.guest_calls_perform.ensures } in
     let p = c.in-Ok.ensures.serves in
     let is = c.in-Ok.performed in
@@ -80,7 +80,7 @@ returns-in-Ok-clause-acts g c =
     let a = store_of g.S.Store g.R.Read.remaining g.W.Write.contents c.args.self.now.store in
     let b = store_of g.S.Store g.R.Read.remaining g.W.Write.contents c.perform.new.store in
     let s = g.met.S.Store.settled c.args.self.now.store.pairs.conn.store in
-    let e = performing G lot ids es in
+    let e = performing G c.args.self.now.deaths lot ids es in
     let known : Known G = record { read = c.holdings_are_read.ensures; fits = c.pair_steps_fit.ensures; law = c.guest_calls_perform.ensures } in
     let p = c.in-Ok.ensures.serves in
     let is = c.in-Ok.performed in
@@ -98,7 +98,7 @@ returns-in-Ok-clause-others g c =
     let a = store_of g.S.Store g.R.Read.remaining g.W.Write.contents c.args.self.now.store in
     let b = store_of g.S.Store g.R.Read.remaining g.W.Write.contents c.perform.new.store in
     let s = g.met.S.Store.settled c.args.self.now.store.pairs.conn.store in
-    let e = performing G lot ids es in
+    let e = performing G c.args.self.now.deaths lot ids es in
     let known : Known G = record { read = c.holdings_are_read.ensures; fits = c.pair_steps_fit.ensures; law = c.guest_calls_perform.ensures } in
     let p = c.in-Ok.ensures.serves in
     let is = c.in-Ok.performed in
@@ -116,7 +116,7 @@ returns-in-Ok-clause-lots g c =
     let a = store_of g.S.Store g.R.Read.remaining g.W.Write.contents c.args.self.now.store in
     let b = store_of g.S.Store g.R.Read.remaining g.W.Write.contents c.perform.new.store in
     let s = g.met.S.Store.settled c.args.self.now.store.pairs.conn.store in
-    let e = performing G lot ids es in
+    let e = performing G c.args.self.now.deaths lot ids es in
     let known : Known G = record { read = c.holdings_are_read.ensures; fits = c.pair_steps_fit.ensures; law = c.guest_calls_perform.ensures } in
     let p = c.in-Ok.ensures.serves in
     let is = c.in-Ok.performed in
@@ -134,7 +134,7 @@ returns-in-Ok-clause-crash g c =
     let a = store_of g.S.Store g.R.Read.remaining g.W.Write.contents c.args.self.now.store in
     let b = store_of g.S.Store g.R.Read.remaining g.W.Write.contents c.perform.new.store in
     let s = g.met.S.Store.settled c.args.self.now.store.pairs.conn.store in
-    let e = performing G lot ids es in
+    let e = performing G c.args.self.now.deaths lot ids es in
     let known : Known G = record { read = c.holdings_are_read.ensures; fits = c.pair_steps_fit.ensures; law = c.guest_calls_perform.ensures } in
     let p = c.in-Ok.ensures.serves in
     let is = c.in-Ok.performed in
@@ -152,7 +152,7 @@ returns-in-Ok-clause-crash_acts g c =
     let a = store_of g.S.Store g.R.Read.remaining g.W.Write.contents c.args.self.now.store in
     let b = store_of g.S.Store g.R.Read.remaining g.W.Write.contents c.perform.new.store in
     let s = g.met.S.Store.settled c.args.self.now.store.pairs.conn.store in
-    let e = performing G lot ids es in
+    let e = performing G c.args.self.now.deaths lot ids es in
     let known : Known G = record { read = c.holdings_are_read.ensures; fits = c.pair_steps_fit.ensures; law = c.guest_calls_perform.ensures } in
     let p = c.in-Ok.ensures.serves in
     let is = c.in-Ok.performed in
@@ -170,7 +170,7 @@ returns-in-Ok-clause-firm g c = λ honest so.
     let a = store_of g.S.Store g.R.Read.remaining g.W.Write.contents c.args.self.now.store in
     let b = store_of g.S.Store g.R.Read.remaining g.W.Write.contents c.perform.new.store in
     let s = g.met.S.Store.settled c.args.self.now.store.pairs.conn.store in
-    let e = performing G lot ids es in
+    let e = performing G c.args.self.now.deaths lot ids es in
     let known : Known G = record { read = c.holdings_are_read.ensures; fits = c.pair_steps_fit.ensures; law = c.guest_calls_perform.ensures } in
     let p = c.in-Ok.ensures.serves in
     let is = c.in-Ok.performed in
@@ -188,7 +188,7 @@ returns-in-Ok-clause-looked g c = λ only.
     let a = store_of g.S.Store g.R.Read.remaining g.W.Write.contents c.args.self.now.store in
     let b = store_of g.S.Store g.R.Read.remaining g.W.Write.contents c.perform.new.store in
     let s = g.met.S.Store.settled c.args.self.now.store.pairs.conn.store in
-    let e = performing G lot ids es in
+    let e = performing G c.args.self.now.deaths lot ids es in
     let known : Known G = record { read = c.holdings_are_read.ensures; fits = c.pair_steps_fit.ensures; law = c.guest_calls_perform.ensures } in
     let p = c.in-Ok.ensures.serves in
     let is = c.in-Ok.performed in
@@ -209,7 +209,7 @@ returns-in-Err-clause-called g c =
     let a = store_of g.S.Store g.R.Read.remaining g.W.Write.contents c.args.self.now.store in
     let b = store_of g.S.Store g.R.Read.remaining g.W.Write.contents c.perform.new.store in
     let s = g.met.S.Store.settled c.args.self.now.store.pairs.conn.store in
-    let e = performing G lot ids es in
+    let e = performing G c.args.self.now.deaths lot ids es in
     let known : Known G = record { read = c.holdings_are_read.ensures; fits = c.pair_steps_fit.ensures; law = c.guest_calls_perform.ensures } in
     let p = c.in-Err.ensures.serves in
     let f = c.in-Err.fault in
@@ -227,7 +227,7 @@ returns-in-Err-clause-may g c =
     let a = store_of g.S.Store g.R.Read.remaining g.W.Write.contents c.args.self.now.store in
     let b = store_of g.S.Store g.R.Read.remaining g.W.Write.contents c.perform.new.store in
     let s = g.met.S.Store.settled c.args.self.now.store.pairs.conn.store in
-    let e = performing G lot ids es in
+    let e = performing G c.args.self.now.deaths lot ids es in
     let known : Known G = record { read = c.holdings_are_read.ensures; fits = c.pair_steps_fit.ensures; law = c.guest_calls_perform.ensures } in
     let p = c.in-Err.ensures.serves in
     let f = c.in-Err.fault in
@@ -245,7 +245,7 @@ returns-in-Err-clause-crash g c =
     let a = store_of g.S.Store g.R.Read.remaining g.W.Write.contents c.args.self.now.store in
     let b = store_of g.S.Store g.R.Read.remaining g.W.Write.contents c.perform.new.store in
     let s = g.met.S.Store.settled c.args.self.now.store.pairs.conn.store in
-    let e = performing G lot ids es in
+    let e = performing G c.args.self.now.deaths lot ids es in
     let known : Known G = record { read = c.holdings_are_read.ensures; fits = c.pair_steps_fit.ensures; law = c.guest_calls_perform.ensures } in
     let p = c.in-Err.ensures.serves in
     let f = c.in-Err.fault in
@@ -263,7 +263,7 @@ returns-in-Err-clause-crash_acts g c =
     let a = store_of g.S.Store g.R.Read.remaining g.W.Write.contents c.args.self.now.store in
     let b = store_of g.S.Store g.R.Read.remaining g.W.Write.contents c.perform.new.store in
     let s = g.met.S.Store.settled c.args.self.now.store.pairs.conn.store in
-    let e = performing G lot ids es in
+    let e = performing G c.args.self.now.deaths lot ids es in
     let known : Known G = record { read = c.holdings_are_read.ensures; fits = c.pair_steps_fit.ensures; law = c.guest_calls_perform.ensures } in
     let p = c.in-Err.ensures.serves in
     let f = c.in-Err.fault in
@@ -281,7 +281,7 @@ returns-in-Err-clause-looked g c = λ only.
     let a = store_of g.S.Store g.R.Read.remaining g.W.Write.contents c.args.self.now.store in
     let b = store_of g.S.Store g.R.Read.remaining g.W.Write.contents c.perform.new.store in
     let s = g.met.S.Store.settled c.args.self.now.store.pairs.conn.store in
-    let e = performing G lot ids es in
+    let e = performing G c.args.self.now.deaths lot ids es in
     let known : Known G = record { read = c.holdings_are_read.ensures; fits = c.pair_steps_fit.ensures; law = c.guest_calls_perform.ensures } in
     let p = c.in-Err.ensures.serves in
     let f = c.in-Err.fault in
@@ -302,7 +302,7 @@ returns-in-Ok-clause-held g c =
     let a = store_of g.S.Store g.R.Read.remaining g.W.Write.contents c.args.self.now.store in
     let b = store_of g.S.Store g.R.Read.remaining g.W.Write.contents c.perform.new.store in
     let s = g.met.S.Store.settled c.args.self.now.store.pairs.conn.store in
-    let e = performing G lot ids es in
+    let e = performing G c.args.self.now.deaths lot ids es in
     let is = c.in-Ok.performed in
     serves_ok G (performed lot ids es) a b is is.dones (serves_store G e a b s (Ok is) c.in-Ok.ensures.serves)
 
@@ -315,8 +315,18 @@ returns-in-Err-clause-held g c =
     let a = store_of g.S.Store g.R.Read.remaining g.W.Write.contents c.args.self.now.store in
     let b = store_of g.S.Store g.R.Read.remaining g.W.Write.contents c.perform.new.store in
     let s = g.met.S.Store.settled c.args.self.now.store.pairs.conn.store in
-    let e = performing G lot ids es in
+    let e = performing G c.args.self.now.deaths lot ids es in
     serves_err G (performed lot ids es) a b c.in-Err.fault (serves_store G e a b s (Err c.in-Err.fault) c.in-Err.ensures.serves)
+
+-- ---- what is asked
+
+pub returns-in-Ok-clause-asks : goal.returns-in-Ok-clause-asks
+returns-in-Ok-clause-asks g c = c.in-Ok.ensures.serves.asked
+
+pub returns-in-Err-clause-asks : goal.returns-in-Err-clause-asks
+returns-in-Err-clause-asks g c = c.in-Err.ensures.serves.asked
+
+-- ---- the fault
 
 pub returns-in-Err-clause-fault : goal.returns-in-Err-clause-fault
 returns-in-Err-clause-fault g c = λ honest. c.in-Err.ensures.serves.fault honest
