@@ -1,5 +1,5 @@
 -- What is read of a store's promises, and that nothing is changed by it.
-use Rattle.std.proofs.Common.{List, [], ◌∷◌, Result, Ok, inl, inr, refl, sym, subst, ◌∙◌}
+use Rattle.std.proofs.Common.{◌≡◌, List, [], ◌∷◌, Result, Ok, inl, inr, refl, sym, subst, ◌∙◌}
 use Rattle.sqlite.specs.Order.{Row, column}
 use Rattle.sqlite.specs.Effect.{Database}
 use Rattle.sqlite.specs.State.{State, HasCleanDisk}

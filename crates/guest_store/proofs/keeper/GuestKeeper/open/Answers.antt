@@ -44,7 +44,7 @@ pub returns-in-Err-greet-clause-refused : goal.returns-in-Err-greet-clause-refus
 returns-in-Err-greet-clause-refused g c = λ clean n y at.
     let G = g.G.Guested.GUEST in
     let is = c.in-Ok.ensures.value clean (held_as G n y) (held_at_rest G n y (state g.S.Store c.args.conn) at) in
-    subst (λ (p : ℕ). IsRefused (g.R.Read.remaining c.args.pipes.source) p c.in-Err-greet.fault) is.1 c.in-Err-greet.ensures.unserved
+    subst (λ (p : ℕ). IsRefused (g.R.Read.remaining c.args.pipes.source) p c.in-Err-greet.fault) is.1 c.in-Err-greet.ensures.refused
 
 pub returns-in-Ok-greet-clause-whole : goal.returns-in-Ok-greet-clause-whole
 returns-in-Ok-greet-clause-whole g c = λ honest. c.in-Ok.ensures.whole honest.0
