@@ -28,7 +28,7 @@ pub record Asking : Type 0 where
 
 -- ---- which requests are asked
 
--- how often a request ended a guest, by what the keeper was told
+-- how often a request ended a guest, by what `set_deaths` said
 abbrev pub deaths_before : Option Deaths → ℕ → ℕ
 deaths_before None id = 0
 deaths_before (Some d) id = if d.id == id then d.count else 0

@@ -28,7 +28,7 @@ conn_of k = k.store.pairs.conn
 abbrev pub broken_of : {G S R W : Type 0} → GuestKeeper G S R W → Option Broken
 broken_of k = k.store.broken
 
--- the request that ended guests before, by what it was told
+-- the request that ended guests before, by what `set_deaths` said
 abbrev pub deaths_of : {G S R W : Type 0} → GuestKeeper G S R W → Option Deaths
 deaths_of k = k.deaths
 
