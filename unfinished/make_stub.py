@@ -15,7 +15,7 @@ unsafe extern "C" {
 }
 """
 BODY = "{\n    crate::stop::stop_here();\n    unreachable!()\n}"
-CLAUSE = re.compile(r"\b(requires|ensures)\*?(\s+\w+)?\s*$")
+CLAUSE = re.compile(r"(\b(requires|ensures)\*?(\s+\w+)?|\bghost\s+\w+\s*:|\}\s*=)\s*$")
 FUNCTION = re.compile(r"((?:pub(?:\([^)]*\))?\s+)?(?:const\s+|unsafe\s+)*)fn\s+(\w+)")
 
 
@@ -98,11 +98,14 @@ def stubbed(text, dropped):
 
 
 def without_uses(text, dropped):
+    """Without the imports of dropped functions, out of modules of the crate."""
+    own = "|".join(["crate", "super", "self"] + re.findall(r"(?m)^(?:pub(?:\([^)]*\))? )?mod (\w+);", text))
+
     def kept(found):
         names = [n.strip() for n in found.group(2).split(",") if n.strip() and n.strip() not in dropped]
-        return f"use {found.group(1)}::{{{', '.join(names)}}};" if names else ""
-    text = re.sub(r"(?m)^use (crate(?:::\w+)*)::\{([^}]*)\};", kept, text)
-    return re.sub(r"(?m)^use crate(?:::\w+)*::(\w+);\n", lambda f: "" if f.group(1) in dropped else f.group(0), text)
+        return f"{found.group(1)}{{{', '.join(names)}}};" if names else ""
+    text = re.sub(rf"(?m)^((?:pub(?:\([^)]*\))? )?use (?:{own})(?:::\w+)*::)\{{([^}}]*)\}};", kept, text)
+    return re.sub(rf"(?m)^(?:pub(?:\([^)]*\))? )?use (?:{own})(?:::\w+)*::(\w+);\n", lambda f: "" if f.group(1) in dropped else f.group(0), text)
 
 
 def main():
